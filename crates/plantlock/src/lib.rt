@@ -19,5 +19,5 @@ mod shared;
 mod tied;
 mod ties;
 
-pub use receipts::{Basis, NotedPart, Share, Shares};
+pub use receipts::{LockStart, NotedPart, Share, Shares};
 pub use shared::{Final, Shared};

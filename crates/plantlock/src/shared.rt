@@ -25,19 +25,19 @@ use daliframe::Frame24;
 use ilmachine::ScanResult;
 use limits::MOST_SEATS;
 use plant::{CallError, CallRefusal, Handed, Order, Plant};
-use receipts::{Basis, NotedPart, Share, Shares};
+use receipts::{LockStart, NotedPart, Share, Shares};
 use seats::{Tallies, Tally};
 use std::alloc::{AllocError, Global};
 use std::sync::{Mutex, OnceLock, OnceToken, Wait};
 use transact::Report;
 
 /// The lock round the plant.
-pub struct Shared<'a, J: Basis, T: Tally, K: Tallies<T>> {
+pub struct Shared<'a, J: LockStart, T: Tally, K: Tallies<T>> {
     tied: Mutex<TiedPlant<'a, J, T, K>>,
 }
 
 /// Written out, so that it is proved here alone.
-impl<'a, J: Basis, T: Tally, K: Tallies<T>> Drop for Shared<'a, J, T, K> {
+impl<'a, J: LockStart, T: Tally, K: Tallies<T>> Drop for Shared<'a, J, T, K> {
     fn drop(self) {
         let Self { tied: _ } = self;
     }
@@ -45,7 +45,7 @@ impl<'a, J: Basis, T: Tally, K: Tallies<T>> Drop for Shared<'a, J, T, K> {
 
 /// The plant after the lock was opened for good, and the Shares.
 #[derive(Drop)]
-pub struct Final<'a, J: Basis, T: Tally> {
+pub struct Final<'a, J: LockStart, T: Tally> {
     pub plant: Plant,
     pub shares: Shares<'a, J, T>,
 }
@@ -63,7 +63,7 @@ fn no_tokens<'a>(alloc: Global) -> Result<Vec<Option<OnceToken<'a, NotedPart>>>,
 }
 
 /// What one of the Shares had and has is its part of the histories.
-fn meet_at<'a, J: Basis, T: Tally, K: Tallies<T>>(
+fn meet_at<'a, J: LockStart, T: Tally, K: Tallies<T>>(
     tied: &mut TiedPlant<'a, J, T, K>,
     shares: &mut Vec<Share<'a, J, T>>,
     k: usize,
@@ -78,7 +78,7 @@ fn meet_at<'a, J: Basis, T: Tally, K: Tallies<T>>(
 }
 
 /// What each of the Shares had and has is its part of the histories.
-fn meet_all<'a, J: Basis, T: Tally, K: Tallies<T>>(
+fn meet_all<'a, J: LockStart, T: Tally, K: Tallies<T>>(
     tied: &mut TiedPlant<'a, J, T, K>,
     shares: &mut Vec<Share<'a, J, T>>,
 )
@@ -91,7 +91,7 @@ fn meet_all<'a, J: Basis, T: Tally, K: Tallies<T>>(
     }
 }
 
-impl<'a, J: Basis, T: Tally, K: Tallies<T>> Shared<'a, J, T, K> {
+impl<'a, J: LockStart, T: Tally, K: Tallies<T>> Shared<'a, J, T, K> {
     /// The plant under a lock, and the Share of each role. There is a cell for each event from now
     /// on, up to the plant's limit at least; whoever lends the cells makes them new, since a call
     /// waits without end where its cell was written before. The tallies of the lock and of the

@@ -21,19 +21,19 @@ use crate::ties::Ties;
 use daliframe::Frame24;
 use plant::{CallRefusal, Plant};
 use plantevents::{Event, what_a_part_shows};
-use receipts::{Basis, NotedPart, Share};
+use receipts::{LockStart, NotedPart, Share};
 use seats::{Tallies, Tally};
 use std::marker::{Model, PhantomData};
 use std::sync::{OnceLock, OnceToken, Wait};
 
 /// The plant with what ties the Shares to it. Contracts see the plant.
 #[derive(Drop)]
-pub(crate) struct TiedPlant<'a, J: Basis, T: Tally, K: Tallies<T>> {
+pub(crate) struct TiedPlant<'a, J: LockStart, T: Tally, K: Tallies<T>> {
     plant: Plant,
     ties: Ties<'a, J, T, K>,
 }
 
-impl<'a, J: Basis, T: Tally, K: Tallies<T>> Model for TiedPlant<'a, J, T, K> {
+impl<'a, J: LockStart, T: Tally, K: Tallies<T>> Model for TiedPlant<'a, J, T, K> {
     ghost use Rattle.std.specs.Prelude.{◌≡◌};
     ghost use Rattle.std.specs.Coded.{codes};
     ghost use Rattle.ilplan.specs.contracts.plan.Plan as inner;
@@ -50,7 +50,7 @@ impl<'a, J: Basis, T: Tally, K: Tallies<T>> Model for TiedPlant<'a, J, T, K> {
         × AreTied J.cells J.start d.plant (K.number d.ties.numbers) d.ties.newest.items };
 }
 
-impl<'a, J: Basis, T: Tally, K: Tallies<T>> TiedPlant<'a, J, T, K> {
+impl<'a, J: LockStart, T: Tally, K: Tallies<T>> TiedPlant<'a, J, T, K> {
     /// What lies under the lock at the start.
     pub(crate) fn new(
         plant: Plant,
@@ -72,7 +72,7 @@ impl<'a, J: Basis, T: Tally, K: Tallies<T>> TiedPlant<'a, J, T, K> {
                 cells,
                 numbers,
                 newest,
-                basis: PhantomData,
+                lock_start: PhantomData,
             },
         }
     }

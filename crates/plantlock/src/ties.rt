@@ -12,7 +12,7 @@ ghost use Rattle.plantlock.specs.Tied.{AreTied, HasPlace};
 use limits::{MOST_SEATS, MOST_WORKERS};
 use plant::Plant;
 use plantevents::{Event, Role};
-use receipts::{Basis, NotedPart, Share};
+use receipts::{LockStart, NotedPart, Share};
 use seats::{Tallies, Tally};
 use std::marker::PhantomData;
 use std::sync::{OnceLock, OnceToken, Wait};
@@ -20,11 +20,11 @@ use std::sync::{OnceLock, OnceToken, Wait};
 /// The row of cells, and of each role the number that its Share has too, and what shows its newest
 /// cell.
 #[derive(Drop)]
-pub(crate) struct Ties<'a, J: Basis, T: Tally, K: Tallies<T>> {
+pub(crate) struct Ties<'a, J: LockStart, T: Tally, K: Tallies<T>> {
     pub cells: &'a [OnceLock<NotedPart>],
     pub numbers: K,
     pub newest: Vec<Option<OnceToken<'a, NotedPart>>>,
-    pub basis: PhantomData<(J, T)>,
+    pub lock_start: PhantomData<(J, T)>,
 }
 
 /// Where a role stands among those that have a seat: scan workers, buses, the clock.
@@ -40,7 +40,7 @@ fn index_of(role: Role) -> usize
     }
 }
 
-impl<'a, J: Basis, T: Tally, K: Tallies<T>> Ties<'a, J, T, K> {
+impl<'a, J: LockStart, T: Tally, K: Tallies<T>> Ties<'a, J, T, K> {
     /// What a Share has is its part of the history.
     pub(crate) fn meet(&mut self, share: &mut Share<'a, J, T>)
         requires tied { (p : Shown)

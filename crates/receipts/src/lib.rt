@@ -12,12 +12,12 @@
 //! ```
 #![tactic(auto)]
 
-mod basis;
+mod lock_start;
 mod receipt;
 mod share;
 mod shares;
 
-pub use basis::Basis;
+pub use lock_start::LockStart;
 pub use receipt::NotedPart;
 pub use share::Share;
 pub use shares::Shares;

@@ -8,7 +8,7 @@ ghost use Rattle.receipts.specs.Receipts.{IsFresh, IsRole, IsNoted, IsReserved};
 ghost use Rattle.receipts.specs.Receipts.{IsLastPlace, seat_of, reserved_after};
 ghost use Rattle.receipts.specs.Tokens.{Held, Says, id_at, one_if};
 
-use crate::basis::Basis;
+use crate::lock_start::LockStart;
 use crate::receipt::{NotedPart, Receipt};
 use memo::Trace;
 use plantevents::{Event, Role};
@@ -17,7 +17,7 @@ use std::marker::{Model, PhantomData};
 use std::sync::{OnceLock, OnceToken, Wait};
 
 /// The part of one role: its receipts, and what ties them to the plant under the lock.
-pub struct Share<'a, J: Basis, T: Tally> {
+pub struct Share<'a, J: LockStart, T: Tally> {
     role: Role,
     /// For contracts alone.
     receipts: Trace<Receipt>,
@@ -29,11 +29,11 @@ pub struct Share<'a, J: Basis, T: Tally> {
     reach: u64,
     tally: T,
     newest: Option<OnceToken<'a, NotedPart>>,
-    basis: PhantomData<J>,
+    lock_start: PhantomData<J>,
 }
 
 /// Written out, so that it is proved here alone.
-impl<'a, J: Basis, T: Tally> Drop for Share<'a, J, T> {
+impl<'a, J: LockStart, T: Tally> Drop for Share<'a, J, T> {
     fn drop(self) {
         let Self {
             role: _,
@@ -43,12 +43,12 @@ impl<'a, J: Basis, T: Tally> Drop for Share<'a, J, T> {
             reach: _,
             tally: _,
             newest: _,
-            basis: _,
+            lock_start: _,
         } = self;
     }
 }
 
-impl<'a, J: Basis, T: Tally> Model for Share<'a, J, T> {
+impl<'a, J: LockStart, T: Tally> Model for Share<'a, J, T> {
     ghost use Rattle.plantevents.specs.Parts.{part};
     ghost use Rattle.receipts.specs.Receipts.{ShareParts};
     ghost use Rattle.receipts.specs.Shares.{IsShare};
@@ -118,7 +118,7 @@ fn one_if(reserved: bool) -> u64
     if reserved { 1 } else { 0 }
 }
 
-impl<'a, J: Basis, T: Tally> Share<'a, J, T> {
+impl<'a, J: LockStart, T: Tally> Share<'a, J, T> {
     /// The Share of a role, which has no receipt yet. So many events there were at the start.
     pub(crate) fn new(base: u64, role: Role, reserved: bool, tally: T) -> Share<'a, J, T>
         requires base { base ≡ length J.start.history }
@@ -135,7 +135,7 @@ impl<'a, J: Basis, T: Tally> Share<'a, J, T> {
             reach: 0,
             tally,
             newest: None,
-            basis: PhantomData,
+            lock_start: PhantomData,
         }
     }
 

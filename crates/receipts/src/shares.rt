@@ -8,7 +8,7 @@ ghost use Rattle.receipts.specs.Receipts.{IsFresh, AreFresh, IsRole, index_of};
 ghost use Rattle.receipts.specs.Seats.{AreCounted, AreUnused, IsNextTally};
 ghost use Rattle.receipts.specs.Tokens.{one_if};
 
-use crate::basis::Basis;
+use crate::lock_start::LockStart;
 use crate::share::Share;
 use limits::{MOST_BUSES, MOST_WORKERS};
 use plant::Plant;
@@ -18,7 +18,7 @@ use std::alloc::{AllocError, Global};
 
 /// The Share of each role.
 #[derive(Drop)]
-pub struct Shares<'a, J: Basis, T: Tally> {
+pub struct Shares<'a, J: LockStart, T: Tally> {
     /// Those of the scan workers, by their numbers.
     pub workers: Vec<Share<'a, J, T>>,
     /// Those of the buses, by their numbers.
@@ -50,7 +50,7 @@ fn skip_tallies<T: Tally>(thread_tallies: &mut Vec<T>, seats: usize)
 }
 
 /// The Share of the role whose seat is the next.
-fn next_share<'a, J: Basis, T: Tally, K: Tallies<T>>(
+fn next_share<'a, J: LockStart, T: Tally, K: Tallies<T>>(
     plant: &Plant,
     role: Role,
     tallies: &mut K,
@@ -87,7 +87,7 @@ fn count_place<T: Tally, K: Tallies<T>>(tallies: &mut K, tally: &mut T, reserved
 }
 
 /// The Shares of the scan workers.
-fn worker_shares<'a, J: Basis, T: Tally, K: Tallies<T>>(
+fn worker_shares<'a, J: LockStart, T: Tally, K: Tallies<T>>(
     alloc: Global,
     plant: &Plant,
     tallies: &mut K,
@@ -112,7 +112,7 @@ fn worker_shares<'a, J: Basis, T: Tally, K: Tallies<T>>(
 }
 
 /// The Shares of the buses.
-fn bus_shares<'a, J: Basis, T: Tally, K: Tallies<T>>(
+fn bus_shares<'a, J: LockStart, T: Tally, K: Tallies<T>>(
     alloc: Global,
     plant: &Plant,
     tallies: &mut K,
@@ -139,7 +139,7 @@ fn bus_shares<'a, J: Basis, T: Tally, K: Tallies<T>>(
     Ok(shares)
 }
 
-impl<'a, J: Basis, T: Tally> Shares<'a, J, T> {
+impl<'a, J: LockStart, T: Tally> Shares<'a, J, T> {
     /// The Share of each role of a plant, without a receipt. The lock's tallies then say which
     /// roles have a place kept back.
     ///

@@ -15,7 +15,7 @@ use crate::turn::Turn;
 use buslink::{Bus, perform};
 use driving::{Halt, Observer};
 use plant::{CallRefusal, Handed};
-use plantlock::{Basis, Share, Shared};
+use plantlock::{LockStart, Share, Shared};
 use seats::{Tallies, Tally};
 use std::io;
 use std::sync::Wait;
@@ -23,7 +23,7 @@ use transact::{MOST_SENT, Outcome, Report};
 
 /// A bus with its Share.
 #[derive(Drop)]
-pub struct Served<'a, B: Bus, J: Basis, T: Tally> {
+pub struct Served<'a, B: Bus, J: LockStart, T: Tally> {
     pub line: B,
     pub share: Share<'a, J, T>,
 }
@@ -72,7 +72,7 @@ fn tell_report<B, O: Observer<B>>(
 
 /// Notes under the lock that a bus goes down, since its interface failed. Answers the place of that
 /// in the history.
-fn go_down<'a, B: Bus, J: Basis + Links, T: Tally, K: Tallies<T>, R: Wait>(
+fn go_down<'a, B: Bus, J: LockStart + Links, T: Tally, K: Tallies<T>, R: Wait>(
     rt: &R,
     shared: &Shared<'a, J, T, K>,
     bus: u8,
@@ -90,7 +90,7 @@ fn go_down<'a, B: Bus, J: Basis + Links, T: Tally, K: Tallies<T>, R: Wait>(
 }
 
 /// Where the interface failed, the bus goes down: at which place of the history.
-fn down_where_failed<'a, B: Bus, J: Basis + Links, T: Tally, K: Tallies<T>, R: Wait>(
+fn down_where_failed<'a, B: Bus, J: LockStart + Links, T: Tally, K: Tallies<T>, R: Wait>(
     rt: &R,
     shared: &Shared<'a, J, T, K>,
     bus: u8,
@@ -113,7 +113,7 @@ fn down_where_failed<'a, B: Bus, J: Basis + Links, T: Tally, K: Tallies<T>, R: W
 /// Hands a transaction out under the lock, sends it outside the lock, and reports it under the
 /// lock. Room for its frames is made before. Where the bus interface failed, the bus goes down.
 /// What an observer fails to keep is answered once all this is done.
-fn send_once<'a, B: Bus, J: Basis + Links, T: Tally, K: Tallies<T>, O: Observer<B>, R: Wait>(
+fn send_once<'a, B: Bus, J: LockStart + Links, T: Tally, K: Tallies<T>, O: Observer<B>, R: Wait>(
     rt: &R,
     observer: &mut O,
     shared: &Shared<'a, J, T, K>,
@@ -143,7 +143,7 @@ fn send_once<'a, B: Bus, J: Basis + Links, T: Tally, K: Tallies<T>, O: Observer<
 /// Keeps a place back under the lock, hears outside the lock, and notes the frame under the lock.
 /// Where the bus interface failed, the bus goes down. Where it succeeds, the bus was asked.
 #[tactic(auto, using(driving::proofs::Counts::grown_once))]
-fn hear_once<'a, B: Bus, J: Basis + Links, T: Tally, K: Tallies<T>, O: Observer<B>, R: Wait>(
+fn hear_once<'a, B: Bus, J: LockStart + Links, T: Tally, K: Tallies<T>, O: Observer<B>, R: Wait>(
     rt: &R,
     observer: &mut O,
     shared: &Shared<'a, J, T, K>,
@@ -183,7 +183,15 @@ fn hear_once<'a, B: Bus, J: Basis + Links, T: Tally, K: Tallies<T>, O: Observer<
 ///
 /// The allocator is out of memory, the history is full, or an observer failed. Nothing is open
 /// then, either.
-pub fn send_turn<'a, B: Bus, J: Basis + Links, T: Tally, K: Tallies<T>, O: Observer<B>, R: Wait>(
+pub fn send_turn<
+    'a,
+    B: Bus,
+    J: LockStart + Links,
+    T: Tally,
+    K: Tallies<T>,
+    O: Observer<B>,
+    R: Wait,
+>(
     rt: &R,
     observer: &mut O,
     shared: &Shared<'a, J, T, K>,
@@ -206,7 +214,15 @@ pub fn send_turn<'a, B: Bus, J: Basis + Links, T: Tally, K: Tallies<T>, O: Obser
 ///
 /// The allocator is out of memory, the history is full, or an observer failed. Nothing is open
 /// then, either.
-pub fn hear_turn<'a, B: Bus, J: Basis + Links, T: Tally, K: Tallies<T>, O: Observer<B>, R: Wait>(
+pub fn hear_turn<
+    'a,
+    B: Bus,
+    J: LockStart + Links,
+    T: Tally,
+    K: Tallies<T>,
+    O: Observer<B>,
+    R: Wait,
+>(
     rt: &R,
     observer: &mut O,
     shared: &Shared<'a, J, T, K>,

@@ -6,13 +6,13 @@ ghost use Rattle.turns.specs.Logs.{HasEnded, IsTimed};
 use crate::links::Links;
 use buslink::Clock;
 use driving::{Halt, Observer};
-use plantlock::{Basis, Share, Shared};
+use plantlock::{LockStart, Share, Shared};
 use seats::{Tallies, Tally};
 use std::sync::Wait;
 
 /// The clock with its Share.
 #[derive(Drop)]
-pub struct Timed<'a, C: Clock, J: Basis, T: Tally> {
+pub struct Timed<'a, C: Clock, J: LockStart, T: Tally> {
     pub clock: C,
     pub share: Share<'a, J, T>,
 }
@@ -29,7 +29,7 @@ pub fn tick_once<
     'a,
     B,
     C: Clock,
-    J: Basis + Links,
+    J: LockStart + Links,
     T: Tally,
     K: Tallies<T>,
     O: Observer<B>,

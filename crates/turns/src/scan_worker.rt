@@ -6,7 +6,7 @@ use crate::bus_worker::idle_where_refused;
 use crate::turn::Turn;
 use driving::{Halt, Observer};
 use ilmachine::scan_into;
-use plantlock::{Basis, Share, Shared};
+use plantlock::{LockStart, Share, Shared};
 use seats::{Tallies, Tally};
 use std::alloc::Global;
 use std::io;
@@ -27,7 +27,7 @@ fn tell_scan<B, O: Observer<B>>(
 
 /// Takes a task under the lock, makes its scan outside the lock, and commits it under the lock.
 /// Nothing is open afterwards. What an observer fails to keep is answered then.
-fn scan_once<'a, B, J: Basis, T: Tally, K: Tallies<T>, O: Observer<B>, R: Wait>(
+fn scan_once<'a, B, J: LockStart, T: Tally, K: Tallies<T>, O: Observer<B>, R: Wait>(
     rt: &R,
     alloc: Global,
     observer: &mut O,
@@ -56,7 +56,7 @@ fn scan_once<'a, B, J: Basis, T: Tally, K: Tallies<T>, O: Observer<B>, R: Wait>(
 ///
 /// The allocator is out of memory, the history is full, or an observer failed. Nothing is open
 /// then, either.
-pub fn scan_turn<'a, B, J: Basis, T: Tally, K: Tallies<T>, O: Observer<B>, R: Wait>(
+pub fn scan_turn<'a, B, J: LockStart, T: Tally, K: Tallies<T>, O: Observer<B>, R: Wait>(
     rt: &R,
     alloc: Global,
     observer: &mut O,

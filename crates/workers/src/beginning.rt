@@ -16,7 +16,7 @@ use crate::working::ThreadLists;
 use buslink::{Bus, Clock};
 use plant::Plant;
 use plantevents::{what_a_part_shows, what_a_part_shows_of_links};
-use plantlock::{Basis, NotedPart, Shared, Shares};
+use plantlock::{LockStart, NotedPart, Shared, Shares};
 use seats::{LockTallies, Names, NewTallies, ThreadTally};
 use std::alloc::{AllocError, Global};
 use std::sync::OnceLock;
@@ -24,7 +24,7 @@ use turns::{Links, Served, Timed};
 
 /// What a run begins with.
 #[derive(Drop)]
-pub(crate) struct RunParts<'a, B: Bus, C: Clock, J: Basis + Links, N: Names> {
+pub(crate) struct RunParts<'a, B: Bus, C: Clock, J: LockStart + Links, N: Names> {
     pub shared: Shared<'a, J, ThreadTally<N>, LockTallies<N>>,
     pub linked: LinkedShares<'a, B, C, J, ThreadTally<N>>,
     pub bus_lists: BusLists<'a, B, J, ThreadTally<N>>,
@@ -51,7 +51,7 @@ fn room_for<X: Drop>(alloc: Global, count: usize) -> Result<Vec<X>, AllocError>
 /// What is made before the lock: the ledgers, and room for the links with their Shares and for the
 /// threads.
 #[derive(Drop)]
-struct Allocations<'a, B: Bus, J: Basis + Links, N: Names> {
+struct Allocations<'a, B: Bus, J: LockStart + Links, N: Names> {
     thread_lists: ThreadLists<'a, B, J, ThreadTally<N>>,
     served: Vec<Served<'a, B, J, ThreadTally<N>>>,
     tallies: LockTallies<N>,
@@ -59,7 +59,7 @@ struct Allocations<'a, B: Bus, J: Basis + Links, N: Names> {
 }
 
 /// Makes what is made before the lock, for so many buses and scan workers.
-fn allocate<'a, B: Bus, J: Basis + Links, N: Names>(
+fn allocate<'a, B: Bus, J: LockStart + Links, N: Names>(
     alloc: Global,
     new_tallies: NewTallies,
     buses: usize,
@@ -90,7 +90,7 @@ fn allocate<'a, B: Bus, J: Basis + Links, N: Names>(
 /// # Errors
 ///
 /// The allocator is out of memory. All comes back as it was.
-pub(crate) fn begin<'a, B: Bus, C: Clock, J: Basis + Links, N: Names>(
+pub(crate) fn begin<'a, B: Bus, C: Clock, J: LockStart + Links, N: Names>(
     alloc: Global,
     plant: Plant,
     cells: &'a [OnceLock<NotedPart>],

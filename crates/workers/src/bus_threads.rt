@@ -8,7 +8,7 @@ ghost use Rattle.workers.specs.Started.{IsStartedBus};
 use crate::ended::{End, Ended};
 use crate::serving::serve_bus;
 use buslink::Bus;
-use plantlock::{Basis, Shared};
+use plantlock::{LockStart, Shared};
 use seats::{Tallies, Tally};
 use std::sync::Wait;
 use std::thread::{Promise, PromisedHandle, Scope, Threads};
@@ -17,7 +17,7 @@ use turns::{Gate, Links, Served};
 
 /// The work of a bus's worker. It is one value, so that a closure captures one.
 #[derive(Drop)]
-pub(crate) struct BusTask<'s, 'a, B: Bus, J: Basis, T: Tally, K: Tallies<T>, G: Gate> {
+pub(crate) struct BusTask<'s, 'a, B: Bus, J: LockStart, T: Tally, K: Tallies<T>, G: Gate> {
     pub gate: &'s G,
     pub shared: &'s Shared<'a, J, T, K>,
     pub end: &'s End,
@@ -31,7 +31,7 @@ pub(crate) struct Serves {
     pub bus: u8,
 }
 
-impl<'a, B: Bus, J: Basis + Links, T: Tally> Promise<Served<'a, B, J, T>> for Serves {
+impl<'a, B: Bus, J: LockStart + Links, T: Tally> Promise<Served<'a, B, J, T>> for Serves {
     ghost use Rattle.driving.specs.Links.{log_of};
     ghost use Rattle.turns.specs.Logs.{IsServed};
 
@@ -40,16 +40,22 @@ impl<'a, B: Bus, J: Basis + Links, T: Tally> Promise<Served<'a, B, J, T>> for Se
 
 /// A thread that serves a bus, or what became of the bus where no thread could be made.
 #[derive(Drop)]
-pub(crate) enum StartedBus<'a, B: Bus, J: Basis + Links, T: Tally> {
+pub(crate) enum StartedBus<'a, B: Bus, J: LockStart + Links, T: Tally> {
     There(PromisedHandle<Served<'a, B, J, T>, Serves>),
     Here(Served<'a, B, J, T>),
 }
 
 /// Serves a bus until the end is told, or the bus goes down.
-fn serve_task<'s, 'a, B: Bus, J: Basis + Links, T: Tally, K: Tallies<T>, G: Gate, R: Wait + Timer>(
-    rt: &R,
-    task: BusTask<'s, 'a, B, J, T, K, G>,
-) -> Served<'a, B, J, T>
+fn serve_task<
+    's,
+    'a,
+    B: Bus,
+    J: LockStart + Links,
+    T: Tally,
+    K: Tallies<T>,
+    G: Gate,
+    R: Wait + Timer,
+>(rt: &R, task: BusTask<'s, 'a, B, J, T, K, G>) -> Served<'a, B, J, T>
     requires served { IsServed (log_of J.buses task.bus) task.bus task.served.share
         (B.log task.served.line) }
     ensures served { IsServed (log_of J.buses task.entry.bus) task.entry.bus result.share
@@ -74,7 +80,7 @@ pub(crate) fn start_bus<
     'a,
     E,
     B: Bus + Send,
-    J: Basis + Links + Send + Sync,
+    J: LockStart + Links + Send + Sync,
     T: Tally + Send,
     K: Tallies<T> + Send,
     G: Gate,
@@ -113,7 +119,7 @@ where
 pub(crate) fn finish_bus<
     'a,
     B: Bus + Send,
-    J: Basis + Links + Send + Sync,
+    J: LockStart + Links + Send + Sync,
     T: Tally + Send,
     R: Threads + Wait,
 >(rt: &R, started: StartedBus<'a, B, J, T>) -> Served<'a, B, J, T>

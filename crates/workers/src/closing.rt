@@ -15,13 +15,13 @@ use crate::pairing::take_apart;
 use buslink::{Bus, Clock};
 use plant::Plant;
 use plantevents::{what_a_part_shows, what_a_part_shows_of_links};
-use plantlock::{Basis, Final, Share, Shared, Shares};
+use plantlock::{Final, LockStart, Share, Shared, Shares};
 use seats::{Tallies, Tally};
 use turns::{Links, Timed};
 
 /// Empty lists with room for the buses and their Shares.
 #[derive(Drop)]
-pub(crate) struct BusLists<'a, B: Bus, J: Basis, T: Tally> {
+pub(crate) struct BusLists<'a, B: Bus, J: LockStart, T: Tally> {
     pub lines: Vec<B>,
     pub shares: Vec<Share<'a, J, T>>,
 }
@@ -39,7 +39,7 @@ fn as_shown(plant: &Plant, told: Ended) -> Ended
 }
 
 /// Opens the lock for good. What went over each link is what the plant's history says.
-pub(crate) fn close<'a, B: Bus, C: Clock, J: Basis + Links, T: Tally, K: Tallies<T>>(
+pub(crate) fn close<'a, B: Bus, C: Clock, J: LockStart + Links, T: Tally, K: Tallies<T>>(
     shared: Shared<'a, J, T, K>,
     linked: LinkedShares<'a, B, C, J, T>,
     bus_lists: BusLists<'a, B, J, T>,

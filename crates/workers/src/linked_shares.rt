@@ -1,13 +1,13 @@
 //! The links with their Shares.
 
 use buslink::{Bus, Clock};
-use plantlock::{Basis, Share};
+use plantlock::{LockStart, Share};
 use seats::Tally;
 use turns::{Served, Timed};
 
 /// The buses and the clock with their Shares, and the Shares of the scan workers.
 #[derive(Drop)]
-pub struct LinkedShares<'a, B: Bus, C: Clock, J: Basis, T: Tally> {
+pub struct LinkedShares<'a, B: Bus, C: Clock, J: LockStart, T: Tally> {
     /// The buses, by their numbers.
     pub buses: Vec<Served<'a, B, J, T>>,
     /// The scan workers, by their numbers.

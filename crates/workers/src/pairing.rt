@@ -9,12 +9,12 @@ ghost use Rattle.turns.specs.Logs.{IsServed};
 ghost use Rattle.workers.specs.LinkedShares.{AreServed};
 
 use buslink::Bus;
-use plantlock::{Basis, Share};
+use plantlock::{LockStart, Share};
 use seats::Tally;
 use turns::{Links, Served};
 
 /// Puts each bus and its Share together. Both lists are empty afterwards, and keep their room.
-pub(crate) fn put_together<'a, B: Bus, J: Basis + Links, T: Tally>(
+pub(crate) fn put_together<'a, B: Bus, J: LockStart + Links, T: Tally>(
     lines: &mut Vec<B>,
     shares: &mut Vec<Share<'a, J, T>>,
     served: &mut Vec<Served<'a, B, J, T>>,
@@ -38,7 +38,7 @@ pub(crate) fn put_together<'a, B: Bus, J: Basis + Links, T: Tally>(
 }
 
 /// Takes each bus and its Share apart.
-pub(crate) fn take_apart<'a, B: Bus, J: Basis, T: Tally>(
+pub(crate) fn take_apart<'a, B: Bus, J: LockStart, T: Tally>(
     served: Vec<Served<'a, B, J, T>>,
     lines: &mut Vec<B>,
     shares: &mut Vec<Share<'a, J, T>>,

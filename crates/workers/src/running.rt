@@ -21,7 +21,7 @@ use crate::working::{AllWorkers, WorkResult, work};
 use buslink::{Bus, Clock};
 use ilcompile::Setup;
 use plant::{OpenFault, Plant};
-use plantlock::{Basis, NotedPart, Shared};
+use plantlock::{LockStart, NotedPart, Shared};
 use seats::{Names, NewTallies, Tallies, Tally};
 use std::alloc::{AllocError, Global};
 use std::marker::Brand;
@@ -54,7 +54,7 @@ pub(crate) fn run_named<
     'a,
     B: Bus + Send,
     C: Clock + Send,
-    J: Basis + Links + Send + Sync,
+    J: LockStart + Links + Send + Sync,
     N: Names + Send + Sync,
     G: Gate,
     R: Threads + Wait + Timer + Sync,

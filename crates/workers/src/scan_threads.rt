@@ -6,7 +6,7 @@ ghost use Rattle.workers.specs.Started.{IsStartedScans};
 
 use crate::ended::{End, Ended};
 use crate::serving::serve_tasks;
-use plantlock::{Basis, Share, Shared};
+use plantlock::{LockStart, Share, Shared};
 use seats::{Tallies, Tally};
 use std::alloc::Global;
 use std::sync::Wait;
@@ -16,7 +16,7 @@ use turns::Gate;
 
 /// The work of a scan worker. It is one value, so that a closure captures one.
 #[derive(Drop)]
-pub(crate) struct ScanTask<'s, 'a, J: Basis, T: Tally, K: Tallies<T>, G: Gate> {
+pub(crate) struct ScanTask<'s, 'a, J: LockStart, T: Tally, K: Tallies<T>, G: Gate> {
     pub alloc: Global,
     pub gate: &'s G,
     pub shared: &'s Shared<'a, J, T, K>,
@@ -31,7 +31,7 @@ pub(crate) struct Scans {
     pub worker: usize,
 }
 
-impl<'a, J: Basis, T: Tally> Promise<Share<'a, J, T>> for Scans {
+impl<'a, J: LockStart, T: Tally> Promise<Share<'a, J, T>> for Scans {
     ghost use Rattle.turns.specs.Logs.{IsWorker};
 
     ghost kept_by = { λ p r. IsWorker p.worker r };
@@ -39,13 +39,13 @@ impl<'a, J: Basis, T: Tally> Promise<Share<'a, J, T>> for Scans {
 
 /// A thread that scans, or the Share where no thread could be made.
 #[derive(Drop)]
-pub(crate) enum StartedScans<'a, J: Basis, T: Tally> {
+pub(crate) enum StartedScans<'a, J: LockStart, T: Tally> {
     There(PromisedHandle<Share<'a, J, T>, Scans>),
     Here(Share<'a, J, T>),
 }
 
 /// Scans what is ready until the end is told.
-fn scan_task<'s, 'a, J: Basis, T: Tally, K: Tallies<T>, G: Gate, R: Wait + Timer>(
+fn scan_task<'s, 'a, J: LockStart, T: Tally, K: Tallies<T>, G: Gate, R: Wait + Timer>(
     rt: &R,
     task: ScanTask<'s, 'a, J, T, K, G>,
 ) -> Share<'a, J, T>
@@ -71,7 +71,7 @@ pub(crate) fn start_scans<
     's,
     'a,
     E,
-    J: Basis + Send + Sync,
+    J: LockStart + Send + Sync,
     T: Tally + Send,
     K: Tallies<T> + Send,
     G: Gate,
@@ -105,7 +105,7 @@ where
 }
 
 /// Waits for a scan worker.
-pub(crate) fn finish_scans<'a, J: Basis + Send + Sync, T: Tally + Send, R: Threads + Wait>(
+pub(crate) fn finish_scans<'a, J: LockStart + Send + Sync, T: Tally + Send, R: Threads + Wait>(
     rt: &R,
     started: StartedScans<'a, J, T>,
 ) -> Share<'a, J, T>

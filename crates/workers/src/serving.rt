@@ -9,7 +9,7 @@ use crate::ended::{End, Ended};
 use crate::pause::Pause;
 use buslink::{Bus, Clock};
 use driving::{Halt, Observer};
-use plantlock::{Basis, Share, Shared};
+use plantlock::{LockStart, Share, Shared};
 use seats::{Tallies, Tally};
 use std::alloc::Global;
 use std::sync::Wait;
@@ -19,7 +19,7 @@ use turns::{
 };
 
 /// Sends what is to be sent next on a bus, and hears what came, where the end wasn't told meanwhile.
-fn serve_once<'a, B: Bus, J: Basis + Links, T: Tally, K: Tallies<T>, O: Observer<B>, R: Wait>(
+fn serve_once<'a, B: Bus, J: LockStart + Links, T: Tally, K: Tallies<T>, O: Observer<B>, R: Wait>(
     rt: &R,
     observer: &mut O,
     shared: &Shared<'a, J, T, K>,
@@ -41,7 +41,15 @@ fn serve_once<'a, B: Bus, J: Basis + Links, T: Tally, K: Tallies<T>, O: Observer
 }
 
 /// Serves a bus until the end is told, or the bus goes down.
-pub fn serve_bus<'a, B: Bus, J: Basis + Links, T: Tally, K: Tallies<T>, G: Gate, R: Wait + Timer>(
+pub fn serve_bus<
+    'a,
+    B: Bus,
+    J: LockStart + Links,
+    T: Tally,
+    K: Tallies<T>,
+    G: Gate,
+    R: Wait + Timer,
+>(
     rt: &R,
     gate: &G,
     shared: &Shared<'a, J, T, K>,
@@ -72,7 +80,7 @@ pub fn serve_bus<'a, B: Bus, J: Basis + Links, T: Tally, K: Tallies<T>, G: Gate,
 }
 
 /// Scans what is ready until the end is told.
-pub fn serve_tasks<'a, J: Basis, T: Tally, K: Tallies<T>, G: Gate, R: Wait + Timer>(
+pub fn serve_tasks<'a, J: LockStart, T: Tally, K: Tallies<T>, G: Gate, R: Wait + Timer>(
     rt: &R,
     alloc: Global,
     gate: &G,
@@ -116,7 +124,7 @@ pub fn serve_tasks<'a, J: Basis, T: Tally, K: Tallies<T>, G: Gate, R: Wait + Tim
 pub fn serve_clock<
     'a,
     C: Clock,
-    J: Basis + Links,
+    J: LockStart + Links,
     T: Tally,
     K: Tallies<T>,
     G: Gate,

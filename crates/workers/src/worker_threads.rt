@@ -9,7 +9,7 @@ use crate::bus_threads::{BusTask, StartedBus, finish_bus, start_bus};
 use crate::ended::End;
 use crate::scan_threads::{ScanTask, StartedScans, finish_scans, start_scans};
 use buslink::Bus;
-use plantlock::{Basis, Share, Shared};
+use plantlock::{LockStart, Share, Shared};
 use seats::{Tallies, Tally};
 use std::alloc::Global;
 use std::sync::Wait;
@@ -19,7 +19,7 @@ use turns::{Gate, Links, Served};
 
 /// What all workers share.
 #[derive(Drop)]
-pub(crate) struct WorkerContext<'s, 'a, J: Basis, T: Tally, K: Tallies<T>, G: Gate> {
+pub(crate) struct WorkerContext<'s, 'a, J: LockStart, T: Tally, K: Tallies<T>, G: Gate> {
     pub alloc: Global,
     pub gate: &'s G,
     pub shared: &'s Shared<'a, J, T, K>,
@@ -33,7 +33,7 @@ pub(crate) fn start_buses<
     'a,
     E,
     B: Bus + Send,
-    J: Basis + Links + Send + Sync,
+    J: LockStart + Links + Send + Sync,
     T: Tally + Send,
     K: Tallies<T> + Send,
     G: Gate,
@@ -79,7 +79,7 @@ where
 pub(crate) fn finish_buses<
     'a,
     B: Bus + Send,
-    J: Basis + Links + Send + Sync,
+    J: LockStart + Links + Send + Sync,
     T: Tally + Send,
     R: Threads + Wait,
 >(rt: &R, started: &mut Vec<StartedBus<'a, B, J, T>>, buses: &mut Vec<Served<'a, B, J, T>>)
@@ -101,7 +101,7 @@ pub(crate) fn start_workers<
     's,
     'a,
     E,
-    J: Basis + Send + Sync,
+    J: LockStart + Send + Sync,
     T: Tally + Send,
     K: Tallies<T> + Send,
     G: Gate,
@@ -142,7 +142,7 @@ where
 }
 
 /// Waits for each scan worker.
-pub(crate) fn finish_workers<'a, J: Basis + Send + Sync, T: Tally + Send, R: Threads + Wait>(
+pub(crate) fn finish_workers<'a, J: LockStart + Send + Sync, T: Tally + Send, R: Threads + Wait>(
     rt: &R,
     started: &mut Vec<StartedScans<'a, J, T>>,
     workers: &mut Vec<Share<'a, J, T>>,

@@ -15,7 +15,7 @@ use crate::worker_threads::{
     WorkerContext, finish_buses, finish_workers, start_buses, start_workers,
 };
 use buslink::{Bus, Clock};
-use plantlock::Basis;
+use plantlock::LockStart;
 use seats::{Tallies, Tally};
 use std::alloc::{AllocError, Global};
 use std::sync::Wait;
@@ -26,7 +26,7 @@ use turns::{Gate, Links};
 
 /// Room for the threads, made before the first begins.
 #[derive(Drop)]
-pub(crate) struct ThreadLists<'a, B: Bus, J: Basis + Links, T: Tally> {
+pub(crate) struct ThreadLists<'a, B: Bus, J: LockStart + Links, T: Tally> {
     pub buses: Vec<StartedBus<'a, B, J, T>>,
     pub workers: Vec<StartedScans<'a, J, T>>,
 }
@@ -39,7 +39,7 @@ pub(crate) struct AllWorkers<
     'a,
     B: Bus,
     C: Clock,
-    J: Basis + Links,
+    J: LockStart + Links,
     T: Tally,
     K: Tallies<T>,
     G: Gate,
@@ -51,12 +51,12 @@ pub(crate) struct AllWorkers<
 
 /// What the workers leave: the Shares with their links, and why the worker of the clock ended.
 #[derive(Drop)]
-pub(crate) struct WorkResult<'a, B: Bus, C: Clock, J: Basis, T: Tally> {
+pub(crate) struct WorkResult<'a, B: Bus, C: Clock, J: LockStart, T: Tally> {
     pub linked: LinkedShares<'a, B, C, J, T>,
     pub ended: Ended,
 }
 
-impl<'a, B: Bus, J: Basis + Links, T: Tally> ThreadLists<'a, B, J, T> {
+impl<'a, B: Bus, J: LockStart + Links, T: Tally> ThreadLists<'a, B, J, T> {
     /// Room for so many threads.
     ///
     /// # Errors
@@ -88,7 +88,7 @@ fn work_in<
     E,
     B: Bus + Send,
     C: Clock,
-    J: Basis + Links + Send + Sync,
+    J: LockStart + Links + Send + Sync,
     T: Tally + Send,
     K: Tallies<T> + Send,
     G: Gate,
@@ -148,7 +148,7 @@ pub(crate) fn work<
     'a,
     B: Bus + Send,
     C: Clock + Send,
-    J: Basis + Links + Send + Sync,
+    J: LockStart + Links + Send + Sync,
     T: Tally + Send,
     K: Tallies<T> + Send,
     G: Gate,

@@ -13,12 +13,12 @@ use super::TiedPlant;
 use ilmachine::ScanResult;
 use plant::{CallError, Order};
 use plantevents::{Event, NotedResult, NotedSnapshot, what_a_part_shows};
-use receipts::{Basis, Share};
+use receipts::{LockStart, Share};
 use seats::{Tallies, Tally};
 use std::alloc::Global;
 use std::sync::Wait;
 
-impl<'a, J: Basis, T: Tally, K: Tallies<T>> TiedPlant<'a, J, T, K> {
+impl<'a, J: LockStart, T: Tally, K: Tallies<T>> TiedPlant<'a, J, T, K> {
     /// Takes the next task for a scan worker.
     pub fn take<R: Wait>(
         &mut self,

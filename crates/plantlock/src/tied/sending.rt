@@ -15,7 +15,7 @@ ghost use Rattle.plantlock.specs.Answers.{Decides, ShowsTransaction};
 use super::TiedPlant;
 use plant::{CallRefusal, Handed};
 use plantevents::{Event, what_a_part_shows};
-use receipts::{Basis, Share};
+use receipts::{LockStart, Share};
 use seats::{Tallies, Tally};
 use std::sync::Wait;
 use transact::{Report, Transaction};
@@ -27,7 +27,7 @@ fn copy_of(transaction: &Transaction) -> Transaction
     transaction.clone().unwrap()
 }
 
-impl<'a, J: Basis, T: Tally, K: Tallies<T>> TiedPlant<'a, J, T, K> {
+impl<'a, J: LockStart, T: Tally, K: Tallies<T>> TiedPlant<'a, J, T, K> {
     /// Hands a bus what is to be sent next.
     pub fn hand<R: Wait>(
         &mut self,

@@ -7,4 +7,4 @@ abbrev pub invariant-loop-k : goal.invariant-loop-k
 invariant-loop-k g l =
     (l.shares.items ≡ l.fn.shares.items) × (l.tied ≡ l.fn.tied)
     × ((k : ℕ) (share : ShareParts) → k < l.k → slice_get l.fn.shares.items k ≡ Some share
-    → IsMet g.J.Basis.start.history share l.fn.tied.history)
+    → IsMet g.J.LockStart.start.history share l.fn.tied.history)

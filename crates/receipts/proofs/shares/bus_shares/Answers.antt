@@ -10,7 +10,7 @@ use Rattle.receipts.proofs.shares.bus_shares.Goals as goal
 
 pub loop-bus-init : goal.loop-bus-init
 loop-bus-init g c = (
-  fresh_none g.J.Basis.start Bus c.new-shares.result.items c.new-shares.ensures.items,
+  fresh_none g.J.LockStart.start Bus c.new-shares.result.items c.new-shares.ensures.items,
   c.requires.unused,
   c.requires.counted,
 )
@@ -20,8 +20,8 @@ next_share-share-requires-clause-start g c = c.requires.start
 
 pub next_share-share-requires-clause-known : goal.next_share-share-requires-clause-known
 next_share-share-requires-clause-known g c =
-    one_of c.loop-bus.bus c.buses-buses.result g.J.Basis.start.plant.plan.buses most_buses
-    (buses_known c.args.plant.now g.J.Basis.start c.setup.result.now.plan c.plan.result.now c.buses-buses.result
+    one_of c.loop-bus.bus c.buses-buses.result g.J.LockStart.start.plant.plan.buses most_buses
+    (buses_known c.args.plant.now g.J.LockStart.start c.setup.result.now.plan c.plan.result.now c.buses-buses.result
     c.requires.start c.setup.ensures.plan c.plan.ensures.value c.buses-buses.ensures.value)
     c.requires.seated c.loop-bus-test.true
 
@@ -46,11 +46,12 @@ loop-bus-preserved g c =
     let made = c.next_share-share.ensures in
     let n = c.loop-bus.bus in
     let same : most_workers + n + 1 ≡ most_workers + (n + 1) = omega arith in (
-      fresh_pushed g.J.Basis.start Bus n c.loop-bus.shares.items c.push.new.self.items c.next_share-share.result inv.0
+      fresh_pushed g.J.LockStart.start Bus n c.loop-bus.shares.items c.push.new.self.items c.next_share-share.result
+          inv.0
           made.fresh c.in_ok-push.ensures.items,
       subst (λ m. AreUnused g.T.Tally.seat g.T.Tally.amount m c.next_share-share.new.thread_tallies.items) same
           made.unused,
-      subst (λ m. AreCounted g.J.Basis.start (g.K.Tallies.number c.next_share-share.new.tallies) m) same
+      subst (λ m. AreCounted g.J.LockStart.start (g.K.Tallies.number c.next_share-share.new.tallies) m) same
           (made.counted inv.2),
     )
 
@@ -58,7 +59,7 @@ pub overflow_sub-buses : goal.overflow_sub-buses
 overflow_sub-buses g c =
     subst (λ (n : ℕ). n ≤ most_buses)
     (sym
-    (buses_known c.args.plant.now g.J.Basis.start c.setup.result.now.plan c.plan.result.now c.buses-buses.result
+    (buses_known c.args.plant.now g.J.LockStart.start c.setup.result.now.plan c.plan.result.now c.buses-buses.result
     c.requires.start c.setup.ensures.plan c.plan.ensures.value c.buses-buses.ensures.value))
     c.requires.seated
 
@@ -66,9 +67,9 @@ pub skip_tallies-requires : goal.skip_tallies-requires
 skip_tallies-requires g c =
     let inv = c.loop-bus.invariant in
     let passed =
-    buses_passed c.loop-bus.bus c.buses-buses.result g.J.Basis.start.plant.plan.buses c.from.result
+    buses_passed c.loop-bus.bus c.buses-buses.result g.J.LockStart.start.plant.plan.buses c.from.result
     c.loop-bus.auto.bus-end c.loop-bus-test.false
-    (buses_known c.args.plant.now g.J.Basis.start c.setup.result.now.plan c.plan.result.now c.buses-buses.result
+    (buses_known c.args.plant.now g.J.LockStart.start c.setup.result.now.plan c.plan.result.now c.buses-buses.result
     c.requires.start c.setup.ensures.plan c.plan.ensures.value c.buses-buses.ensures.value)
     c.requires.seated c.from.ensures in
     (most_workers + c.loop-bus.bus, passed.1, inv.1)
@@ -76,10 +77,10 @@ skip_tallies-requires g c =
 pub returns-clause-shares : goal.returns-clause-shares
 returns-clause-shares g c =
     let inv = c.loop-bus.invariant in
-    subst (λ (n : ℕ). AreFresh g.J.Basis.start Bus n c.loop-bus.shares.items)
-    (at_end c.loop-bus.bus c.buses-buses.result g.J.Basis.start.plant.plan.buses c.loop-bus.auto.bus-end
+    subst (λ (n : ℕ). AreFresh g.J.LockStart.start Bus n c.loop-bus.shares.items)
+    (at_end c.loop-bus.bus c.buses-buses.result g.J.LockStart.start.plant.plan.buses c.loop-bus.auto.bus-end
     c.loop-bus-test.false
-    (buses_known c.args.plant.now g.J.Basis.start c.setup.result.now.plan c.plan.result.now c.buses-buses.result
+    (buses_known c.args.plant.now g.J.LockStart.start c.setup.result.now.plan c.plan.result.now c.buses-buses.result
     c.requires.start c.setup.ensures.plan c.plan.ensures.value c.buses-buses.ensures.value))
     inv.0
 
@@ -87,9 +88,9 @@ pub returns-clause-unused : goal.returns-clause-unused
 returns-clause-unused g c =
     let inv = c.loop-bus.invariant in
     let passed =
-    buses_passed c.loop-bus.bus c.buses-buses.result g.J.Basis.start.plant.plan.buses c.from.result
+    buses_passed c.loop-bus.bus c.buses-buses.result g.J.LockStart.start.plant.plan.buses c.from.result
     c.loop-bus.auto.bus-end c.loop-bus-test.false
-    (buses_known c.args.plant.now g.J.Basis.start c.setup.result.now.plan c.plan.result.now c.buses-buses.result
+    (buses_known c.args.plant.now g.J.LockStart.start c.setup.result.now.plan c.plan.result.now c.buses-buses.result
     c.requires.start c.setup.ensures.plan c.plan.ensures.value c.buses-buses.ensures.value)
     c.requires.seated c.from.ensures in
     subst (λ m. AreUnused g.T.Tally.seat g.T.Tally.amount m c.skip_tallies.new.thread_tallies.items) passed.0
@@ -98,10 +99,10 @@ returns-clause-unused g c =
 pub returns-clause-counted : goal.returns-clause-counted
 returns-clause-counted g c =
     let inv = c.loop-bus.invariant in
-    buses_counted g.J.Basis.start (g.K.Tallies.number c.loop-bus.tallies)
-    (subst (λ (n : ℕ). AreCounted g.J.Basis.start (g.K.Tallies.number c.loop-bus.tallies) (most_workers + n))
-    (at_end c.loop-bus.bus c.buses-buses.result g.J.Basis.start.plant.plan.buses c.loop-bus.auto.bus-end
+    buses_counted g.J.LockStart.start (g.K.Tallies.number c.loop-bus.tallies)
+    (subst (λ (n : ℕ). AreCounted g.J.LockStart.start (g.K.Tallies.number c.loop-bus.tallies) (most_workers + n))
+    (at_end c.loop-bus.bus c.buses-buses.result g.J.LockStart.start.plant.plan.buses c.loop-bus.auto.bus-end
     c.loop-bus-test.false
-    (buses_known c.args.plant.now g.J.Basis.start c.setup.result.now.plan c.plan.result.now c.buses-buses.result
+    (buses_known c.args.plant.now g.J.LockStart.start c.setup.result.now.plan c.plan.result.now c.buses-buses.result
     c.requires.start c.setup.ensures.plan c.plan.ensures.value c.buses-buses.ensures.value))
     inv.2)

@@ -7,6 +7,6 @@ use Rattle.receipts.proofs.shares.bus_shares.Given as goal
 
 abbrev pub invariant-loop-bus : goal.invariant-loop-bus
 invariant-loop-bus g l =
-    AreFresh g.J.Basis.start Bus l.bus l.shares.items
+    AreFresh g.J.LockStart.start Bus l.bus l.shares.items
     × AreUnused g.T.Tally.seat g.T.Tally.amount (most_workers + l.bus) l.thread_tallies.items
-    × AreCounted g.J.Basis.start (g.K.Tallies.number l.tallies) (most_workers + l.bus)
+    × AreCounted g.J.LockStart.start (g.K.Tallies.number l.tallies) (most_workers + l.bus)

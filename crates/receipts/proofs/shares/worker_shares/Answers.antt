@@ -12,9 +12,9 @@ use Rattle.receipts.proofs.shares.worker_shares.Goals as goal
 
 pub loop-worker-init : goal.loop-worker-init
 loop-worker-init g c = (
-  fresh_none g.J.Basis.start Worker c.new-shares.result.items c.new-shares.ensures.items,
+  fresh_none g.J.LockStart.start Worker c.new-shares.result.items c.new-shares.ensures.items,
   c.requires.unused,
-  counted_none g.J.Basis.start (g.K.Tallies.number c.args.tallies.now),
+  counted_none g.J.LockStart.start (g.K.Tallies.number c.args.tallies.now),
 )
 
 pub next_share-share-requires-clause-start : goal.next_share-share-requires-clause-start
@@ -22,7 +22,7 @@ next_share-share-requires-clause-start g c = c.requires.start
 
 pub next_share-share-requires-clause-known : goal.next_share-share-requires-clause-known
 next_share-share-requires-clause-known g c =
-    one_of c.loop-worker.worker c.workers-workers.result g.J.Basis.start.plant.workers most_workers
+    one_of c.loop-worker.worker c.workers-workers.result g.J.LockStart.start.plant.workers most_workers
     (c.workers-workers.ensures.value ∙ ap (λ (p : Shown). p.plant.workers) c.requires.start) c.requires.seated
     c.loop-worker-test.true
 
@@ -45,7 +45,7 @@ pub loop-worker-preserved : goal.loop-worker-preserved
 loop-worker-preserved g c =
     let inv = c.loop-worker.invariant in
     let made = c.next_share-share.ensures in (
-      fresh_pushed g.J.Basis.start Worker c.loop-worker.worker c.loop-worker.shares.items
+      fresh_pushed g.J.LockStart.start Worker c.loop-worker.worker c.loop-worker.shares.items
           c.push.new.self.items c.next_share-share.result inv.0 made.fresh c.in_ok-push.ensures.items,
       made.unused,
       made.counted inv.2,
@@ -60,7 +60,7 @@ pub skip_tallies-requires : goal.skip_tallies-requires
 skip_tallies-requires g c =
     let inv = c.loop-worker.invariant in
     let passed =
-    workers_passed c.loop-worker.worker c.workers-workers.result g.J.Basis.start.plant.workers
+    workers_passed c.loop-worker.worker c.workers-workers.result g.J.LockStart.start.plant.workers
     (most_workers - c.workers-workers.result) c.loop-worker.auto.worker-end c.loop-worker-test.false
     (c.workers-workers.ensures.value ∙ ap (λ (p : Shown). p.plant.workers) c.requires.start) c.requires.seated refl in
     (c.loop-worker.worker, passed.1, inv.1)
@@ -68,8 +68,9 @@ skip_tallies-requires g c =
 pub returns-clause-shares : goal.returns-clause-shares
 returns-clause-shares g c =
     let inv = c.loop-worker.invariant in
-    subst (λ (n : ℕ). AreFresh g.J.Basis.start Worker n c.loop-worker.shares.items)
-    (at_end c.loop-worker.worker c.workers-workers.result g.J.Basis.start.plant.workers c.loop-worker.auto.worker-end
+    subst (λ (n : ℕ). AreFresh g.J.LockStart.start Worker n c.loop-worker.shares.items)
+    (at_end c.loop-worker.worker c.workers-workers.result g.J.LockStart.start.plant.workers
+    c.loop-worker.auto.worker-end
     c.loop-worker-test.false
     (c.workers-workers.ensures.value ∙ ap (λ (p : Shown). p.plant.workers) c.requires.start))
     inv.0
@@ -78,7 +79,7 @@ pub returns-clause-unused : goal.returns-clause-unused
 returns-clause-unused g c =
     let inv = c.loop-worker.invariant in
     let passed =
-    workers_passed c.loop-worker.worker c.workers-workers.result g.J.Basis.start.plant.workers
+    workers_passed c.loop-worker.worker c.workers-workers.result g.J.LockStart.start.plant.workers
     (most_workers - c.workers-workers.result) c.loop-worker.auto.worker-end c.loop-worker-test.false
     (c.workers-workers.ensures.value ∙ ap (λ (p : Shown). p.plant.workers) c.requires.start) c.requires.seated refl in
     subst (λ m. AreUnused g.T.Tally.seat g.T.Tally.amount m c.skip_tallies.new.thread_tallies.items) passed.0
@@ -87,9 +88,10 @@ returns-clause-unused g c =
 pub returns-clause-counted : goal.returns-clause-counted
 returns-clause-counted g c =
     let inv = c.loop-worker.invariant in
-    workers_counted g.J.Basis.start (g.K.Tallies.number c.loop-worker.tallies)
-    (subst (λ (n : ℕ). AreCounted g.J.Basis.start (g.K.Tallies.number c.loop-worker.tallies) n)
-    (at_end c.loop-worker.worker c.workers-workers.result g.J.Basis.start.plant.workers c.loop-worker.auto.worker-end
+    workers_counted g.J.LockStart.start (g.K.Tallies.number c.loop-worker.tallies)
+    (subst (λ (n : ℕ). AreCounted g.J.LockStart.start (g.K.Tallies.number c.loop-worker.tallies) n)
+    (at_end c.loop-worker.worker c.workers-workers.result g.J.LockStart.start.plant.workers
+    c.loop-worker.auto.worker-end
     c.loop-worker-test.false
     (c.workers-workers.ensures.value ∙ ap (λ (p : Shown). p.plant.workers) c.requires.start))
     inv.2)

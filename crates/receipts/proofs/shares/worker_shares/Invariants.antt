@@ -5,6 +5,6 @@ use Rattle.receipts.proofs.shares.worker_shares.Given as goal
 
 abbrev pub invariant-loop-worker : goal.invariant-loop-worker
 invariant-loop-worker g l =
-    AreFresh g.J.Basis.start Worker l.worker l.shares.items
+    AreFresh g.J.LockStart.start Worker l.worker l.shares.items
     × AreUnused g.T.Tally.seat g.T.Tally.amount l.worker l.thread_tallies.items
-    × AreCounted g.J.Basis.start (g.K.Tallies.number l.tallies) l.worker
+    × AreCounted g.J.LockStart.start (g.K.Tallies.number l.tallies) l.worker

@@ -8,7 +8,7 @@ new-requires-clause-unused g c = all_unused c.in-Ok.made.thread_tallies.items c.
 
 pub returns-clause-run_parts : goal.returns-clause-run_parts
 returns-clause-run_parts g c =
-    let start = g.J.Basis.start in
+    let start = g.J.LockStart.start in
     let fresh = c.in-Ok-new.ensures.fresh in
     let share = c.in-Ok-new.made.1.clock in
     let shows = c.what_a_part_shows.ensures in
@@ -57,5 +57,6 @@ put_together-requires-clause-ready g c =
     let shows_links = c.what_a_part_shows_of_links.ensures in
     let count = c.requires.buses.0 in
     let long = c.args.lines.ok.0 in
-    fresh_buses g.J.Basis.start g.J.Links.buses g.B.Bus.log c.args.lines.items (omega (arith, count, long)) c.requires.idle
+    fresh_buses g.J.LockStart.start g.J.Links.buses g.B.Bus.log c.args.lines.items (omega (arith, count, long))
+    c.requires.idle
     shows.hand shows_links.sent shows_links.heard shows_links.downs c.requires.links.buses c.requires.links.hears

@@ -25,7 +25,7 @@ returns-clause-closed g c =
       plant = c.close-plant.ensures.plant;
       legal = subst (λ p. AreLegal p h) c.close-plant.ensures.plant c.close-plant.ensures.legal;
       idle =
-          nothing_open c.close-plant.result.plant g.J.Basis.start.plant logs log served workers
+          nothing_open c.close-plant.result.plant g.J.LockStart.start.plant logs log served workers
           c.close-plant.ensures.plant c.requires.workers c.requires.buses c.requires.linked.workers of_workers
           c.requires.linked.buses of_buses shows.worker shows.hand;
       buses =
@@ -51,7 +51,7 @@ invariant_of-result g c =
     let parts = c.close-plant.ensures.parts in
     let shows = c.what_a_part_shows.ensures in
     let shares = c.close-plant.ensures.buses ∙ c.take_apart.ensures.shares in
-    nothing_open c.close-plant.result.plant g.J.Basis.start.plant g.J.Links.buses g.B.Bus.log served workers
+    nothing_open c.close-plant.result.plant g.J.LockStart.start.plant g.J.Links.buses g.B.Bus.log served workers
     c.close-plant.ensures.plant c.requires.workers c.requires.buses c.requires.linked.workers
     (subst (λ xs. HaveParts xs h) c.close-plant.ensures.workers parts.workers) c.requires.linked.buses
     (subst (λ xs. HaveParts xs h) shares parts.buses) shows.worker shows.hand

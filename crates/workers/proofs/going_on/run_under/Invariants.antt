@@ -2,8 +2,8 @@ use Rattle.std.proofs.Common.{map}
 use Rattle.workers.proofs.Earlier.{buses_before, clock_before}
 use Rattle.workers.proofs.going_on.run_under.Given as goal
 
-abbrev pub ghosts-run_named-J-Basis : goal.ghosts-run_named-J-Basis
-ghosts-run_named-J-Basis g a = record { start = a.plant; cells = a.cells.now }
+abbrev pub ghosts-run_named-J-LockStart : goal.ghosts-run_named-J-LockStart
+ghosts-run_named-J-LockStart g a = record { start = a.plant; cells = a.cells.now }
 
 -- the logs of before the history, so far as those of now tell them
 abbrev pub ghosts-run_named-J-Links : goal.ghosts-run_named-J-Links

@@ -30,7 +30,7 @@ pub loop-bus-preserved : goal.loop-bus-preserved
 loop-bus-preserved g c =
     let logs = g.J.Links.buses in
     let log = g.B.Bus.log in
-    let start = g.J.Basis.start in
+    let start = g.J.LockStart.start in
     let inv = c.loop-bus.invariant in
     let n = c.loop-bus._bus in
     let lines = c.loop-bus.lines.items in

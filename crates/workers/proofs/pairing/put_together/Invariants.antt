@@ -10,9 +10,9 @@ use Rattle.workers.proofs.pairing.put_together.Given as goal
 
 abbrev pub invariant-loop-bus : goal.invariant-loop-bus
 invariant-loop-bus g l =
-    Each (λ k line. (s : ShareParts) → IsFresh g.J.Basis.start (Bus k) s
+    Each (λ k line. (s : ShareParts) → IsFresh g.J.LockStart.start (Bus k) s
     → IsServed (log_of g.J.Links.buses k) k s (g.B.Bus.log line)) l._bus l.lines.items
-    × Each (λ k s. IsFresh g.J.Basis.start (Bus k) s) l._bus l.shares.items
+    × Each (λ k s. IsFresh g.J.LockStart.start (Bus k) s) l._bus l.shares.items
     × AreServed g.J.Links.buses g.B.Bus.log 0 l.served.items
     × (l._bus + length l.lines.items ≡ vec_len l.fn.lines)
     × (length l.shares.items ≡ length l.lines.items)

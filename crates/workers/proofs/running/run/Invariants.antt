@@ -1,8 +1,8 @@
 use Rattle.std.proofs.Common.{map}
 use Rattle.workers.proofs.running.run.Given as goal
 
-abbrev pub ghosts-run_named-J-Basis : goal.ghosts-run_named-J-Basis
-ghosts-run_named-J-Basis g a = record { start = a.plant; cells = a.cells.now }
+abbrev pub ghosts-run_named-J-LockStart : goal.ghosts-run_named-J-LockStart
+ghosts-run_named-J-LockStart g a = record { start = a.plant; cells = a.cells.now }
 
 abbrev pub ghosts-run_named-J-Links : goal.ghosts-run_named-J-Links
 ghosts-run_named-J-Links g a = record {

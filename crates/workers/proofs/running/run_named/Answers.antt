@@ -29,11 +29,12 @@ work-linked-requires-clause-all_workers g c κs within =
 
 pub invariant_of-result : goal.invariant_of-result
 invariant_of-result g c = record {
-  p = g.J.Basis.start.plant;
+  p = g.J.LockStart.start.plant;
   logs = g.J.Links.buses;
   first = g.J.Links.clock;
   closed =
-      c.leave-parts.ensures.closed g.J.Basis.start.plant g.J.Links.buses g.J.Links.clock c.close-closed.ensures.closed;
+      c.leave-parts.ensures.closed g.J.LockStart.start.plant g.J.Links.buses g.J.Links.clock
+      c.close-closed.ensures.closed;
   workers = c.requires.workers;
   count =
       let left = c.leave-parts.ensures.count in let long = c.close-closed.result.buses.ok.0 in
@@ -44,7 +45,7 @@ invariant_of-result g c = record {
 
 pub returns-clause-closed : goal.returns-clause-closed
 returns-clause-closed g c =
-    c.leave-parts.ensures.closed g.J.Basis.start.plant g.J.Links.buses g.J.Links.clock c.close-closed.ensures.closed
+    c.leave-parts.ensures.closed g.J.LockStart.start.plant g.J.Links.buses g.J.Links.clock c.close-closed.ensures.closed
 
 -- the clock's end was not cut short
 not_cut_short : (told : Option Ended) (ended : Ended) → IfSome told (λ other. ¬ (other ≡ Asked))
@@ -63,7 +64,7 @@ returns-clause-ended g c = λ asked.
           (c.work-linked.ensures.asked
           (not_cut_short c.cut_short.result worked.ended c.cut_short.ensures (sym c.unwrap_or-ended.ensures ∙ told)));
       quiet =
-          c.leave-parts.ensures.left g.J.Basis.start.plant g.J.Links.buses g.J.Links.clock
+          c.leave-parts.ensures.left g.J.LockStart.start.plant g.J.Links.buses g.J.Links.clock
           c.close-closed.ensures.closed asked;
     }
 

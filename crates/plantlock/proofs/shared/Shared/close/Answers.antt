@@ -8,7 +8,7 @@ use Rattle.plantlock.proofs.shared.Shared.close.Goals as goal
 
 pub returns : goal.returns
 returns g c =
-    let start = g.J.Basis.start.history in
+    let start = g.J.LockStart.start.history in
     let made = c.into_plant-plant.result in
     let third : made ≡ c.meet_all-2.new.tied = c.into_plant-plant.ensures.same ∙ c.meet.ensures.same.0 in
     let second : made ≡ c.meet_all.new.tied = third ∙ c.meet_all-2.ensures.tied in

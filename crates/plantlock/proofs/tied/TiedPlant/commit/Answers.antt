@@ -30,7 +30,7 @@ returns-in-Err g c =
       noted = tt;
       decided = c.in-Err.ensures.stranger;
       err = (c.in-Err.ensures.err.0, c.meet.ensures.same.1, c.in-Err.ensures.err.1);
-      «open» = λ shows. absurd (c.in-Err.ensures.stranger (scan_open g.J.Basis.start p (whole share) share.role
+      «open» = λ shows. absurd (c.in-Err.ensures.stranger (scan_open g.J.LockStart.start p (whole share) share.role
           c.args.worker c.args.scan c.requires.role c.meet.ensures.known c.self.invariant.1.same_plant
           (scan_shown p share c.args.worker c.requires.role (c.meet.ensures.agree p c.self.invariant.1).0
           (c.what_a_part_shows.ensures.worker c.args.worker p.history)) shows));

@@ -23,7 +23,7 @@ returns-in-Err g c =
       err = (c.in-Err.ensures.err.0, c.meet.ensures.same.1, c.in-Err.ensures.err.1);
       «open» = λ shows tries. absurd (c.in-Err.ensures.stranger (record {
         is_open = transaction_open p (whole share) c.args.bus c.args.number c.args.report.transaction
-            (bus_known g.J.Basis.start p _ c.args.bus c.requires.role c.meet.ensures.known
+            (bus_known g.J.LockStart.start p _ c.args.bus c.requires.role c.meet.ensures.known
             c.self.invariant.1.same_plant)
             (hand_shown p share c.args.bus c.requires.role (c.meet.ensures.agree p c.self.invariant.1).0
             (c.what_a_part_shows.ensures.hand c.args.bus p.history)) shows;

@@ -19,7 +19,8 @@ returns-in_err-heard g c =
       err = (c.in_err-heard.ensures.err, c.meet.ensures.same.1);
       kept = λ place fits. absurd (frame_accepted p c.args.share.now c.args.bus refusal c.requires.role
           (c.meet.ensures.agree p c.self.invariant.1) (c.what_a_part_shows.ensures.down c.args.bus p.history)
-          (bus_known g.J.Basis.start p _ c.args.bus c.requires.role c.meet.ensures.known c.self.invariant.1.same_plant)
+          (bus_known g.J.LockStart.start p _ c.args.bus c.requires.role c.meet.ensures.known
+          c.self.invariant.1.same_plant)
           c.in_err-heard.ensures.refused place fits);
     })
 

@@ -24,7 +24,8 @@ returns-in_err-may_hear g c =
       refused = c.in_err-may_hear.ensures.refused;
       why = unheard p c.args.share.now c.args.bus refusal c.requires.role (c.meet.ensures.agree p c.self.invariant.1).0
           (c.what_a_part_shows.ensures.down c.args.bus p.history)
-          (bus_known g.J.Basis.start p _ c.args.bus c.requires.role c.meet.ensures.known c.self.invariant.1.same_plant)
+          (bus_known g.J.LockStart.start p _ c.args.bus c.requires.role c.meet.ensures.known
+          c.self.invariant.1.same_plant)
           c.in_err-may_hear.ensures.refused;
       err = (c.in_err-may_hear.ensures.err, c.meet.ensures.same.1);
     })
@@ -35,7 +36,7 @@ keep-requires g c = record { tied = (c.self.inside.plant, rw c.meet.ensures.same
 pub invariant_of-self-2 : goal.invariant_of-self-2
 invariant_of-self-2 g c =
     let p = c.self.inside.plant in
-    let known = bus_known g.J.Basis.start p _ c.args.bus c.requires.role c.meet.ensures.known
+    let known = bus_known g.J.LockStart.start p _ c.args.bus c.requires.role c.meet.ensures.known
     c.self.invariant.1.same_plant in
     let here : HasPlace (Bus c.args.bus) p = omega (arith, c.len-places.ensures.places, known) in (
       rw (c.keep.ensures.cells, c.meet.ensures.same.0) c.self.invariant.0,

@@ -8,7 +8,7 @@ returns-clause-under g c =
     let p = c.self.inside.plant in
     let tied = c.self.invariant.1 in
     let agree = c.meet.ensures.agree p tied in
-    subst (λ (q : Shown). IsUnderLock g.J.Basis.start c.args.share.now q) c.self.view_is (record {
+    subst (λ (q : Shown). IsUnderLock g.J.LockStart.start c.args.share.now q) c.self.view_is (record {
       plant = tied.same_plant;
       limit = tied.same_limit;
       front = tied.front;

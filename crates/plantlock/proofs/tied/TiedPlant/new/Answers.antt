@@ -9,8 +9,8 @@ invariant_of-result g c = (
   c.requires.cells,
   subst
       (λ (p : Shown).
-      AreTied g.J.Basis.cells g.J.Basis.start p (g.K.Tallies.number c.args.numbers) c.args.newest.items)
+      AreTied g.J.LockStart.cells g.J.LockStart.start p (g.K.Tallies.number c.args.numbers) c.args.newest.items)
       (sym c.requires.start)
-      (starts g.J.Basis.cells g.J.Basis.start (g.K.Tallies.number c.args.numbers) c.args.newest.items
+      (starts g.J.LockStart.cells g.J.LockStart.start (g.K.Tallies.number c.args.numbers) c.args.newest.items
       c.requires.enough c.requires.newest.0 c.requires.newest.1 c.requires.numbers),
 )

@@ -8,7 +8,7 @@ meet-requires g c = record { tied = (c.self.inside.plant, c.self.invariant.1) }
 
 pub tries-requires : goal.tries-requires
 tries-requires g c =
-    bus_known g.J.Basis.start c.self.inside.plant _ c.args.bus c.requires.role c.meet.ensures.known
+    bus_known g.J.LockStart.start c.self.inside.plant _ c.args.bus c.requires.role c.meet.ensures.known
     c.self.invariant.1.same_plant
 
 pub invariant_of-self : goal.invariant_of-self

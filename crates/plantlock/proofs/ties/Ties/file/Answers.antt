@@ -12,14 +12,15 @@ overflow_sub-index g c =
     (place_of tied.0 c.args.plant.now c.args.event c.len-index.result tied.1 c.len-index.ensures.value).0
 
 pub index_of-slot-requires : goal.index_of-slot-requires
-index_of-slot-requires g c = (g.J.Basis.start.plant, rw c.role.ensures.value c.role.ensures.known)
+index_of-slot-requires g c = (g.J.LockStart.start.plant, rw c.role.ensures.value c.role.ensures.known)
 
 pub note-token-requires : goal.note-token-requires
 note-token-requires g c =
     let tied = c.requires.tied in
     let p = tied.0 in
     let place = place_of p c.args.plant.now c.args.event c.len-index.result tied.1 c.len-index.ensures.value in
-    let cell = has_cell g.J.Basis.cells g.J.Basis.start p c.args.plant.now _ _ c.args.event c.len-index.result _ tied.2
+    let cell = has_cell g.J.LockStart.cells g.J.LockStart.start p c.args.plant.now _ _ c.args.event c.len-index.result _
+    tied.2
     tied.1 c.len-index.ensures.value c.len-index.ensures.within c.limit-most.ensures.most in
     record {
       cells = c.requires.cells;
@@ -27,7 +28,7 @@ note-token-requires g c =
       index = rw (ap length c.requires.cells) cell.within;
       small = cell.small;
       order = rw (c.meet.ensures.same.0, c.meet.ensures.same.1, place.1)
-          (not_later g.J.Basis.cells g.J.Basis.start p (g.K.Tallies.number c.args.self.now.numbers) _
+          (not_later g.J.LockStart.cells g.J.LockStart.start p (g.K.Tallies.number c.args.self.now.numbers) _
           c.args.share.now.role c.role.ensures.known tied.2);
     }
 
@@ -54,14 +55,14 @@ returns-clause-tied g c =
     ∙ ap (λ k. get_or tokens k None) slot) in
     let m = c.meet.ensures in
     let agree = m.agree was.reach (is_reserved r p) was.receipts
-    (said_at (length g.J.Basis.start.history) g.J.Basis.cells _ _ was.reach _ _ _ _ was.receipts refl token refl
+    (said_at (length g.J.LockStart.start.history) g.J.LockStart.cells _ _ was.reach _ _ _ _ was.receipts refl token refl
     was.says) in
     let f = c.note-token.ensures in
     let held = rw (f.noted.receipts, m.same.1, place.1) at f.held in
     let mine = rw (m.same.1, agree.1, place.1) at f.mine in
     let others = rw (m.same.0, m.same.1) at f.others in
     rw (is, slot)
-    (filed g.J.Basis.cells g.J.Basis.start p (g.K.Tallies.number c.args.self.now.numbers)
+    (filed g.J.LockStart.cells g.J.LockStart.start p (g.K.Tallies.number c.args.self.now.numbers)
     (g.K.Tallies.number c.note-token.new.numbers) tokens c.note-token.result e c.args.share.now.receipts
     r c.requires.role tied c.role.ensures.known
-    (ap (λ (rs : List Placed). rs ++ part r g.J.Basis.start.history) agree.0 ∙ was.since) held mine others)
+    (ap (λ (rs : List Placed). rs ++ part r g.J.LockStart.start.history) agree.0 ∙ was.since) held mine others)

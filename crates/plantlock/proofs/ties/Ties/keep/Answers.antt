@@ -12,5 +12,5 @@ returns-clause-tied g c p role is has tied =
     let others = rw (m.same.0, m.same.1) at c.keep.ensures.others in
     let there : HasPlace r p = subst (λ (r : Role). HasPlace r p) (sym is) has in
     rw (m.same.0, ← is)
-    (keeps g.J.Basis.cells g.J.Basis.start p (g.K.Tallies.number c.args.self.now.numbers)
+    (keeps g.J.LockStart.cells g.J.LockStart.start p (g.K.Tallies.number c.args.self.now.numbers)
     (g.K.Tallies.number c.keep.new.numbers) c.args.self.now.newest.items r tied m.known there mine others)

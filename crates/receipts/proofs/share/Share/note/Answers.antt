@@ -9,7 +9,7 @@ use Rattle.receipts.proofs.share.Share.note.Goals as goal
 pub overflow_mul-was : goal.overflow_mul-was
 overflow_mul-was g c =
     twice_fits c.args.index c.self.inside.reach (one_if c.self.inside.reserved) c.requires.small
-    (not_later (g.K.Tallies.number c.args.numbers.now) (length g.J.Basis.start.history) g.J.Basis.cells
+    (not_later (g.K.Tallies.number c.args.numbers.now) (length g.J.LockStart.start.history) g.J.LockStart.cells
     (g.T.Tally.seat c.self.inside.tally)
     (g.T.Tally.amount c.self.inside.tally) c.args.index c.self.inside.reach (one_if c.self.inside.reserved)
     c.self.inside.newest _ c.args.self.now c.self.view_is c.audit.ensures.same c.self.invariant.seated
@@ -18,7 +18,7 @@ overflow_mul-was g c =
 pub overflow_add-was : goal.overflow_add-was
 overflow_add-was g c =
     was_fits c.args.index c.self.inside.reach c.one_if.result c.requires.small
-    (not_later (g.K.Tallies.number c.args.numbers.now) (length g.J.Basis.start.history) g.J.Basis.cells
+    (not_later (g.K.Tallies.number c.args.numbers.now) (length g.J.LockStart.start.history) g.J.LockStart.cells
     (g.T.Tally.seat c.self.inside.tally)
     (g.T.Tally.amount c.self.inside.tally) c.args.index c.self.inside.reach c.one_if.result c.self.inside.newest _
     c.args.self.now c.self.view_is c.audit.ensures.same c.self.invariant.seated c.self.invariant.says c.one_if.ensures
@@ -37,7 +37,7 @@ overflow_add-is g c =
 pub overflow_sub-is : goal.overflow_sub-is
 overflow_sub-is g c =
     grows (2 * c.self.inside.reach + c.one_if.result) c.args.index c.one_if-2.result
-    (not_later (g.K.Tallies.number c.args.numbers.now) (length g.J.Basis.start.history) g.J.Basis.cells
+    (not_later (g.K.Tallies.number c.args.numbers.now) (length g.J.LockStart.start.history) g.J.LockStart.cells
     (g.T.Tally.seat c.self.inside.tally)
     (g.T.Tally.amount c.self.inside.tally) c.args.index c.self.inside.reach c.one_if.result c.self.inside.newest _
     c.args.self.now c.self.view_is c.audit.ensures.same c.self.invariant.seated c.self.invariant.says c.one_if.ensures
@@ -61,14 +61,15 @@ invariant_of-self g c = record {
         c.reserved_after-self-inside.result (ap g.T.Tally.amount c.audit.ensures.tally)
         c.self.invariant.says.numbered c.one_if.ensures c.one_if-2.ensures
         (grows (2 * c.self.inside.reach + c.one_if.result) c.args.index c.one_if-2.result
-        (not_later (g.K.Tallies.number c.args.numbers.now) (length g.J.Basis.start.history) g.J.Basis.cells
+        (not_later (g.K.Tallies.number c.args.numbers.now) (length g.J.LockStart.start.history) g.J.LockStart.cells
         (g.T.Tally.seat c.self.inside.tally)
         (g.T.Tally.amount c.self.inside.tally) c.args.index c.self.inside.reach c.one_if.result c.self.inside.newest _
         c.args.self.now c.self.view_is c.audit.ensures.same c.self.invariant.seated c.self.invariant.says
         c.one_if.ensures c.requires.order))
         c.add.ensures.amount;
     held =
-        noted_held c.args.cells.now g.J.Basis.cells c.args.index c.self.inside.base (length g.J.Basis.start.history)
+        noted_held c.args.cells.now g.J.LockStart.cells c.args.index c.self.inside.base
+        (length g.J.LockStart.start.history)
         c.cell_of-cell.result.now c.again.result _ c.requires.cells c.self.invariant.based c.requires.from
         c.cell_of-cell.ensures (c.again.ensures.0 ∙ c.write-token.ensures.of)
         (c.again.ensures.1 ∙ c.write-token.ensures.value ∙ c.of-2.ensures);
@@ -88,7 +89,7 @@ returns-clause-noted g c =
 
 pub returns-clause-held : goal.returns-clause-held
 returns-clause-held g c =
-    noted_held c.args.cells.now g.J.Basis.cells c.args.index c.self.inside.base (length g.J.Basis.start.history)
+    noted_held c.args.cells.now g.J.LockStart.cells c.args.index c.self.inside.base (length g.J.LockStart.start.history)
     c.cell_of-cell.result.now c.write-token.result _ c.requires.cells c.self.invariant.based c.requires.from
     c.cell_of-cell.ensures c.write-token.ensures.of
     (c.write-token.ensures.value ∙ c.of-2.ensures)
@@ -106,7 +107,7 @@ returns-clause-mine g c =
     c.reserved_after-self-inside.result (ap g.T.Tally.amount c.audit.ensures.tally) c.self.invariant.says.numbered
     c.one_if.ensures c.one_if-2.ensures
     (grows (2 * c.self.inside.reach + c.one_if.result) c.args.index c.one_if-2.result
-    (not_later (g.K.Tallies.number c.args.numbers.now) (length g.J.Basis.start.history) g.J.Basis.cells
+    (not_later (g.K.Tallies.number c.args.numbers.now) (length g.J.LockStart.start.history) g.J.LockStart.cells
     (g.T.Tally.seat c.self.inside.tally)
     (g.T.Tally.amount c.self.inside.tally) c.args.index c.self.inside.reach c.one_if.result c.self.inside.newest _
     c.args.self.now c.self.view_is c.audit.ensures.same c.self.invariant.seated c.self.invariant.says

@@ -3,7 +3,7 @@
 use std::marker::Brand;
 
 /// The plant at the start, and the row of cells that its events are written to.
-pub trait Basis {
+pub trait LockStart {
     ghost use Rattle.std.specs.Prelude.{List};
     ghost use Rattle.std.specs.Sync.OnceLock.{Named};
     ghost use Rattle.plant.specs.Shown.{Shown};
@@ -13,7 +13,7 @@ pub trait Basis {
     ghost cells: { List Named };
 }
 
-impl Basis for Brand {
+impl LockStart for Brand {
     ghost use Rattle.std.specs.Prelude.{[]};
     ghost use Rattle.plant.specs.Rows.{quiet};
 
