@@ -15,9 +15,9 @@
 //! ```
 #![tactic(auto)]
 
+mod lock_notes;
+mod locked_plant;
 mod shared;
-mod tied;
-mod ties;
 
 pub use receipts::{LockStart, NotedPart, Share, Shares};
 pub use shared::{Final, Shared};

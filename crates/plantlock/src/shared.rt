@@ -20,7 +20,7 @@ ghost use Rattle.plantlock.specs.Answers.{Decides, GivesHand, IsAnswered, IsOwn,
 ghost use Rattle.plantlock.specs.Answers.{ShowsScan, ShowsTransaction};
 ghost use Rattle.plantlock.specs.Tied.{IsFront, IsMet};
 
-use crate::tied::TiedPlant;
+use crate::locked_plant::LockedPlant;
 use daliframe::Frame24;
 use ilmachine::ScanResult;
 use limits::MOST_SEATS;
@@ -33,13 +33,13 @@ use transact::Report;
 
 /// The lock round the plant.
 pub struct Shared<'a, J: LockStart, T: Tally, K: Tallies<T>> {
-    tied: Mutex<TiedPlant<'a, J, T, K>>,
+    locked: Mutex<LockedPlant<'a, J, T, K>>,
 }
 
 /// Written out, so that it is proved here alone.
 impl<'a, J: LockStart, T: Tally, K: Tallies<T>> Drop for Shared<'a, J, T, K> {
     fn drop(self) {
-        let Self { tied: _ } = self;
+        let Self { locked: _ } = self;
     }
 }
 
@@ -64,30 +64,30 @@ fn no_tokens<'a>(alloc: Global) -> Result<Vec<Option<OnceToken<'a, NotedPart>>>,
 
 /// What one of the Shares had and has is its part of the histories.
 fn meet_at<'a, J: LockStart, T: Tally, K: Tallies<T>>(
-    tied: &mut TiedPlant<'a, J, T, K>,
+    locked: &mut LockedPlant<'a, J, T, K>,
     shares: &mut Vec<Share<'a, J, T>>,
     k: usize,
 )
     requires { k < length shares.old.items }
     ensures met { (share : ShareParts) → slice_get shares.old.items k ≡ Some share
-        → IsMet J.start.history share tied.old.history }
+        → IsMet J.start.history share locked.old.history }
     ensures shares { shares.new.items ≡ shares.old.items }
-    ensures tied { tied.new ≡ tied.old }
+    ensures locked { locked.new ≡ locked.old }
 {
-    tied.meet(&mut shares[k]);
+    locked.meet(&mut shares[k]);
 }
 
 /// What each of the Shares had and has is its part of the histories.
 fn meet_all<'a, J: LockStart, T: Tally, K: Tallies<T>>(
-    tied: &mut TiedPlant<'a, J, T, K>,
+    locked: &mut LockedPlant<'a, J, T, K>,
     shares: &mut Vec<Share<'a, J, T>>,
 )
-    ensures met { Each (λ k s. IsMet J.start.history s tied.old.history) 0 shares.old.items }
+    ensures met { Each (λ k s. IsMet J.start.history s locked.old.history) 0 shares.old.items }
     ensures shares { shares.new.items ≡ shares.old.items }
-    ensures tied { tied.new ≡ tied.old }
+    ensures locked { locked.new ≡ locked.old }
 {
     for k in 0..shares.len() {
-        meet_at(tied, shares, k);
+        meet_at(locked, shares, k);
     }
 }
 
@@ -123,10 +123,10 @@ impl<'a, J: LockStart, T: Tally, K: Tallies<T>> Shared<'a, J, T, K> {
         let Ok(shares) = Shares::of(alloc, &plant, &mut tallies, thread_tallies) else {
             return Err(plant);
         };
-        let tied = TiedPlant::new(plant, cells, tallies, newest);
+        let locked = LockedPlant::new(plant, cells, tallies, newest);
         Ok((
             Shared {
-                tied: Mutex::new(tied),
+                locked: Mutex::new(locked),
             },
             shares,
         ))
@@ -141,10 +141,10 @@ impl<'a, J: LockStart, T: Tally, K: Tallies<T>> Shared<'a, J, T, K> {
         ensures reserved { OnOk result (IsReserved share.old share.new) }
         ensures err { OnErr result (share.new ≡ share.old) }
     {
-        let mut tied = self.tied.lock(rt);
-        tied.meet(share);
-        let answer = tied.may_tick(share);
-        tied.meet(share);
+        let mut locked = self.locked.lock(rt);
+        locked.meet(share);
+        let answer = locked.may_tick(share);
+        locked.meet(share);
         answer
     }
 
@@ -164,10 +164,10 @@ impl<'a, J: LockStart, T: Tally, K: Tallies<T>> Shared<'a, J, T, K> {
         ensures why { IfErr result (IsUnheard (whole share.old)) }
         ensures err { OnErr result (share.new ≡ share.old) }
     {
-        let mut tied = self.tied.lock(rt);
-        tied.meet(share);
-        let answer = tied.may_hear(share, bus);
-        tied.meet(share);
+        let mut locked = self.locked.lock(rt);
+        locked.meet(share);
+        let answer = locked.may_hear(share, bus);
+        locked.meet(share);
         answer
     }
 
@@ -188,10 +188,10 @@ impl<'a, J: LockStart, T: Tally, K: Tallies<T>> Shared<'a, J, T, K> {
         ensures kept { share.old.reserved ≡ true → shown_moment (whole share.old) ≤ moment
             → IsOk result }
     {
-        let mut tied = self.tied.lock(rt);
-        tied.meet(share);
-        let answer = tied.tick(rt, share, moment);
-        tied.meet(share);
+        let mut locked = self.locked.lock(rt);
+        locked.meet(share);
+        let answer = locked.tick(rt, share, moment);
+        locked.meet(share);
         answer
     }
 
@@ -213,10 +213,10 @@ impl<'a, J: LockStart, T: Tally, K: Tallies<T>> Shared<'a, J, T, K> {
         ensures kept { share.old.reserved ≡ true → shown_down (whole share.old) ≡ false
             → IsOk result }
     {
-        let mut tied = self.tied.lock(rt);
-        tied.meet(share);
-        let answer = tied.heard(rt, share, bus, frame);
-        tied.meet(share);
+        let mut locked = self.locked.lock(rt);
+        locked.meet(share);
+        let answer = locked.heard(rt, share, bus, frame);
+        locked.meet(share);
         answer
     }
 
@@ -237,10 +237,10 @@ impl<'a, J: LockStart, T: Tally, K: Tallies<T>> Shared<'a, J, T, K> {
         ensures number { IfOk result (λ order. order.work.number ≡ order.number) }
         ensures err { OnErr result (share.new ≡ share.old) }
     {
-        let mut tied = self.tied.lock(rt);
-        tied.meet(share);
-        let answer = tied.take(rt, alloc, share, worker);
-        tied.meet(share);
+        let mut locked = self.locked.lock(rt);
+        locked.meet(share);
+        let answer = locked.take(rt, alloc, share, worker);
+        locked.meet(share);
         answer
     }
 
@@ -262,10 +262,10 @@ impl<'a, J: LockStart, T: Tally, K: Tallies<T>> Shared<'a, J, T, K> {
         ensures err { IfErr result (λ back. (share.new ≡ share.old) × (back ≡ scan)) }
         ensures open { ShowsScan (whole share.old) scan → IsOk result }
     {
-        let mut tied = self.tied.lock(rt);
-        tied.meet(share);
-        let answer = tied.commit(rt, share, worker, scan);
-        tied.meet(share);
+        let mut locked = self.locked.lock(rt);
+        locked.meet(share);
+        let answer = locked.commit(rt, share, worker, scan);
+        locked.meet(share);
         answer
     }
 
@@ -285,10 +285,10 @@ impl<'a, J: LockStart, T: Tally, K: Tallies<T>> Shared<'a, J, T, K> {
         ensures up { OnOk result (shown_down (whole share.old) ≡ false) }
         ensures err { OnErr result (share.new ≡ share.old) }
     {
-        let mut tied = self.tied.lock(rt);
-        tied.meet(share);
-        let answer = tied.hand(rt, share, bus);
-        tied.meet(share);
+        let mut locked = self.locked.lock(rt);
+        locked.meet(share);
+        let answer = locked.hand(rt, share, bus);
+        locked.meet(share);
         answer
     }
 
@@ -299,7 +299,7 @@ impl<'a, J: LockStart, T: Tally, K: Tallies<T>> Shared<'a, J, T, K> {
         ensures range { AreTries result }
         ensures same { share.new ≡ share.old }
     {
-        self.tied.lock(rt).tries(share, bus)
+        self.locked.lock(rt).tries(share, bus)
     }
 
     /// Notes the report of a transaction. That of the one that the Share shows open is not refused,
@@ -322,10 +322,10 @@ impl<'a, J: LockStart, T: Tally, K: Tallies<T>> Shared<'a, J, T, K> {
         ensures open { ShowsTransaction (whole share.old) number report.transaction
             → report.tries ≡ tries_of J.start.plant bus → IsOk result }
     {
-        let mut tied = self.tied.lock(rt);
-        tied.meet(share);
-        let answer = tied.done(rt, share, bus, number, report);
-        tied.meet(share);
+        let mut locked = self.locked.lock(rt);
+        locked.meet(share);
+        let answer = locked.done(rt, share, bus, number, report);
+        locked.meet(share);
         answer
     }
 
@@ -344,10 +344,10 @@ impl<'a, J: LockStart, T: Tally, K: Tallies<T>> Shared<'a, J, T, K> {
         ensures err { OnErr result (share.new ≡ share.old) }
         ensures up { shown_down (whole share.old) ≡ false → IsOk result }
     {
-        let mut tied = self.tied.lock(rt);
-        tied.meet(share);
-        let answer = tied.down(rt, share, bus);
-        tied.meet(share);
+        let mut locked = self.locked.lock(rt);
+        locked.meet(share);
+        let answer = locked.down(rt, share, bus);
+        locked.meet(share);
         answer
     }
 
@@ -365,17 +365,17 @@ impl<'a, J: LockStart, T: Tally, K: Tallies<T>> Shared<'a, J, T, K> {
         ensures parts { HaveAllParts result.shares result.plant.history }
         ensures receipts { HaveReceipts J.start.history result.shares result.plant.history }
     {
-        let Shared { tied } = self;
-        let mut tied = tied.into_inner();
+        let Shared { locked } = self;
+        let mut locked = locked.into_inner();
         let Shares {
             mut workers,
             mut buses,
             mut clock,
         } = shares;
-        meet_all(&mut tied, &mut workers);
-        meet_all(&mut tied, &mut buses);
-        tied.meet(&mut clock);
-        let plant = tied.into_plant();
+        meet_all(&mut locked, &mut workers);
+        meet_all(&mut locked, &mut buses);
+        locked.meet(&mut clock);
+        let plant = locked.into_plant();
         Final {
             plant,
             shares: Shares {

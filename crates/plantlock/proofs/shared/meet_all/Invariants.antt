@@ -5,6 +5,6 @@ use Rattle.plantlock.proofs.shared.meet_all.Given as goal
 
 abbrev pub invariant-loop-k : goal.invariant-loop-k
 invariant-loop-k g l =
-    (l.shares.items ≡ l.fn.shares.items) × (l.tied ≡ l.fn.tied)
+    (l.shares.items ≡ l.fn.shares.items) × (l.locked ≡ l.fn.locked)
     × ((k : ℕ) (share : ShareParts) → k < l.k → slice_get l.fn.shares.items k ≡ Some share
-    → IsMet g.J.LockStart.start.history share l.fn.tied.history)
+    → IsMet g.J.LockStart.start.history share l.fn.locked.history)

@@ -10,21 +10,21 @@ pub returns : goal.returns
 returns g c =
     let start = g.J.LockStart.start.history in
     let made = c.into_plant-plant.result in
-    let third : made ≡ c.meet_all-2.new.tied = c.into_plant-plant.ensures.same ∙ c.meet.ensures.same.0 in
-    let second : made ≡ c.meet_all.new.tied = third ∙ c.meet_all-2.ensures.tied in
-    let first : made ≡ c.into_inner-tied.result = second ∙ c.meet_all.ensures.tied in
+    let third : made ≡ c.meet_all-2.new.locked = c.into_plant-plant.ensures.same ∙ c.meet.ensures.same.0 in
+    let second : made ≡ c.meet_all.new.locked = third ∙ c.meet_all-2.ensures.locked in
+    let first : made ≡ c.into_inner-locked.result = second ∙ c.meet_all.ensures.locked in
     let workers : Each (λ k s. IsMet start s made.history) 0 c.meet_all.new.shares.items =
     subst (λ (p : Shown). Each (λ k s. IsMet start s p.history) 0 c.meet_all.new.shares.items) (sym {A = Shown} first)
-    (subst (λ (xs : List ShareParts). Each (λ k s. IsMet start s c.into_inner-tied.result.history) 0 xs)
+    (subst (λ (xs : List ShareParts). Each (λ k s. IsMet start s c.into_inner-locked.result.history) 0 xs)
     (sym {A = List ShareParts} c.meet_all.ensures.shares) c.meet_all.ensures.met) in
     let buses : Each (λ k s. IsMet start s made.history) 0 c.meet_all-2.new.shares.items =
     subst (λ (p : Shown). Each (λ k s. IsMet start s p.history) 0 c.meet_all-2.new.shares.items)
     (sym {A = Shown} second)
-    (subst (λ (xs : List ShareParts). Each (λ k s. IsMet start s c.meet_all.new.tied.history) 0 xs)
+    (subst (λ (xs : List ShareParts). Each (λ k s. IsMet start s c.meet_all.new.locked.history) 0 xs)
     (sym {A = List ShareParts} c.meet_all-2.ensures.shares) c.meet_all-2.ensures.met) in
     let clock : IsMet start c.meet.new.share made.history =
     subst (λ (p : Shown). IsMet start c.meet.new.share p.history) (sym {A = Shown} third)
-    (subst (λ (s : ShareParts). IsMet start s c.meet_all-2.new.tied.history)
+    (subst (λ (s : ShareParts). IsMet start s c.meet_all-2.new.locked.history)
     (sym {A = ShareParts} c.meet.ensures.same.1)
     (record { before = c.meet.ensures.before; now = c.meet.ensures.under.part })) in
     let front = c.into_plant-plant.ensures.front in
