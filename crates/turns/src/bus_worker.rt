@@ -23,7 +23,7 @@ use transact::{MOST_SENT, Outcome, Report};
 
 /// A bus with its Share.
 #[derive(Drop)]
-pub struct Served<'a, B: Bus, J: LockStart, T: Tally> {
+pub struct BusWithShare<'a, B: Bus, J: LockStart, T: Tally> {
     pub line: B,
     pub share: Share<'a, J, T>,
 }
@@ -65,7 +65,7 @@ fn tell_report<B, O: Observer<B>>(
     handed?;
     observer.reported(place, bus, report, line)?;
     match down {
-        None => Ok(Turn::Worked),
+        None => Ok(Turn::Busy),
         Some(place) => as_told(observer.went_down(place, bus), Turn::Down),
     }
 }
@@ -76,7 +76,7 @@ fn go_down<'a, B: Bus, J: LockStart + Links, T: Tally, K: Tallies<T>, R: Wait>(
     rt: &R,
     shared: &Shared<'a, J, T, K>,
     bus: u8,
-    served: &mut Served<'a, B, J, T>,
+    served: &mut BusWithShare<'a, B, J, T>,
 ) -> u64
     requires up { shown_down (whole served.old.share) ≡ false }
     requires failed { HasFailed (log_of J.buses bus) bus served.old.share (B.log served.old.line) }
@@ -94,7 +94,7 @@ fn down_where_failed<'a, B: Bus, J: LockStart + Links, T: Tally, K: Tallies<T>, 
     rt: &R,
     shared: &Shared<'a, J, T, K>,
     bus: u8,
-    served: &mut Served<'a, B, J, T>,
+    served: &mut BusWithShare<'a, B, J, T>,
     outcome: Outcome,
 ) -> Option<u64>
     requires up { shown_down (whole served.old.share) ≡ false }
@@ -118,7 +118,7 @@ fn send_once<'a, B: Bus, J: LockStart + Links, T: Tally, K: Tallies<T>, O: Obser
     observer: &mut O,
     shared: &Shared<'a, J, T, K>,
     bus: u8,
-    served: &mut Served<'a, B, J, T>,
+    served: &mut BusWithShare<'a, B, J, T>,
 ) -> Result<Turn, Halt>
     requires served { IsServed (log_of J.buses bus) bus served.old.share (B.log served.old.line) }
     ensures served { IsServed (log_of J.buses bus) bus served.new.share (B.log served.new.line) }
@@ -148,7 +148,7 @@ fn hear_once<'a, B: Bus, J: LockStart + Links, T: Tally, K: Tallies<T>, O: Obser
     observer: &mut O,
     shared: &Shared<'a, J, T, K>,
     bus: u8,
-    served: &mut Served<'a, B, J, T>,
+    served: &mut BusWithShare<'a, B, J, T>,
 ) -> Result<Turn, Halt>
     requires served { IsServed (log_of J.buses bus) bus served.old.share (B.log served.old.line) }
     ensures served { IsServed (log_of J.buses bus) bus served.new.share (B.log served.new.line) }
@@ -165,7 +165,7 @@ fn hear_once<'a, B: Bus, J: LockStart + Links, T: Tally, K: Tallies<T>, O: Obser
             };
             as_told(
                 observer.heard(served.share.last_place(), bus, frame),
-                Turn::Worked,
+                Turn::Busy,
             )
         }
         Ok(None) => Ok(Turn::Idle),
@@ -196,7 +196,7 @@ pub fn send_turn<
     observer: &mut O,
     shared: &Shared<'a, J, T, K>,
     bus: u8,
-    served: &mut Served<'a, B, J, T>,
+    served: &mut BusWithShare<'a, B, J, T>,
 ) -> Result<Turn, Halt>
     requires served { IsServed (log_of J.buses bus) bus served.old.share (B.log served.old.line) }
     ensures served { IsServed (log_of J.buses bus) bus served.new.share (B.log served.new.line) }
@@ -227,7 +227,7 @@ pub fn hear_turn<
     observer: &mut O,
     shared: &Shared<'a, J, T, K>,
     bus: u8,
-    served: &mut Served<'a, B, J, T>,
+    served: &mut BusWithShare<'a, B, J, T>,
 ) -> Result<Turn, Halt>
     requires served { IsServed (log_of J.buses bus) bus served.old.share (B.log served.old.line) }
     ensures served { IsServed (log_of J.buses bus) bus served.new.share (B.log served.new.line) }

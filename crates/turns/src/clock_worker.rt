@@ -12,7 +12,7 @@ use std::sync::Wait;
 
 /// The clock with its Share.
 #[derive(Drop)]
-pub struct Timed<'a, C: Clock, J: LockStart, T: Tally> {
+pub struct ClockWithShare<'a, C: Clock, J: LockStart, T: Tally> {
     pub clock: C,
     pub share: Share<'a, J, T>,
 }
@@ -38,7 +38,7 @@ pub fn tick_once<
     rt: &R,
     observer: &mut O,
     shared: &Shared<'a, J, T, K>,
-    timed: &mut Timed<'a, C, J, T>,
+    timed: &mut ClockWithShare<'a, C, J, T>,
 ) -> Result<bool, Halt>
     requires timed { IsTimed J.clock timed.old.share (C.log timed.old.clock) }
     ensures timed { IsTimed J.clock timed.new.share (C.log timed.new.clock) }

@@ -24,8 +24,8 @@ mod links;
 mod scan_worker;
 mod turn;
 
-pub use bus_worker::{Served, hear_turn, send_turn};
-pub use clock_worker::{Timed, tick_once};
+pub use bus_worker::{BusWithShare, hear_turn, send_turn};
+pub use clock_worker::{ClockWithShare, tick_once};
 pub use gate::{Gate, OpenGate, Passing};
 pub use happened::Happened;
 pub use links::Links;

@@ -68,7 +68,7 @@ pub fn scan_turn<'a, B, J: LockStart, T: Tally, K: Tallies<T>, O: Observer<B>, R
     ensures worker { IsWorker worker share.new }
 {
     match scan_once::<B, J, T, K, O, R>(rt, alloc, observer, shared, worker, share) {
-        Ok(()) => Ok(Turn::Worked),
+        Ok(()) => Ok(Turn::Busy),
         Err(halt) => idle_where_refused(halt),
     }
 }

@@ -4,7 +4,7 @@
 #[derive(Clone, Copy, PartialEq, Eq, Debug)]
 pub enum Turn {
     /// A scan was committed, a transaction was sent, or a frame was heard.
-    Worked,
+    Busy,
     /// There was nothing to do.
     Idle,
     /// The bus interface failed, and the bus is down.

@@ -18,7 +18,7 @@ use Rattle.driving.specs.Open.{HasNothingOpen}
 use Rattle.driving.specs.Links.{IsNoLess, log_of, more_failures}
 use Rattle.turns.specs.Logs.{IsServed, IsTimed, IsWorker}
 use Rattle.workers.specs.LinkedShares.{AreServed, AreWorkers}
-use Rattle.turns.specs.declared.bus_worker.Served.{Served}
+use Rattle.turns.specs.declared.bus_worker.BusWithShare.{BusWithShare}
 use Rattle.workers.proofs.Lists.{each_at}
 
 -- ---- one Share
@@ -85,12 +85,13 @@ no_scans h workers w inside are have law =
     let s = there workers w inside in
     idle_worker w s.x h (each_at IsWorker workers w s.x are s.is) (each_at (λ k t. HasPart t h) workers w s.x have s.is) law
 
-has_at : {B J T : Type 0} (h : List Event) (served : List (Served B J T)) (k : ℕ) (s : Served B J T)
+has_at : {B J T : Type 0} (h : List Event) (served : List (BusWithShare B J T)) (k : ℕ) (s : BusWithShare B J T)
     → slice_get served k ≡ Some s → HaveParts (map (λ t. t.share) served) h → HasPart s.share h
 has_at h served k s at have =
     each_at (λ n t. HasPart t h) (map (λ t. t.share) served) k s.share have (to_map (λ t. t.share) served k s at)
 
-no_hands : {B J T : Type 0} (logs : List BusLog) (log : B → BusLog) (h : List Event) (served : List (Served B J T))
+no_hands : {B J T : Type 0} (logs : List BusLog) (log : B → BusLog) (h : List Event)
+    (served : List (BusWithShare B J T))
     (b : ℕ) → b < length served → AreServed logs log 0 served
     → HaveParts (map (λ s. s.share) served) h → hand b h ≡ shown_hand (part (Bus b) h) → hand b h ≡ None
 no_hands logs log h served b inside are have law =
@@ -100,7 +101,7 @@ no_hands logs log h served b inside are have law =
     law
 
 pub all_linked : {B J T : Type 0} (logs : List BusLog) (log : B → BusLog) (h : List Event)
-    (served : List (Served B J T)) → AreServed logs log 0 served → HaveParts (map (λ s. s.share) served) h
+    (served : List (BusWithShare B J T)) → AreServed logs log 0 served → HaveParts (map (λ s. s.share) served) h
     → ((b : ℕ) (past : List Event) → sent_in b past ≡ shown_sent (part (Bus b) past))
     → ((b : ℕ) (past : List Event) → heard_in b past ≡ shown_heard (part (Bus b) past))
     → ((b : ℕ) (past : List Event) → downs_in b past ≡ shown_downs (part (Bus b) past))
@@ -114,7 +115,7 @@ all_linked logs log h served are have sent heard downs k line at =
     (each_at (λ n t. IsServed (log_of logs n) n t.share (log t.line)) served k s.x are s.is)
     (has_at h served k s.x s.is have) (sent k h) (heard k h) (downs k h)))
 
-pub all_no_less : {B J T : Type 0} (logs : List BusLog) (log : B → BusLog) (served : List (Served B J T))
+pub all_no_less : {B J T : Type 0} (logs : List BusLog) (log : B → BusLog) (served : List (BusWithShare B J T))
     → AreServed logs log 0 served
     → Each (λ b line. IsNoLess (log_of logs b).hears (log line).hears) 0 (map (λ s. s.line) served)
 all_no_less logs log served are k line at =
@@ -124,7 +125,7 @@ all_no_less logs log served are k line at =
 
 -- nothing is open in a plant of which these Shares have the parts
 pub nothing_open : {B J T : Type 0} (p : Shown) (start : Plant) (logs : List BusLog) (log : B → BusLog)
-    (served : List (Served B J T)) (workers : List ShareParts) → p.plant ≡ start → length workers ≡ start.workers
+    (served : List (BusWithShare B J T)) (workers : List ShareParts) → p.plant ≡ start → length workers ≡ start.workers
     → length served ≡ start.plan.buses → AreWorkers 0 workers → HaveParts workers p.history → AreServed logs log 0 served
     → HaveParts (map (λ s. s.share) served) p.history
     → ((w : ℕ) (past : List Event) → scan w past ≡ shown_scan (part (Worker w) past))

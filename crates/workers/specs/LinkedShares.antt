@@ -4,13 +4,13 @@ use Rattle.buslink.specs.BusLog.{BusLog}
 use Rattle.buslink.specs.ClockLog.{ClockLog}
 use Rattle.receipts.specs.Each.{Each}
 use Rattle.receipts.specs.Receipts.{ShareParts}
-use Rattle.turns.specs.declared.bus_worker.Served.{Served}
+use Rattle.turns.specs.declared.bus_worker.BusWithShare.{BusWithShare}
 use Rattle.workers.specs.declared.linked_shares.LinkedShares.{LinkedShares}
 use Rattle.driving.specs.Links.{log_of}
 use Rattle.turns.specs.Logs.{IsServed, IsTimed, IsWorker}
 
 -- each bus by its number, where the first has the number n
-abbrev pub AreServed : {B J T : Type 0} → List BusLog → (B → BusLog) → ℕ → List (Served B J T) → Type 0
+abbrev pub AreServed : {B J T : Type 0} → List BusLog → (B → BusLog) → ℕ → List (BusWithShare B J T) → Type 0
 AreServed logs log n served = Each (λ k s. IsServed (log_of logs k) k s.share (log s.line)) n served
 
 -- each scan worker by its number, where the first has the number n

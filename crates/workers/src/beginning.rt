@@ -20,7 +20,7 @@ use plantlock::{LockStart, NotedPart, Shared, Shares};
 use seats::{LockTallies, Names, NewTallies, ThreadTally};
 use std::alloc::{AllocError, Global};
 use std::sync::OnceLock;
-use turns::{Links, Served, Timed};
+use turns::{BusWithShare, ClockWithShare, Links};
 
 /// What a run begins with.
 #[derive(Drop)]
@@ -53,7 +53,7 @@ fn room_for<X: Drop>(alloc: Global, count: usize) -> Result<Vec<X>, AllocError>
 #[derive(Drop)]
 struct Allocations<'a, B: Bus, J: LockStart + Links, N: Names> {
     thread_lists: ThreadLists<'a, B, J, ThreadTally<N>>,
-    served: Vec<Served<'a, B, J, ThreadTally<N>>>,
+    served: Vec<BusWithShare<'a, B, J, ThreadTally<N>>>,
     tallies: LockTallies<N>,
     thread_tallies: Vec<ThreadTally<N>>,
 }
@@ -147,7 +147,7 @@ pub(crate) fn begin<'a, B: Bus, C: Clock, J: LockStart + Links, N: Names>(
         linked: LinkedShares {
             buses: served,
             workers,
-            timed: Timed { clock, share },
+            timed: ClockWithShare { clock, share },
         },
         bus_lists: BusLists { lines, shares },
         thread_lists,

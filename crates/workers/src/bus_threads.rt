@@ -13,7 +13,7 @@ use seats::{Tallies, Tally};
 use std::sync::Wait;
 use std::thread::{Promise, PromisedHandle, Scope, Threads};
 use std::time::Clock as Timer;
-use turns::{Gate, Links, Served};
+use turns::{BusWithShare, Gate, Links};
 
 /// The work of a bus's worker. It is one value, so that a closure captures one.
 #[derive(Drop)]
@@ -22,7 +22,7 @@ pub(crate) struct BusTask<'s, 'a, B: Bus, J: LockStart, T: Tally, K: Tallies<T>,
     pub shared: &'s Shared<'a, J, T, K>,
     pub end: &'s End,
     pub bus: u8,
-    pub served: Served<'a, B, J, T>,
+    pub served: BusWithShare<'a, B, J, T>,
 }
 
 /// A bus comes back with what its Share has receipts for.
@@ -31,7 +31,7 @@ pub(crate) struct Serves {
     pub bus: u8,
 }
 
-impl<'a, B: Bus, J: LockStart + Links, T: Tally> Promise<Served<'a, B, J, T>> for Serves {
+impl<'a, B: Bus, J: LockStart + Links, T: Tally> Promise<BusWithShare<'a, B, J, T>> for Serves {
     ghost use Rattle.driving.specs.Links.{log_of};
     ghost use Rattle.turns.specs.Logs.{IsServed};
 
@@ -41,8 +41,8 @@ impl<'a, B: Bus, J: LockStart + Links, T: Tally> Promise<Served<'a, B, J, T>> fo
 /// A thread that serves a bus, or what became of the bus where no thread could be made.
 #[derive(Drop)]
 pub(crate) enum StartedBus<'a, B: Bus, J: LockStart + Links, T: Tally> {
-    There(PromisedHandle<Served<'a, B, J, T>, Serves>),
-    Here(Served<'a, B, J, T>),
+    There(PromisedHandle<BusWithShare<'a, B, J, T>, Serves>),
+    Here(BusWithShare<'a, B, J, T>),
 }
 
 /// Serves a bus until the end is told, or the bus goes down.
@@ -55,7 +55,7 @@ fn serve_task<
     K: Tallies<T>,
     G: Gate,
     R: Wait + Timer,
->(rt: &R, task: BusTask<'s, 'a, B, J, T, K, G>) -> Served<'a, B, J, T>
+>(rt: &R, task: BusTask<'s, 'a, B, J, T, K, G>) -> BusWithShare<'a, B, J, T>
     requires served { IsServed (log_of J.buses task.bus) task.bus task.served.share
         (B.log task.served.line) }
     ensures served { IsServed (log_of J.buses task.entry.bus) task.entry.bus result.share
@@ -122,7 +122,7 @@ pub(crate) fn finish_bus<
     J: LockStart + Links + Send + Sync,
     T: Tally + Send,
     R: Threads + Wait,
->(rt: &R, started: StartedBus<'a, B, J, T>) -> Served<'a, B, J, T>
+>(rt: &R, started: StartedBus<'a, B, J, T>) -> BusWithShare<'a, B, J, T>
     ensures { (bus : ℕ) → IsStartedBus J.buses B.log bus started.entry
         → IsServed (log_of J.buses bus) bus result.share (B.log result.line) }
 {

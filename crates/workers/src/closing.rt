@@ -17,7 +17,7 @@ use plant::Plant;
 use plantevents::{what_a_part_shows, what_a_part_shows_of_links};
 use plantlock::{Final, LockStart, Share, Shared, Shares};
 use seats::{Tallies, Tally};
-use turns::{Links, Timed};
+use turns::{ClockWithShare, Links};
 
 /// Empty lists with room for the buses and their Shares.
 #[derive(Drop)]
@@ -70,7 +70,7 @@ pub(crate) fn close<'a, B: Bus, C: Clock, J: LockStart + Links, T: Tally, K: Tal
         mut shares,
     } = bus_lists;
     take_apart(buses, &mut lines, &mut shares);
-    let Timed { clock, share } = timed;
+    let ClockWithShare { clock, share } = timed;
     let Final { plant, shares: _ } = shared.close(Shares {
         workers,
         buses: shares,

@@ -3,15 +3,15 @@
 use buslink::{Bus, Clock};
 use plantlock::{LockStart, Share};
 use seats::Tally;
-use turns::{Served, Timed};
+use turns::{BusWithShare, ClockWithShare};
 
 /// The buses and the clock with their Shares, and the Shares of the scan workers.
 #[derive(Drop)]
 pub struct LinkedShares<'a, B: Bus, C: Clock, J: LockStart, T: Tally> {
     /// The buses, by their numbers.
-    pub buses: Vec<Served<'a, B, J, T>>,
+    pub buses: Vec<BusWithShare<'a, B, J, T>>,
     /// The scan workers, by their numbers.
     pub workers: Vec<Share<'a, J, T>>,
     /// The clock.
-    pub timed: Timed<'a, C, J, T>,
+    pub timed: ClockWithShare<'a, C, J, T>,
 }

@@ -11,13 +11,13 @@ ghost use Rattle.workers.specs.LinkedShares.{AreServed};
 use buslink::Bus;
 use plantlock::{LockStart, Share};
 use seats::Tally;
-use turns::{Links, Served};
+use turns::{BusWithShare, Links};
 
 /// Puts each bus and its Share together. Both lists are empty afterwards, and keep their room.
 pub(crate) fn put_together<'a, B: Bus, J: LockStart + Links, T: Tally>(
     lines: &mut Vec<B>,
     shares: &mut Vec<Share<'a, J, T>>,
-    served: &mut Vec<Served<'a, B, J, T>>,
+    served: &mut Vec<BusWithShare<'a, B, J, T>>,
 )
     requires ready { Each (λ bus line. (share : ShareParts)
         → IsFresh J.start (roles.Bus bus) share
@@ -33,13 +33,13 @@ pub(crate) fn put_together<'a, B: Bus, J: LockStart + Links, T: Tally>(
     for _bus in 0..lines.len() {
         let line = lines.remove(0);
         let share = shares.remove(0);
-        served.push_reserved(Served { line, share });
+        served.push_reserved(BusWithShare { line, share });
     }
 }
 
 /// Takes each bus and its Share apart.
 pub(crate) fn take_apart<'a, B: Bus, J: LockStart, T: Tally>(
-    served: Vec<Served<'a, B, J, T>>,
+    served: Vec<BusWithShare<'a, B, J, T>>,
     lines: &mut Vec<B>,
     shares: &mut Vec<Share<'a, J, T>>,
 )
@@ -51,7 +51,7 @@ pub(crate) fn take_apart<'a, B: Bus, J: LockStart, T: Tally>(
 {
     let mut served = served;
     for _bus in 0..served.len() {
-        let Served { line, share } = served.remove(0);
+        let BusWithShare { line, share } = served.remove(0);
         lines.push_reserved(line);
         shares.push_reserved(share);
     }

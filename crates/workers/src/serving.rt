@@ -15,7 +15,8 @@ use std::alloc::Global;
 use std::sync::Wait;
 use std::time::Clock as Timer;
 use turns::{
-    Gate, Links, Passing, Served, Timed, Turn, hear_turn, scan_turn, send_turn, tick_once,
+    BusWithShare, ClockWithShare, Gate, Links, Passing, Turn, hear_turn, scan_turn, send_turn,
+    tick_once,
 };
 
 /// Sends what is to be sent next on a bus, and hears what came, where the end wasn't told meanwhile.
@@ -25,7 +26,7 @@ fn serve_once<'a, B: Bus, J: LockStart + Links, T: Tally, K: Tallies<T>, O: Obse
     shared: &Shared<'a, J, T, K>,
     end: &End,
     bus: u8,
-    served: &mut Served<'a, B, J, T>,
+    served: &mut BusWithShare<'a, B, J, T>,
 ) -> Result<Turn, Halt>
     requires served { IsServed (log_of J.buses bus) bus served.old.share (B.log served.old.line) }
     ensures served { IsServed (log_of J.buses bus) bus served.new.share (B.log served.new.line) }
@@ -55,7 +56,7 @@ pub fn serve_bus<
     shared: &Shared<'a, J, T, K>,
     end: &End,
     bus: u8,
-    served: &mut Served<'a, B, J, T>,
+    served: &mut BusWithShare<'a, B, J, T>,
 )
     requires served { IsServed (log_of J.buses bus) bus served.old.share (B.log served.old.line) }
     ensures served { IsServed (log_of J.buses bus) bus served.new.share (B.log served.new.line) }
@@ -67,7 +68,7 @@ pub fn serve_bus<
             return;
         }
         match serve_once(rt, &mut passing, shared, end, bus, served) {
-            Ok(Turn::Worked) => pause.begin_anew(),
+            Ok(Turn::Busy) => pause.begin_anew(),
             Ok(Turn::Idle) => pause.wait(rt),
             Ok(Turn::Down) => return,
             Err(halt) => {
@@ -106,7 +107,7 @@ pub fn serve_tasks<'a, J: LockStart, T: Tally, K: Tallies<T>, G: Gate, R: Wait +
             worker,
             share,
         ) {
-            Ok(Turn::Worked) => pause.begin_anew(),
+            Ok(Turn::Busy) => pause.begin_anew(),
             Ok(_) => pause.wait(rt),
             Err(halt) => {
                 end.tell(rt, Ended::from(halt));
@@ -134,7 +135,7 @@ pub fn serve_clock<
     gate: &G,
     shared: &Shared<'a, J, T, K>,
     end: &End,
-    timed: &mut Timed<'a, C, J, T>,
+    timed: &mut ClockWithShare<'a, C, J, T>,
 ) -> Ended
     requires timed { IsTimed J.clock timed.old.share (C.log timed.old.clock) }
     ensures timed { IsTimed J.clock timed.new.share (C.log timed.new.clock) }

@@ -15,7 +15,7 @@ use std::alloc::Global;
 use std::sync::Wait;
 use std::thread::{Scope, Threads};
 use std::time::Clock as Timer;
-use turns::{Gate, Links, Served};
+use turns::{BusWithShare, Gate, Links};
 
 /// What all workers share.
 #[derive(Drop)]
@@ -42,7 +42,7 @@ pub(crate) fn start_buses<
     rt: &'t R,
     scope: &Scope<'t, E>,
     context: &WorkerContext<'s, 'a, J, T, K, G>,
-    buses: &mut Vec<Served<'a, B, J, T>>,
+    buses: &mut Vec<BusWithShare<'a, B, J, T>>,
     started: &mut Vec<StartedBus<'a, B, J, T>>,
 )
 where
@@ -82,7 +82,7 @@ pub(crate) fn finish_buses<
     J: LockStart + Links + Send + Sync,
     T: Tally + Send,
     R: Threads + Wait,
->(rt: &R, started: &mut Vec<StartedBus<'a, B, J, T>>, buses: &mut Vec<Served<'a, B, J, T>>)
+>(rt: &R, started: &mut Vec<StartedBus<'a, B, J, T>>, buses: &mut Vec<BusWithShare<'a, B, J, T>>)
     requires none { buses.old.items ≡ [] }
     requires room { vec_len started.old ≤ vec_capacity buses.old }
     requires started { AreStartedBuses J.buses B.log started.old.items }
