@@ -70,7 +70,7 @@ impl Queues {
     }
 
     /// The least class of which a request waits.
-    pub fn least_class(&self) -> Option<Class>
+    pub(crate) fn least_class(&self) -> Option<Class>
         ensures { IsLeastClass self.now result }
     {
         if !self.user_action.is_empty() {

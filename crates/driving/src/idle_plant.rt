@@ -51,14 +51,6 @@ impl IdlePlant {
         &self.plant
     }
 
-    /// The plant, to go on with it.
-    pub fn into_plant(self) -> Plant
-        ensures plant { result ≡ self }
-        ensures idle { HasNothingOpen self }
-    {
-        self.plant
-    }
-
     /// It is this moment, in milliseconds.
     ///
     /// # Errors

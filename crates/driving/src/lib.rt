@@ -23,6 +23,6 @@ mod settling;
 pub use downs::has_down;
 pub use halt::Halt;
 pub use idle_plant::IdlePlant;
-pub use observer::{Observer, Unobserved};
+pub use observer::Observer;
 pub use serving::send_next;
 pub use settling::settle;

@@ -87,9 +87,3 @@ pub trait Observer<B> {
         Ok(())
     }
 }
-
-/// Nobody is told anything.
-#[derive(Clone, Copy)]
-pub struct Unobserved;
-
-impl<B> Observer<B> for Unobserved {}

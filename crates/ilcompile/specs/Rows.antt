@@ -1,6 +1,6 @@
 -- Worked layouts. The text has a line feed at each place, so that what is at place k stands on line k + 1.
 use Rattle.std.specs.Prelude.{◌≡◌, ℕ, pos, true, false, List, [], ◌∷◌, map, flat_map, replicate, Some}
-use Rattle.std.specs.Prelude.{None, length, ⊤}
+use Rattle.std.specs.Prelude.{None}
 use Rattle.iltypes.specs.declared.value.IlType.{IlType}
 use Rattle.iltypes.specs.declared.value.IlType.TheVariants as types
 use Rattle.iltypes.specs.declared.value.Value.{Value}
@@ -313,14 +313,3 @@ AveragingIsLaidOut =
     (types.Bool ∷ types.Bool ∷ large ∷ small ∷ small ∷ large ∷ small ∷ [])
     (kinds.Ton ∷ kinds.RTrig ∷ []) (0 ∷ []) words_of_averaging
     (16 ∷ 17 ∷ 17 ∷ 17 ∷ 18 ∷ 2 ∷ 4 ∷ 5 ∷ 6 ∷ 9 ∷ 11 ∷ 12 ∷ 13 ∷ 13 ∷ 14 ∷ []) bodies_of_averaging
-
--- each line loads a constant
-abbrev pub AreLoads : List (Line Place ℕ) → Type 0
-AreLoads [] = ⊤
-AreLoads (line ∷ lines) = ((value : Value) × (line ≡ ld 0 (Constant value))) × AreLoads lines
-
--- so many lines load a constant each, and these are the constants
-pub record LoadConstants (lines : List (Line Place ℕ)) (constants : List Value) (number : ℕ) : Type 0 where
-  pub are : AreLoads lines
-  pub all : constants ≡ different_constants lines
-  pub long : length lines ≡ number

@@ -109,7 +109,7 @@ fn begins_passed(block: Name, ts: &[Token]) -> bool
 
 /// `name ["(" argument {"," argument} ")"]`: a block instance, and what is passed to it.
 #[tactic(auto, unfolding(crate::specs::Calls::call))]
-pub fn call<'a>(
+pub(crate) fn call<'a>(
     alloc: Global,
     ts: &'a [Token],
 ) -> Result<((Name, Arguments<Symbol>), &'a [Token]), ReadError<'a, Token>>

@@ -82,7 +82,7 @@ fn begins_operand(ts: &[Token]) -> bool
 
 /// `[operand {"," operand}]`: the arguments of a call but the first, which is the current result.
 #[tactic(auto, unfolding(crate::specs::Invocations::handed))]
-pub fn handed<'a>(
+pub(crate) fn handed<'a>(
     alloc: Global,
     ts: &'a [Token],
 ) -> Result<(Vec<Operand<Symbol>>, &'a [Token]), ReadError<'a, Token>>

@@ -34,7 +34,7 @@ fn port<'a>(ts: &'a [Token]) -> Result<(Name, &'a [Token]), ReadError<'a, Token>
 }
 
 /// The name of a port and the line ends after it.
-pub fn spaced_port<'a>(ts: &'a [Token]) -> Result<(Name, &'a [Token]), ReadError<'a, Token>>
+pub(crate) fn spaced_port<'a>(ts: &'a [Token]) -> Result<(Name, &'a [Token]), ReadError<'a, Token>>
     ensures { Gives (λ x. (x.0, x.1.now)) result ((spaced port).read ts.now) }
 {
     let (found, rest) = port(ts)?;
@@ -70,7 +70,7 @@ fn dot_port<'a>(ts: &'a [Token]) -> Result<(Name, &'a [Token]), ReadError<'a, To
 
 /// `name ["." port]`: a variable, or a port of a block instance.
 #[tactic(auto, unfolding(crate::specs::Operands::symbol))]
-pub fn symbol<'a>(ts: &'a [Token]) -> Result<(Symbol, &'a [Token]), ReadError<'a, Token>>
+pub(crate) fn symbol<'a>(ts: &'a [Token]) -> Result<(Symbol, &'a [Token]), ReadError<'a, Token>>
     ensures { Gives (λ x. (x.0, x.1.now)) result (symbol.read ts.now) }
 {
     let (name, rest) = name(ts)?;
@@ -113,7 +113,9 @@ fn begins_symbol(ts: &[Token]) -> bool
 
 /// A variable, a port or a constant.
 #[tactic(auto, unfolding(crate::specs::Operands::operand))]
-pub fn operand<'a>(ts: &'a [Token]) -> Result<(Operand<Symbol>, &'a [Token]), ReadError<'a, Token>>
+pub(crate) fn operand<'a>(
+    ts: &'a [Token],
+) -> Result<(Operand<Symbol>, &'a [Token]), ReadError<'a, Token>>
     ensures { Gives (λ x. (x.0, x.1.now)) result (operand.read ts.now) }
 {
     if begins_symbol(ts) {
@@ -150,7 +152,7 @@ fn spaced_symbol<'a>(ts: &'a [Token]) -> Result<(Symbol, &'a [Token]), ReadError
 
 /// A variable, a port or a constant, with the line ends after each word and delimiter.
 #[tactic(auto, unfolding(crate::specs::Operands::spaced_operand))]
-pub fn spaced_operand<'a>(
+pub(crate) fn spaced_operand<'a>(
     ts: &'a [Token],
 ) -> Result<(Operand<Symbol>, &'a [Token]), ReadError<'a, Token>>
     ensures { Gives (λ x. (x.0, x.1.now)) result (spaced_operand.read ts.now) }

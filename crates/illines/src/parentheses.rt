@@ -41,7 +41,7 @@ fn opens(ts: &[Token]) -> bool
 
 /// `operand "," operand`
 #[tactic(auto, unfolding(crate::specs::Instructions::bounds))]
-pub fn bounds<'a>(
+pub(crate) fn bounds<'a>(
     ts: &'a [Token],
 ) -> Result<((Operand<Symbol>, Operand<Symbol>), &'a [Token]), ReadError<'a, Token>>
     ensures { Gives (λ x. (x.0, x.1.now)) result (bounds.read ts.now) }
@@ -126,7 +126,7 @@ fn on_content<'a>(
 }
 
 /// Whether `(` stands after an operator that may be deferred, where `more` may be opened.
-pub fn may_open(more: usize, operator: Operator, ts: &[Token]) -> bool
+pub(crate) fn may_open(more: usize, operator: Operator, ts: &[Token]) -> bool
     ensures opens { result ≡ may_open more operator ts.now }
     ensures some { IsTrue result → 0 < more }
 {
@@ -255,7 +255,7 @@ fn begins_inner(more: usize, ts: &[Token]) -> bool
 
 /// The content of parentheses after an operator at this place, where `more` may still be opened.
 #[cycle(nest)]
-pub fn content<'a>(
+pub(crate) fn content<'a>(
     more: usize,
     at: usize,
     pieces: &mut Vec<Piece<Symbol>>,

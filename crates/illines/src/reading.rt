@@ -12,7 +12,10 @@ use iltokens::{Delimiter, Keyword, ReadError, What};
 
 /// This reserved word.
 #[tactic(auto, unfolding(crate::specs::Terminals::word))]
-pub fn word<'a>(ts: &'a [Token], wanted: Keyword) -> Result<&'a [Token], ReadError<'a, Token>>
+pub(crate) fn word<'a>(
+    ts: &'a [Token],
+    wanted: Keyword,
+) -> Result<&'a [Token], ReadError<'a, Token>>
     ensures { Gives (λ rest. (tt, rest.now)) result ((word wanted).read ts.now) }
 {
     match ts {
@@ -52,7 +55,7 @@ pub fn begins_word(ts: &[Token], wanted: Keyword) -> bool
 
 /// This delimiter.
 #[tactic(auto, unfolding(crate::specs::Terminals::delimiter))]
-pub fn delimiter<'a>(
+pub(crate) fn delimiter<'a>(
     ts: &'a [Token],
     wanted: Delimiter,
 ) -> Result<&'a [Token], ReadError<'a, Token>>
@@ -78,7 +81,7 @@ pub fn delimiter<'a>(
 
 /// A word that is not reserved.
 #[tactic(auto, unfolding(crate::specs::Terminals::name))]
-pub fn name<'a>(ts: &'a [Token]) -> Result<(Name, &'a [Token]), ReadError<'a, Token>>
+pub(crate) fn name<'a>(ts: &'a [Token]) -> Result<(Name, &'a [Token]), ReadError<'a, Token>>
     ensures { Gives (λ x. (x.0, x.1.now)) result (name.read ts.now) }
 {
     match ts {
@@ -115,7 +118,7 @@ pub fn begins_name(ts: &[Token]) -> bool
 
 /// TRUE, FALSE, a number or a duration.
 #[tactic(auto, unfolding(crate::specs::Terminals::constant))]
-pub fn constant<'a>(ts: &'a [Token]) -> Result<(Constant, &'a [Token]), ReadError<'a, Token>>
+pub(crate) fn constant<'a>(ts: &'a [Token]) -> Result<(Constant, &'a [Token]), ReadError<'a, Token>>
     ensures { Gives (λ x. (x.0, x.1.now)) result (constant.read ts.now) }
 {
     match ts {
@@ -132,7 +135,7 @@ pub fn constant<'a>(ts: &'a [Token]) -> Result<(Constant, &'a [Token]), ReadErro
 
 /// A number.
 #[tactic(auto, unfolding(crate::specs::Terminals::number))]
-pub fn number<'a>(ts: &'a [Token]) -> Result<(i64, &'a [Token]), ReadError<'a, Token>>
+pub(crate) fn number<'a>(ts: &'a [Token]) -> Result<(i64, &'a [Token]), ReadError<'a, Token>>
     ensures { Gives (λ x. (x.0, x.1.now)) result (number.read ts.now) }
 {
     match ts {
@@ -146,7 +149,7 @@ pub fn number<'a>(ts: &'a [Token]) -> Result<(i64, &'a [Token]), ReadError<'a, T
 
 /// `)`, by its place.
 #[tactic(auto, unfolding(crate::specs::Terminals::closing))]
-pub fn closing<'a>(ts: &'a [Token]) -> Result<(usize, &'a [Token]), ReadError<'a, Token>>
+pub(crate) fn closing<'a>(ts: &'a [Token]) -> Result<(usize, &'a [Token]), ReadError<'a, Token>>
     ensures { Gives (λ x. (x.0, x.1.now)) result (closing.read ts.now) }
 {
     match ts {
@@ -160,7 +163,7 @@ pub fn closing<'a>(ts: &'a [Token]) -> Result<(usize, &'a [Token]), ReadError<'a
 
 /// Whether a line end stands first.
 #[tactic(auto, unfolding(crate::specs::Terminals::delimiter, crate::specs::Terminals::line_break))]
-pub fn begins_line_end(ts: &[Token]) -> bool
+pub(crate) fn begins_line_end(ts: &[Token]) -> bool
     ensures begins { result ≡ begins (delimiter Delimiter.LineEnd) ts.now }
     ensures breaks { result ≡ begins line_break ts.now }
     ensures some { IsTrue result → 0 < length ts.now }
@@ -191,7 +194,7 @@ pub fn line_ends(ts: &[Token]) -> &[Token]
 
 /// The end of a line, and the empty lines after it.
 #[tactic(auto, unfolding(crate::specs::Terminals::line_break))]
-pub fn line_break(ts: &[Token]) -> Result<&[Token], ReadError<'_, Token>>
+pub(crate) fn line_break(ts: &[Token]) -> Result<&[Token], ReadError<'_, Token>>
     ensures { Gives (λ rest. (tt, rest.now)) result (line_break.read ts.now) }
 {
     spaced_delimiter(ts, Delimiter::LineEnd)

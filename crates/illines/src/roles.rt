@@ -156,7 +156,7 @@ fn may_nest(role: OperatorRole) -> bool
 }
 
 /// What a token does as an operator in parentheses.
-pub fn inner_role_of(kind: TokenKind) -> Option<OperatorRole>
+pub(crate) fn inner_role_of(kind: TokenKind) -> Option<OperatorRole>
     ensures value { result ≡ inner_role_of kind }
     ensures nests { IfSome result (λ role. IsTrue (may_nest role)) }
 {

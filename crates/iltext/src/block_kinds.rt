@@ -42,7 +42,7 @@ fn kind_of(kind: TokenKind) -> Option<BlockKind>
 
 /// A kind of function block.
 #[tactic(auto, unfolding(crate::specs::Declarations::block))]
-pub fn block<'a>(ts: &'a [Token]) -> Result<(BlockKind, &'a [Token]), ReadError<'a, Token>>
+pub(crate) fn block<'a>(ts: &'a [Token]) -> Result<(BlockKind, &'a [Token]), ReadError<'a, Token>>
     ensures { Gives (λ x. (x.0, x.1.now)) result (block.read ts.now) }
 {
     match ts {
@@ -56,7 +56,7 @@ pub fn block<'a>(ts: &'a [Token]) -> Result<(BlockKind, &'a [Token]), ReadError<
 
 /// Whether the word of a kind of function block stands first.
 #[tactic(auto, unfolding(crate::specs::Declarations::instances, crate::specs::Declarations::block))]
-pub fn begins_instances(ts: &[Token]) -> bool
+pub(crate) fn begins_instances(ts: &[Token]) -> bool
     ensures { result ≡ begins instances ts.now }
 {
     match ts {

@@ -126,7 +126,7 @@ fn configuration<'a>(
 
 /// `[configuration]`
 #[tactic(auto, unfolding(crate::specs::Configurations::configuration))]
-pub fn optional_configuration<'a>(
+pub(crate) fn optional_configuration<'a>(
     alloc: Global,
     ts: &'a [Token],
 ) -> Result<(Option<Configuration>, &'a [Token]), ReadError<'a, Token>>

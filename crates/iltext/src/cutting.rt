@@ -8,7 +8,7 @@ use iltokens::{Lexed, token};
 use std::alloc::{AllocError, Global};
 
 /// The tokens of the text, up to its end or to the first byte that begins none.
-pub fn tokens(alloc: Global, text: &[u8]) -> Result<Vec<Token>, AllocError>
+pub(crate) fn tokens(alloc: Global, text: &[u8]) -> Result<Vec<Token>, AllocError>
     ensures cut { IfOk result (λ v. Cuts text.now 0 v.items) }
     ensures within { IfOk result (λ v. All (λ t. t.from ≤ length text.now) v.items) }
 {

@@ -122,7 +122,7 @@ fn begins_simple(ts: &[Token]) -> bool
 
 /// The type that is written.
 #[tactic(auto, unfolding(crate::specs::Declarations::specification))]
-pub fn specification<'a>(
+pub(crate) fn specification<'a>(
     ts: &'a [Token],
 ) -> Result<(Specification, &'a [Token]), ReadError<'a, Token>>
     ensures { Gives (λ x. (x.0, x.1.now)) result (specification.read ts.now) }
@@ -158,7 +158,7 @@ fn initial<'a>(ts: &'a [Token]) -> Result<(Option<Constant>, &'a [Token]), ReadE
 
 /// `specification [":=" constant] ";"`
 #[tactic(auto, unfolding(crate::specs::Declarations::typing))]
-pub fn typing<'a>(
+pub(crate) fn typing<'a>(
     ts: &'a [Token],
 ) -> Result<((Specification, Option<Constant>), &'a [Token]), ReadError<'a, Token>>
     ensures { Gives (λ x. (x.0, x.1.now)) result (typing.read ts.now) }
@@ -171,7 +171,7 @@ pub fn typing<'a>(
 
 /// `name ":" specification [":=" constant] ";"`
 #[tactic(auto, unfolding(crate::specs::Declarations::type_declaration))]
-pub fn type_declaration<'a>(
+pub(crate) fn type_declaration<'a>(
     ts: &'a [Token],
 ) -> Result<(TypeDeclaration, &'a [Token]), ReadError<'a, Token>>
     ensures { Gives (λ x. (x.0, x.1.now)) result (type_declaration.read ts.now) }
@@ -214,7 +214,7 @@ fn next_name<'a>(ts: &'a [Token]) -> Result<(Name, &'a [Token]), ReadError<'a, T
 
 /// `{"," name}`, after a first name.
 #[tactic(auto, unfolding(crate::specs::Declarations::names_after))]
-pub fn names_after<'a>(
+pub(crate) fn names_after<'a>(
     alloc: Global,
     first: Name,
     ts: &'a [Token],
@@ -234,7 +234,7 @@ pub fn names_after<'a>(
 
 /// `name {"," name}`
 #[tactic(auto, unfolding(crate::specs::Declarations::names))]
-pub fn names<'a>(
+pub(crate) fn names<'a>(
     alloc: Global,
     ts: &'a [Token],
 ) -> Result<(Vec<Name>, &'a [Token]), ReadError<'a, Token>>
@@ -246,7 +246,7 @@ pub fn names<'a>(
 
 /// Whether a name stands first, with which declarations begin.
 #[tactic(auto, unfolding(crate::specs::Declarations::declaration, crate::specs::Declarations::names, crate::specs::Declarations::external, crate::specs::Globals::global, crate::specs::Declarations::type_declaration, crate::specs::Texts::derived_type))]
-pub fn begins_declaration(ts: &[Token]) -> bool
+pub(crate) fn begins_declaration(ts: &[Token]) -> bool
     ensures variables { result ≡ begins declaration ts.now }
     ensures externals { result ≡ begins external ts.now }
     ensures globals { result ≡ begins global ts.now }
@@ -317,7 +317,7 @@ fn declarations<'a>(
 
 /// `VAR {declaration} END_VAR`
 #[tactic(auto, unfolding(crate::specs::Declarations::vars))]
-pub fn vars<'a>(
+pub(crate) fn vars<'a>(
     alloc: Global,
     ts: &'a [Token],
 ) -> Result<(Vec<Declaration>, &'a [Token]), ReadError<'a, Token>>
@@ -382,7 +382,7 @@ fn var_external<'a>(
 
 /// Whether a VAR block stands first.
 #[tactic(auto, unfolding(crate::specs::Declarations::vars, illines::specs::Terminals::word))]
-pub fn begins_vars(ts: &[Token]) -> bool
+pub(crate) fn begins_vars(ts: &[Token]) -> bool
     ensures { result ≡ begins vars ts.now }
 {
     begins_word(ts, Keyword::Var)
@@ -390,7 +390,7 @@ pub fn begins_vars(ts: &[Token]) -> bool
 
 /// A VAR or VAR_EXTERNAL block.
 #[tactic(auto, unfolding(crate::specs::Declarations::variables))]
-pub fn variables<'a>(
+pub(crate) fn variables<'a>(
     alloc: Global,
     ts: &'a [Token],
 ) -> Result<(Vec<Declaration>, &'a [Token]), ReadError<'a, Token>>
@@ -405,7 +405,7 @@ pub fn variables<'a>(
 
 /// Whether a VAR or VAR_EXTERNAL block stands first.
 #[tactic(auto, unfolding(crate::specs::Declarations::variables, crate::specs::Declarations::vars, crate::specs::Declarations::var_external, illines::specs::Terminals::word))]
-pub fn begins_variables(ts: &[Token]) -> bool
+pub(crate) fn begins_variables(ts: &[Token]) -> bool
     ensures { result ≡ begins variables ts.now }
 {
     begins_word(ts, Keyword::Var) || begins_word(ts, Keyword::VarExternal)

@@ -164,7 +164,7 @@ fn place_at(text: &[u8], rest: &[Token]) -> usize
 }
 
 /// The fault at the first of the tokens that are left, after those before it.
-pub fn fault_at(text: &[u8], before: &[Token], rest: &[Token]) -> TextFault
+pub(crate) fn fault_at(text: &[u8], before: &[Token], rest: &[Token]) -> TextFault
     requires { place_at text.now rest.now ≤ length text.now }
     ensures { Reports text.now before.now rest.now result }
 {

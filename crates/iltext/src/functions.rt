@@ -16,7 +16,7 @@ use std::alloc::Global;
 
 /// With what a function begins.
 #[derive(Clone, Copy)]
-pub struct FunctionHead {
+pub(crate) struct FunctionHead {
     /// The place of the word FUNCTION.
     pub at: usize,
     pub name: Name,
@@ -131,7 +131,7 @@ fn own_variables<'a>(
 
 /// `head VAR_INPUT {input} END_VAR [VAR {declaration} END_VAR] {line} END_FUNCTION`
 #[tactic(auto, unfolding(crate::specs::Functions::function))]
-pub fn function<'a>(
+pub(crate) fn function<'a>(
     alloc: Global,
     ts: &'a [Token],
 ) -> Result<(Function, &'a [Token]), ReadError<'a, Token>>

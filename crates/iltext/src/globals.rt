@@ -139,7 +139,7 @@ fn begins_var_global(ts: &[Token]) -> bool
 }
 
 /// `{var_global}`, as one list.
-pub fn global_blocks<'a>(
+pub(crate) fn global_blocks<'a>(
     alloc: Global,
     ts: &'a [Token],
 ) -> Result<(Vec<GlobalDeclaration>, &'a [Token]), ReadError<'a, Token>>

@@ -210,7 +210,10 @@ type TextParts = (Vec<Element>, Option<Configuration>);
 
 /// The types, functions and programs that the tokens spell, and the configuration.
 #[tactic(auto, unfolding(crate::specs::Texts::text))]
-pub fn whole_text<'a>(alloc: Global, ts: &'a [Token]) -> Result<TextParts, ReadError<'a, Token>>
+pub(crate) fn whole_text<'a>(
+    alloc: Global,
+    ts: &'a [Token],
+) -> Result<TextParts, ReadError<'a, Token>>
     ensures { Gives (λ x. (x.0.items, x.1)) result (whole_read text ts.now) }
 {
     let rest = line_ends(ts);

@@ -133,7 +133,7 @@ fn begins_task(ts: &[Token]) -> bool
 }
 
 /// `{task}`
-pub fn tasks<'a>(
+pub(crate) fn tasks<'a>(
     alloc: Global,
     ts: &'a [Token],
 ) -> Result<(Vec<TaskDeclaration>, &'a [Token]), ReadError<'a, Token>>
@@ -192,7 +192,7 @@ fn begins_program_instance(ts: &[Token]) -> bool
 }
 
 /// `{program_instance}`
-pub fn program_instances<'a>(
+pub(crate) fn program_instances<'a>(
     alloc: Global,
     ts: &'a [Token],
 ) -> Result<(Vec<InstanceDeclaration>, &'a [Token]), ReadError<'a, Token>>

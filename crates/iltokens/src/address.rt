@@ -27,7 +27,7 @@ fn kind_at(bytes: &[u8]) -> Option<(AddressKind, &[u8])>
 
 /// An address at the front: its kind, bus and place, and what stands after it.
 #[derive(Clone, Copy)]
-pub struct LeadingAddress<'a> {
+pub(crate) struct LeadingAddress<'a> {
     pub kind: AddressKind,
     pub bus: u64,
     pub place: u64,
@@ -36,7 +36,7 @@ pub struct LeadingAddress<'a> {
 
 /// The address at the front.
 #[tactic(auto, unfolding(crate::specs::AddressSteps::address))]
-pub fn direct_address(bytes: &[u8]) -> Option<LeadingAddress<'_>>
+pub(crate) fn direct_address(bytes: &[u8]) -> Option<LeadingAddress<'_>>
     ensures exact { address_view result ≡ address bytes.now }
     ensures within { IfSome result (λ x. length x.rest.now < length bytes.now) }
 {

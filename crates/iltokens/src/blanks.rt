@@ -44,7 +44,7 @@ fn blank_at(bytes: &[u8]) -> Blank<'_>
 
 /// What stands after the blanks at the front; an `Err` has what stands from the `(*` on of a
 /// comment without end.
-pub fn blanks(bytes: &[u8]) -> Result<&[u8], &[u8]>
+pub(crate) fn blanks(bytes: &[u8]) -> Result<&[u8], &[u8]>
     ensures exact { both_views result ≡ blanks bytes.now }
     ensures within { MatchResult result
         (λ rest. length rest.now ≤ length bytes.now)

@@ -7,7 +7,7 @@ ghost use Rattle.iltokens.specs.DigitSteps.{digits_from, digits, plain_from, pla
 ghost use Rattle.iltokens.specs.Views.{valued, value_view};
 
 /// The value of a digit of any base up to 16, in either letter case; 16 for another byte.
-pub fn digit_of(byte: u8) -> u8
+pub(crate) fn digit_of(byte: u8) -> u8
     ensures { result ≡ digit_of byte }
 {
     if b'0' <= byte && byte <= b'9' {
@@ -23,7 +23,7 @@ pub fn digit_of(byte: u8) -> u8
 
 /// Whether `byte` is a digit of this base.
 #[tactic(auto, unfolding(crate::specs::Digits::is_digit))]
-pub fn is_digit(base: u8, byte: u8) -> bool
+pub(crate) fn is_digit(base: u8, byte: u8) -> bool
     ensures { result ≡ is_digit base byte }
 {
     digit_of(byte) < base
@@ -31,7 +31,7 @@ pub fn is_digit(base: u8, byte: u8) -> bool
 
 /// The value with one more digit.
 #[tactic(auto, unfolding(crate::specs::DigitSteps::add_digit))]
-pub fn add_digit(base: u8, value: u64, byte: u8) -> u64
+pub(crate) fn add_digit(base: u8, value: u64, byte: u8) -> u64
     ensures { result ≡ add_digit base value byte }
 {
     value
@@ -86,7 +86,7 @@ fn digits_from(base: u8, value: u64, bytes: &[u8]) -> (u64, &[u8])
 
 /// The value of the digits at the front, with single underscores between them, and what stands
 /// after them.
-pub fn digits(base: u8, bytes: &[u8]) -> Option<(u64, &[u8])>
+pub(crate) fn digits(base: u8, bytes: &[u8]) -> Option<(u64, &[u8])>
     ensures exact { valued result ≡ digits base bytes.now }
     ensures within { IfSome result (λ x. length x.1.now < length bytes.now) }
 {
@@ -118,7 +118,7 @@ fn plain_from(value: u64, bytes: &[u8]) -> (u64, &[u8])
 }
 
 /// The value of the decimal digits at the front, without underscores, and what stands after them.
-pub fn plain(bytes: &[u8]) -> Option<(u64, &[u8])>
+pub(crate) fn plain(bytes: &[u8]) -> Option<(u64, &[u8])>
     ensures exact { valued result ≡ plain bytes.now }
     ensures within { IfSome result (λ x. length x.1.now < length bytes.now) }
 {

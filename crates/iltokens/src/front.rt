@@ -14,7 +14,7 @@ use crate::spelling::{after_name, is_letter};
 use crate::time::time;
 
 /// What stands at the front.
-pub enum Front<'a> {
+pub(crate) enum Front<'a> {
     End,
     /// A token, and what stands after it.
     Token(What, &'a [u8]),
@@ -126,7 +126,7 @@ fn delimiter_at(bytes: &[u8]) -> Front<'_>
 
 /// The token at the front, where no blank stands.
 #[tactic(auto, unfolding(crate::specs::FrontSteps::front_at))]
-pub fn front_at(bytes: &[u8]) -> Front<'_>
+pub(crate) fn front_at(bytes: &[u8]) -> Front<'_>
     ensures exact { front_view result ≡ front_at bytes.now }
     ensures within { IsShorter result (length bytes.now) }
 {

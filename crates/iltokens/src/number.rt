@@ -22,7 +22,7 @@ fn based(bytes: &[u8]) -> Option<(u64, &[u8])>
 
 /// The number at the front, without a sign, and what stands after it.
 #[tactic(auto, unfolding(crate::specs::NumberSteps::unsigned))]
-pub fn unsigned(bytes: &[u8]) -> Option<(u64, &[u8])>
+pub(crate) fn unsigned(bytes: &[u8]) -> Option<(u64, &[u8])>
     ensures exact { valued result ≡ unsigned bytes.now }
     ensures within { IfSome result (λ x. length x.1.now < length bytes.now) }
 {
@@ -34,7 +34,7 @@ pub fn unsigned(bytes: &[u8]) -> Option<(u64, &[u8])>
 
 /// The number with this sign, where it fits 64 signed bits.
 #[tactic(auto, unfolding(crate::specs::NumberSteps::signed))]
-pub fn signed(negative: bool, magnitude: u64) -> Option<i64>
+pub(crate) fn signed(negative: bool, magnitude: u64) -> Option<i64>
     ensures { result ≡ signed negative magnitude }
 {
     if magnitude < 1 << 63 {

@@ -6,21 +6,21 @@ ghost use Rattle.iltokens.specs.WordSteps.{after_name, after_word};
 ghost use Rattle.iltokens.specs.Views.{seen};
 
 /// Whether a name may begin with `byte`.
-pub fn is_letter(byte: u8) -> bool
+pub(crate) fn is_letter(byte: u8) -> bool
     ensures { result ≡ is_letter byte }
 {
     byte.is_ascii_alphabetic() || byte == b'_'
 }
 
 /// Whether a name may go on with `byte`.
-pub fn is_name_byte(byte: u8) -> bool
+pub(crate) fn is_name_byte(byte: u8) -> bool
     ensures { result ≡ is_name_byte byte }
 {
     byte.is_ascii_alphanumeric() || byte == b'_'
 }
 
 /// What stands after the letters, digits and underscores at the front.
-pub fn after_name(bytes: &[u8]) -> &[u8]
+pub(crate) fn after_name(bytes: &[u8]) -> &[u8]
     ensures exact { result.now ≡ after_name bytes.now }
     ensures within { length result.now ≤ length bytes.now }
 {
@@ -34,7 +34,7 @@ pub fn after_name(bytes: &[u8]) -> &[u8]
 }
 
 /// What stands after `word`, which is in lower case, in any letter case.
-pub fn after_word<'a>(word: &[u8], bytes: &'a [u8]) -> Option<&'a [u8]>
+pub(crate) fn after_word<'a>(word: &[u8], bytes: &'a [u8]) -> Option<&'a [u8]>
     ensures exact { seen result ≡ after_word word.now bytes.now }
     ensures within { IfSome result (λ rest. length rest.now ≤ length bytes.now) }
 {

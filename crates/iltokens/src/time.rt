@@ -11,7 +11,7 @@ use crate::spelling::after_word;
 
 /// The units, each of which stands at most once, in falling order.
 #[derive(Clone, Copy, PartialEq, Eq)]
-pub enum Unit {
+pub(crate) enum Unit {
     Day,
     Hour,
     Minute,
@@ -19,7 +19,7 @@ pub enum Unit {
     Millisecond,
 }
 
-pub fn milliseconds(unit: Unit) -> u64
+pub(crate) fn milliseconds(unit: Unit) -> u64
     ensures { result ≡ milliseconds unit }
 {
     match unit {
@@ -133,7 +133,7 @@ fn after_prefix(bytes: &[u8]) -> Option<&[u8]>
 
 /// The duration at the front in milliseconds, and what stands after it.
 #[tactic(auto, unfolding(crate::specs::TimeSteps::time))]
-pub fn time(bytes: &[u8]) -> Option<(u64, &[u8])>
+pub(crate) fn time(bytes: &[u8]) -> Option<(u64, &[u8])>
     ensures exact { valued result ≡ time bytes.now }
     ensures within { IfSome result (λ x. length x.1.now < length bytes.now) }
 {

@@ -228,7 +228,7 @@ impl Plant {
     }
 
     /// Whether a tick to this moment is possible, and else why not.
-    pub fn allows_tick(&self, moment: u64) -> Result<(), CallRefusal>
+    pub(crate) fn allows_tick(&self, moment: u64) -> Result<(), CallRefusal>
         ensures refused { GivesFirst (tick_cases self.now moment) result }
         ensures allowed { OnOk result ((last_moment self.now.history ≤ moment)
             × (is_full_for roles.Clock self.now ≡ false)) }
@@ -299,7 +299,7 @@ impl Plant {
     }
 
     /// Whether a frame of a bus may be heard, and else why not.
-    pub fn allows_frame(&self, bus: u8) -> Result<(), CallRefusal>
+    pub(crate) fn allows_frame(&self, bus: u8) -> Result<(), CallRefusal>
         ensures refused { GivesFirst (heard_cases self.now bus) result }
         ensures up { OnOk result (IsUp self.now.plant self.now.history bus) }
         ensures room { OnOk result (is_full_for (roles.Bus bus) self.now ≡ false) }

@@ -31,14 +31,7 @@ impl Model for RunningScan {
 }
 
 impl RunningScan {
-    /// The place of its Take in the history, which is the number of the scan.
-    pub fn place(&self) -> u64
-        ensures value { result ≡ self.now.place }
-    {
-        self.place
-    }
-
-    /// Whether this is its number.
+    /// Whether this is its number: the place of its Take in the history.
     pub fn has_number(&self, number: u64) -> bool
         ensures value { IsTrue result ↔ (number ≡ self.now.place) }
     {

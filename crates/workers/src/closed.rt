@@ -74,7 +74,7 @@ impl<B: Bus, C: Clock> Closed<B, C> {
     }
 
     /// Its parts, to do something else with them.
-    pub fn into_parts(self) -> ClosedParts<B, C>
+    pub(crate) fn into_parts(self) -> ClosedParts<B, C>
         ensures value { result ≡ self }
         ensures left { IsLeft B.log C.log self }
     {

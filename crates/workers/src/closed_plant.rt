@@ -29,7 +29,7 @@ impl Model for ClosedPlant {
 
 impl ClosedPlant {
     /// The plant, to read it.
-    pub fn as_plant(&self) -> &Plant
+    pub(crate) fn as_plant(&self) -> &Plant
         ensures plant { result.now ≡ self.now }
         ensures idle { HasNothingOpen self.now }
     {
@@ -37,7 +37,7 @@ impl ClosedPlant {
     }
 
     /// The plant, to go on with it.
-    pub fn into_plant(self) -> Plant
+    pub(crate) fn into_plant(self) -> Plant
         ensures plant { result ≡ self }
         ensures idle { HasNothingOpen self }
     {

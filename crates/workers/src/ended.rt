@@ -33,7 +33,7 @@ impl From<Halt> for Ended {
 
 /// Whether the end was told, and why. All workers read it.
 #[derive(Drop)]
-pub struct End {
+pub(crate) struct End {
     told: OnceLock<Ended>,
 }
 

@@ -7,7 +7,7 @@ use turns::{BusWithShare, ClockWithShare};
 
 /// The buses and the clock with their Shares, and the Shares of the scan workers.
 #[derive(Drop)]
-pub struct LinkedShares<'a, B: Bus, C: Clock, J: LockStart, T: Tally> {
+pub(crate) struct LinkedShares<'a, B: Bus, C: Clock, J: LockStart, T: Tally> {
     /// The buses, by their numbers.
     pub buses: Vec<BusWithShare<'a, B, J, T>>,
     /// The scan workers, by their numbers.

@@ -42,7 +42,7 @@ fn serve_once<'a, B: Bus, J: LockStart + Links, T: Tally, K: Tallies<T>, O: Obse
 }
 
 /// Serves a bus until the end is told, or the bus goes down.
-pub fn serve_bus<
+pub(crate) fn serve_bus<
     'a,
     B: Bus,
     J: LockStart + Links,
@@ -81,7 +81,7 @@ pub fn serve_bus<
 }
 
 /// Scans what is ready until the end is told.
-pub fn serve_tasks<'a, J: LockStart, T: Tally, K: Tallies<T>, G: Gate, R: Wait + Timer>(
+pub(crate) fn serve_tasks<'a, J: LockStart, T: Tally, K: Tallies<T>, G: Gate, R: Wait + Timer>(
     rt: &R,
     alloc: Global,
     gate: &G,
@@ -122,7 +122,7 @@ pub fn serve_tasks<'a, J: LockStart, T: Tally, K: Tallies<T>, G: Gate, R: Wait +
 /// told an end, that is why. Where it answers `Asked`, the clock was asked here and came to its end.
 /// It is never idle, since each answer is a moment or the end: it sleeps the shortest time after
 /// each moment. The gate is told of each moment.
-pub fn serve_clock<
+pub(crate) fn serve_clock<
     'a,
     C: Clock,
     J: LockStart + Links,

@@ -5,7 +5,7 @@ ghost use Rattle.limits.specs.Limits.{AreTries, most_total};
 ghost use Rattle.ilimage.specs.Images.{Global as GlobalVariable};
 ghost use Rattle.busqueue.specs.Queues.{class_number};
 ghost use Rattle.plantevents.specs.Plants.{activator, tries_of};
-ghost use Rattle.plantevents.specs.Histories.{frames, hand, heards, is_down, scan, scans};
+ghost use Rattle.plantevents.specs.Histories.{frames, hand, heards, is_down, scans};
 ghost use Rattle.plantevents.specs.Readiness.{lost};
 ghost use Rattle.plantevents.specs.Variables.{value};
 ghost use Rattle.plantevents.specs.Waiting.{dropped, waiting};
@@ -101,18 +101,6 @@ impl Plant {
         ensures value { result ≡ is_down bus self.now.history }
     {
         self.buses[usize::from(bus)].is_down()
-    }
-
-    /// The number and the task of the scan that a worker has open.
-    pub fn open_scan(&self, worker: usize) -> Option<(u64, usize)>
-        requires { worker < self.now.plant.workers }
-        ensures value { result
-            ≡ option_map (λ running. (running.place, running.task)) (scan worker self.now.history) }
-    {
-        match &self.scans[worker] {
-            Some(running) => Some((running.place(), running.task())),
-            None => None,
-        }
     }
 
     /// The number of the transaction that a bus has open.

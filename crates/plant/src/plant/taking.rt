@@ -68,14 +68,6 @@ impl Plant {
         Ok(task)
     }
 
-    /// Whether a worker may take a task, and else why not.
-    pub fn allows_take(&self, worker: usize) -> Result<(), CallRefusal>
-        ensures refused { GivesFirst (take_cases self.now worker) result }
-    {
-        self.task_for(worker)?;
-        Ok(())
-    }
-
     /// What an event task takes in place of the image's values.
     fn overrides_for(&self, alloc: Global, task: usize) -> Result<Vec<Override>, AllocError>
         requires { task < length self.now.plant.plan.tasks }
