@@ -12,7 +12,7 @@ use ilranges::Cause;
 use ilscope::NameFault;
 use iltext::TextFault;
 use listing::{TaskNames, functions_in, write_deepest_calls, write_longest_calls};
-use namecauses::answer_name;
+use namecauses::{OtherFaults, answer_name};
 use plantload::{LoadFault, RefusedTask};
 use std::alloc::Global;
 use std::io;
@@ -63,7 +63,7 @@ fn explain_text<W: Write>(
     }
 }
 
-/// Explains a fault of names.
+/// Explains a fault of names, the least, and names the others.
 fn explain_name<W: Write>(
     alloc: Global,
     out: &mut W,
@@ -77,8 +77,31 @@ fn explain_name<W: Write>(
             let answer = answer_name(alloc, asked, at, *cause)?;
             write_place(out, asked.path, *line, *col)?;
             write!(out, "name fault {}: ", cause.number())?;
-            write_at(out, asked, *line, *col, &answer)
+            write_at(out, asked, *line, *col, &answer)?;
+            write_others(
+                out,
+                asked,
+                &OtherFaults::of(alloc, asked, *line, *col, *cause)?,
+            )
         }
+    }
+}
+
+/// Writes the other faults of names, a line each, and how many more there are.
+fn write_others<W: Write>(out: &mut W, asked: &Asked, others: &OtherFaults) -> io::Result<()> {
+    if others.named.is_empty() {
+        return Ok(());
+    }
+    writeln!(out)?;
+    for fault in &others.named {
+        write_place(out, asked.path, fault.line, fault.col)?;
+        let cause = fault.cause.number();
+        writeln!(out, "name fault {cause}: {}", fault.what.as_str())?;
+    }
+    match others.more {
+        0 => Ok(()),
+        1 => writeln!(out, "1 more fault of names"),
+        more => writeln!(out, "{more} more faults of names"),
     }
 }
 

@@ -1,7 +1,7 @@
 //! What is said of an address of something that is not there.
 
-use crate::name_answers::is_cure;
 use crate::name_causes::advice_of;
+use crate::said::Said;
 use curing::{Answer, Asked, Edit, Example, Spot};
 use ilscope::NameCause;
 use iltokens::{AddressKind, Lexed, What, token};
@@ -62,19 +62,19 @@ pub(crate) fn answer_address(
     alloc: Global,
     asked: &Asked,
     spot: &Spot,
-) -> Result<Answer, AllocError> {
+) -> Result<Said, AllocError> {
     let Some(located) = located_at(spot) else {
-        return no_trigger(alloc);
+        return Ok(Said::plain(alloc, no_trigger(alloc)?));
     };
     if located.bus >= u64::from(asked.binding.buses()) {
-        return no_bus(alloc, asked, located);
+        return Ok(Said::plain(alloc, no_bus(alloc, asked, located)?));
     }
     if located.place > located.most() {
-        return no_place(alloc, located);
+        return Ok(Said::plain(alloc, no_place(alloc, located)?));
     }
     match located.source() {
         Some((number, added)) => no_source(alloc, asked, spot, located, number, added),
-        None => Answer::of(alloc, advice_of(NameCause::BadAddress)),
+        None => Said::of(alloc, advice_of(NameCause::BadAddress)),
     }
 }
 
@@ -178,7 +178,7 @@ fn no_source(
     located: Located,
     number: u64,
     added: u64,
-) -> Result<Answer, AllocError> {
+) -> Result<Said, AllocError> {
     let bus = located.bus;
     let answer = Answer {
         what: format!(in alloc; "there is no source {bus}.{number}")?,
@@ -186,10 +186,7 @@ fn no_source(
         cure: String::from_str(alloc, source_cure(asked.is_bound))?,
         example: Example::Other(format!(in alloc; "source {bus}.{number} device-instance 5 2")?),
     };
-    match source_edit(alloc, asked, spot, located, added)? {
-        Some(edit) => answer.with_tried(alloc, asked.text, &edit),
-        None => Ok(answer),
-    }
+    Ok(Said::with_edits(answer, source_edits(alloc, asked, spot, located, added)?))
 }
 
 /// What helps against a source that is not there.
@@ -226,23 +223,21 @@ fn sources_told(alloc: Global, asked: &Asked) -> Result<String, AllocError> {
     Ok(text)
 }
 
-/// The address of a source of the binding in place of this one, where that helps.
-fn source_edit(
+/// The addresses of sources of the binding in place of this one.
+fn source_edits(
     alloc: Global,
     asked: &Asked,
     spot: &Spot,
     located: Located,
     added: u64,
-) -> Result<Option<Edit>, AllocError> {
+) -> Result<Vec<Edit>, AllocError> {
     let word = located.word();
+    let mut edits = Vec::new(alloc);
     for bound in asked.binding.sources().iter().take(MOST_TOLD) {
         let bus = bound.bus;
         let place = u64::from(bound.number).saturating_add(added);
         let with = format!(in alloc; "{word}{bus}.{place}")?;
-        let edit = Edit::new(alloc, spot.at, spot.found_to(), with.as_bytes())?;
-        if is_cure(alloc, asked, &edit)? {
-            return Ok(Some(edit));
-        }
+        edits.push(Edit::new(alloc, spot.at, spot.found_to(), with.as_bytes())?)?;
     }
-    Ok(None)
+    Ok(edits)
 }

@@ -1,6 +1,6 @@
 //! What is said of bad declarations.
 
-use crate::name_answers::is_cure;
+use crate::said::Said;
 use curing::{Advice, Answer, Asked, Edit, Spot, line_number, line_of, part, shown};
 use ilsource::{
     Configuration, Constant, Declaration, Declared, Element, GlobalDeclaration, Name, Source,
@@ -78,10 +78,10 @@ pub(crate) fn answer_declaration(
     asked: &Asked,
     source: &Source,
     spot: &Spot,
-) -> Result<Option<Answer>, AllocError> {
+) -> Result<Option<Said>, AllocError> {
     if let Some(configuration) = source.configuration() {
         if let Some(task) = task_at(configuration, spot.at) {
-            return Ok(Some(Answer::of(alloc, of_task(task))?));
+            return Ok(Some(Said::of(alloc, of_task(task))?));
         }
         if let Some(global) = global_at(configuration, spot.at) {
             return of_advice(alloc, of_global(global));
@@ -98,9 +98,9 @@ pub(crate) fn answer_declaration(
 }
 
 /// What advice says, where there is one.
-fn of_advice(alloc: Global, advice: Option<Advice>) -> Result<Option<Answer>, AllocError> {
+fn of_advice(alloc: Global, advice: Option<Advice>) -> Result<Option<Said>, AllocError> {
     match advice {
-        Some(advice) => Ok(Some(Answer::of(alloc, advice)?)),
+        Some(advice) => Ok(Some(Said::of(alloc, advice)?)),
         None => Ok(None),
     }
 }
@@ -112,7 +112,7 @@ fn of_declaration(
     source: &Source,
     spot: &Spot,
     declaration: &Declaration,
-) -> Result<Option<Answer>, AllocError> {
+) -> Result<Option<Said>, AllocError> {
     match declaration.declared() {
         Declared::External(_) => different(alloc, asked, source, spot),
         Declared::Variables {
@@ -187,7 +187,7 @@ fn different(
     asked: &Asked,
     source: &Source,
     spot: &Spot,
-) -> Result<Option<Answer>, AllocError> {
+) -> Result<Option<Said>, AllocError> {
     let Some(name) = global_named(source, spot) else {
         return Ok(None);
     };
@@ -199,11 +199,7 @@ fn different(
     let (from, to) = type_behind(asked.text, spot.at);
     let (first, last) = type_behind(asked.text, name.from);
     let edit = Edit::new(alloc, from, to, part(asked.text, first, last))?;
-    if is_cure(alloc, asked, &edit)? {
-        Ok(Some(answer.with_tried(alloc, asked.text, &edit)?))
-    } else {
-        Ok(Some(answer))
-    }
+    Ok(Some(Said::with_edit(alloc, answer, edit)?))
 }
 
 /// The global variable that has the name at a place.

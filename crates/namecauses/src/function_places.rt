@@ -1,5 +1,8 @@
 //! What stands at a place of a text, where functions are concerned.
 
+use crate::all_faults::lower_case;
+use crate::faults_of_lines::uses_of;
+use ilscope::Names;
 use ilsource::{
     Declaration, Declared, Element, Function, Line, Name, Operand, Purpose, Source, Symbol, Use,
 };
@@ -43,7 +46,6 @@ pub(crate) fn standing_of(
     source: &Source,
     at: usize,
 ) -> Result<Option<Standing>, AllocError> {
-    let depths = depths(alloc, source)?;
     let mut number: usize = 0;
     for element in source.elements() {
         match element {
@@ -53,8 +55,14 @@ pub(crate) fn standing_of(
                 }
             }
             Element::Function(function) => {
-                let depth = depth_at(&depths, number);
-                if let Some(found) = standing_in(alloc, function, number, depth, at)? {
+                if function.name().from == at {
+                    return Ok(Some(Standing::Function {
+                        number,
+                        inputs: function.inputs().len(),
+                        depth: depth_at(&depths(alloc, source)?, number),
+                    }));
+                }
+                if let Some(found) = standing_in(alloc, function, at)? {
                     return Ok(Some(found));
                 }
                 number = number.saturating_add(1);
@@ -84,22 +92,12 @@ fn shared(source: &Source, name: Name) -> Option<Standing> {
     None
 }
 
-/// What stands at a place of a function of this number and depth, if it is one of its names.
+/// What stands at a place behind a function's name, if it is one of its names.
 fn standing_in(
     alloc: Global,
     function: &Function,
-    number: usize,
-    depth: usize,
     at: usize,
 ) -> Result<Option<Standing>, AllocError> {
-    if function.name().from == at {
-        let inputs = function.inputs().len();
-        return Ok(Some(Standing::Function {
-            number,
-            inputs,
-            depth,
-        }));
-    }
     if let Some(number) = input_at(function, at) {
         return Ok(Some(Standing::Input { number }));
     }
@@ -163,48 +161,41 @@ fn place_of(found: &Use<Symbol>) -> Option<usize> {
 
 /// How deep each function is.
 fn depths(alloc: Global, source: &Source) -> Result<Vec<usize>, AllocError> {
+    let text = source.text();
     let mut depths = Vec::new(alloc);
-    let mut names = Vec::new(alloc);
+    let mut numbers = Names::new(alloc);
     for element in source.elements() {
         if let Element::Function(function) = element {
-            let below = deepest_called(alloc, source.text(), function, &names, &depths)?;
+            let below = deepest_called(alloc, text, function, &numbers, &depths)?;
+            numbers.add(
+                alloc,
+                &lower_case(alloc, function.name().text(text))?,
+                depths.len(),
+            )?;
             depths.push(below.saturating_add(1))?;
-            names.push(function.name())?;
         }
     }
     Ok(depths)
 }
 
 /// The depth of the deepest function that a function calls, 0 where it calls none of those above,
-/// which have these names and depths.
+/// which have these numbers and depths.
 fn deepest_called(
     alloc: Global,
     text: &[u8],
     function: &Function,
-    names: &[Name],
+    numbers: &Names<usize>,
     depths: &[usize],
 ) -> Result<usize, AllocError> {
     let mut deepest: usize = 0;
-    for line in function.lines() {
-        let mut uses = Vec::new(alloc);
-        line.push_uses(&mut uses)?;
-        for found in &uses {
-            if let Operand::Name(Symbol::Function(called)) = found.operand {
-                deepest = deepest.max(depth_of(text, called, names, depths));
+    for found in &uses_of(alloc, function.lines())? {
+        if let Operand::Name(Symbol::Function(called)) = found.operand {
+            if let Some(number) = numbers.get(&lower_case(alloc, called.text(text))?) {
+                deepest = deepest.max(depth_at(depths, number));
             }
         }
     }
     Ok(deepest)
-}
-
-/// The depth of the first of these functions that has the name, 0 where none has.
-fn depth_of(text: &[u8], called: Name, names: &[Name], depths: &[usize]) -> usize {
-    for number in 0..names.len() {
-        if names[number].is_same(called, text) {
-            return depth_at(depths, number);
-        }
-    }
-    0
 }
 
 /// The depth of the function of this number.

@@ -1,6 +1,6 @@
 //! Names and words that are near to one that is not declared.
 
-use crate::name_answers::is_cure;
+use crate::said::is_cure;
 use curing::{Asked, Edit, Spot, is_near, near_word, part};
 use iltokens::{Lexed, What, token};
 use std::alloc::{AllocError, Global};

@@ -1,7 +1,8 @@
 //! Names that are not declared, by where they stand: ports, blocks, global variables, types.
 
 use crate::declarations::type_behind;
-use curing::{Advice, Answer, Example, Spot, Surroundings, part, shown};
+use crate::said::Said;
+use curing::{Advice, Answer, Edit, Example, Spot, Surroundings, part, shown};
 use ilblocks::BlockKind;
 use ilsource::{Declaration, Declared, Element, Name, Source};
 use iltokens::{Delimiter, Keyword, Lexed, What, token};
@@ -44,60 +45,30 @@ const NO_INSTRUCTION: Advice = Advice {
     line: "LD light",
 };
 
-/// What is said of a name, by where it stands.
-#[derive(Drop)]
-pub(crate) struct Scoped {
-    pub answer: Answer,
-    /// What to write before it, where that may help.
-    pub before: &'static str,
-    /// Whether something else has the name.
-    pub is_declared: bool,
-}
-
-impl Scoped {
-    /// What advice says of a name that nothing has.
-    fn unknown(alloc: Global, advice: Advice) -> Result<Option<Scoped>, AllocError> {
-        Ok(Some(Scoped {
-            answer: Answer::of(alloc, advice)?,
-            before: "",
-            is_declared: false,
-        }))
-    }
-
-    /// What is said of a name that something else has.
-    fn declared(answer: Answer, before: &'static str) -> Option<Scoped> {
-        Some(Scoped {
-            answer,
-            before,
-            is_declared: true,
-        })
-    }
-}
-
 /// What is said of a name that is not declared, by where it stands.
 pub(crate) fn answer_scope(
     alloc: Global,
     source: &Source,
     spot: &Spot,
-) -> Result<Option<Scoped>, AllocError> {
+) -> Result<Option<Said>, AllocError> {
     let around = Surroundings::of(spot.text, spot.at);
     let next = token_at(spot.text, spot.found_to());
     if around.is_in_configuration() && around.block.is_none() {
-        return Scoped::unknown(alloc, IN_CONFIGURATION);
+        return Ok(Some(Said::with_near(Answer::of(alloc, IN_CONFIGURATION)?)));
     }
     if around.block.is_some() && is_type(spot, &around) {
-        return Scoped::unknown(alloc, NO_TYPE);
+        return Ok(Some(Said::with_near(Answer::of(alloc, NO_TYPE)?)));
     }
     let declarations = declarations_at(source, spot.at);
     if next == Some(What::Delimiter(Delimiter::Dot)) {
         if let Some(kind) = block_named(declarations, spot, spot.found()) {
-            return Ok(Scoped::declared(no_port(alloc, kind)?, ""));
+            return Ok(Some(Said::plain(alloc, no_port(alloc, kind)?)));
         }
     }
     if next == Some(What::Delimiter(Delimiter::Assign)) && around.open > 0 {
         let called = part(spot.text, around.from, spot.at);
         if let Some(kind) = called_block(declarations, spot, called) {
-            return Ok(Scoped::declared(no_port(alloc, kind)?, ""));
+            return Ok(Some(Said::plain(alloc, no_port(alloc, kind)?)));
         }
     }
     of_variable(alloc, source, spot, declarations)
@@ -109,29 +80,38 @@ fn of_variable(
     source: &Source,
     spot: &Spot,
     declarations: &[Declaration],
-) -> Result<Option<Scoped>, AllocError> {
+) -> Result<Option<Said>, AllocError> {
+    let is_first = spot.first_word() == spot.found();
     if block_named(declarations, spot, spot.found()).is_some() {
-        let is_first = spot.first_word() == spot.found();
-        let (advice, before) = if is_first {
-            (NO_CALL, "CAL ")
+        return if is_first {
+            with_word(alloc, spot, NO_CALL, "CAL ")
         } else {
-            (NO_VARIABLE, "")
+            Ok(Some(Said::of(alloc, NO_VARIABLE)?))
         };
-        return Ok(Scoped::declared(Answer::of(alloc, advice)?, before));
     }
     if is_named(declarations, spot) {
-        let is_first = spot.first_word() == spot.found();
-        let (advice, before) = if is_first {
-            (NO_INSTRUCTION, "LD ")
+        return if is_first {
+            with_word(alloc, spot, NO_INSTRUCTION, "LD ")
         } else {
-            (NO_BLOCK, "")
+            Ok(Some(Said::of(alloc, NO_BLOCK)?))
         };
-        return Ok(Scoped::declared(Answer::of(alloc, advice)?, before));
     }
     match global_named(source, spot) {
-        Some(name) => Ok(Scoped::declared(no_external(alloc, spot, name)?, "")),
+        Some(name) => Ok(Some(Said::plain(alloc, no_external(alloc, spot, name)?))),
         None => Ok(None),
     }
+}
+
+/// What advice says, with a word before what was found.
+fn with_word(
+    alloc: Global,
+    spot: &Spot,
+    advice: Advice,
+    word: &str,
+) -> Result<Option<Said>, AllocError> {
+    let edit = Edit::new(alloc, spot.at, spot.at, word.as_bytes())?;
+    let answer = Answer::of(alloc, advice)?;
+    Ok(Some(Said::with_edit(alloc, answer, edit)?))
 }
 
 /// Whether a type stands at a place in a block of variables: behind a colon.

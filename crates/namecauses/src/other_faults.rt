@@ -1,0 +1,107 @@
+//! The faults of names of a text besides the one that is explained.
+
+use crate::all_faults::all_faults;
+use crate::name_answers::what_of;
+use curing::{Asked, place_of};
+use ilscope::{Found, NameCause, NameFault, report_of};
+use ilsource::Source;
+use iltext::parse;
+use std::alloc::{AllocError, Global};
+
+/// How many faults are named at most.
+const MOST_NAMED: usize = 20;
+
+/// The faults of names of a text besides the one that is explained.
+#[derive(Drop)]
+pub struct OtherFaults {
+    /// The first of them, in the order of the text.
+    pub named: Vec<NamedFault>,
+    /// How many more there are.
+    pub more: usize,
+}
+
+/// A fault of names with its place, of which line and column count from 1.
+#[derive(Drop)]
+pub struct NamedFault {
+    pub line: usize,
+    pub col: usize,
+    pub cause: NameCause,
+    /// What is wrong.
+    pub what: String,
+}
+
+impl OtherFaults {
+    /// Those of a text behind the fault at this place, which is the least. Where it is not found to
+    /// be the least there is none, so that no fault is named that the text does not have.
+    ///
+    /// # Errors
+    ///
+    /// The allocator is out of memory.
+    pub fn of(
+        alloc: Global,
+        asked: &Asked,
+        line: usize,
+        col: usize,
+        cause: NameCause,
+    ) -> Result<OtherFaults, AllocError> {
+        // The text was parsed before, so that memory alone is refused here.
+        let Ok(source) = parse(alloc, asked.text) else {
+            return Err(AllocError);
+        };
+        let first = Found {
+            at: place_of(asked.text, line, col),
+            cause,
+        };
+        let found = all_faults(alloc, &source, asked.binding)?;
+        let is_least = is_least(first, &found);
+        let mut all = OtherFaults {
+            named: Vec::new(alloc),
+            more: 0,
+        };
+        for other in &found {
+            if is_least && !is_same(*other, first) {
+                all.add(alloc, asked, &source, *other)?;
+            }
+        }
+        Ok(all)
+    }
+
+    /// One more: named where there is room.
+    fn add(
+        &mut self,
+        alloc: Global,
+        asked: &Asked,
+        source: &Source,
+        found: Found,
+    ) -> Result<(), AllocError> {
+        if self.named.len() < MOST_NAMED {
+            if let NameFault::At { line, col, cause } = report_of(asked.text, found) {
+                self.named.push(NamedFault {
+                    line,
+                    col,
+                    cause,
+                    what: what_of(alloc, asked, source, found.at, cause)?,
+                })?;
+            }
+        } else {
+            self.more = self.more.saturating_add(1);
+        }
+        Ok(())
+    }
+}
+
+/// Whether a fault is the first of some in the order of the text. One of what is too much is not
+/// looked for, so that it stands before them or is none of theirs.
+fn is_least(fault: Found, found: &[Found]) -> bool {
+    let Some(first) = found.first() else {
+        return false;
+    };
+    is_same(*first, fault)
+        || fault.cause == NameCause::TooMany
+            && (fault.at, fault.cause.number()) < (first.at, first.cause.number())
+}
+
+/// Whether both are one fault.
+fn is_same(one: Found, other: Found) -> bool {
+    one.at == other.at && one.cause == other.cause
+}
