@@ -157,7 +157,8 @@ fn add_instance(
     faults.add_where(is_unknown, instance.program.from, NameCause::Unknown)
 }
 
-/// Adds the faults of externals: of those that name no global variable, and of those of another type.
+/// Adds the faults of externals: of those that name no global variable, and of those of another
+/// type.
 pub(crate) fn add_externals(
     faults: &mut Faults,
     scope: &Scope,

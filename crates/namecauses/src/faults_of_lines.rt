@@ -45,8 +45,8 @@ pub(crate) fn add_uses(
     Ok(())
 }
 
-/// Where the fault of a symbol stands: that of a port at the block's name, but as an argument at its
-/// own.
+/// Where the fault of a symbol stands: that of a port at the block's name, but as an argument at
+/// its own.
 fn place_of(purpose: Purpose, symbol: Symbol) -> usize {
     match symbol {
         Symbol::Port { block, port } => match purpose {
@@ -59,8 +59,8 @@ fn place_of(purpose: Purpose, symbol: Symbol) -> usize {
     }
 }
 
-/// Adds the faults of lines as such: of labels and jumps, of ports that one call gives again, and of
-/// calls of functions with a wrong number of operands.
+/// Adds the faults of lines as such: of labels and jumps, of ports that one call gives again, and
+/// of calls of functions with a wrong number of operands.
 pub(crate) fn add_lines(
     alloc: Global,
     faults: &mut Faults,
