@@ -13,6 +13,9 @@ use Rattle.plantload.specs.declared.fault.LoadFault.{LoadFault}
 use Rattle.answers.specs.Connected.{IsConnected}
 use Rattle.commands.specs.declared.beginning.Beginning.{Beginning}
 use Rattle.commands.specs.declared.reading.DiskFault.{DiskFault}
+use Rattle.commands.specs.declared.reading.DiskFault.TheVariants.{Memory, Failed}
+use Rattle.commands.specs.declared.serving.Unserved.{Unserved}
+use Rattle.commands.specs.declared.serving.Unserved.TheVariants.{NotRead, NotWritten, NotPrinted}
 
 -- the text's setup, or the one that begins with these values
 abbrev pub IsBegunWith : Wiring → List ℕ → Option (List KeptEntry) → Loaded → Type 0
@@ -54,12 +57,23 @@ AreUsed binding text file (Some kept) = IsFileOf text file kept
 AreUsed binding text None None = ⊤
 AreUsed binding text (Some bytes) None = IsUnusable text bytes ⊎ AreRefused binding text bytes
 
--- the file of kept values, where one is named: what the disk gave for it, or nothing where it isn't read
+-- the file of kept values, where one is named: what the disk gave for it, or nothing where the disk failed to, and not
+-- for lack of memory
 abbrev pub IsKeepRead : (List ℕ → List ℕ → Type 0) → (List ℕ → DiskFault → Type 0) → Option (List ℕ) → Option (List ℕ)
     → Type 0
 IsKeepRead gives fails None file = file ≡ None
 IsKeepRead gives fails (Some path) (Some bytes) = gives path bytes
-IsKeepRead gives fails (Some path) None = (why : DiskFault) × fails path why
+IsKeepRead gives fails (Some path) None = fails path Failed
+
+-- memory was refused while the file of kept values, which is named, was read
+abbrev pub IsKeepStarved : (List ℕ → DiskFault → Type 0) → Option (List ℕ) → List ℕ → DiskFault → Type 0
+IsKeepStarved fails named path why = (named ≡ Some path) × (why ≡ Memory) × fails path Memory
+
+-- that is reported
+abbrev pub IsKeepUnread : (List ℕ → DiskFault → Type 0) → Option (List ℕ) → Unserved → Type 0
+IsKeepUnread fails named (NotRead path why) = IsKeepStarved fails named path.now why
+IsKeepUnread fails named (NotWritten path why) = ⊥
+IsKeepUnread fails named (NotPrinted error) = ⊥
 
 -- what the files of a building hold
 pub record LiveBytes : Type 0 where

@@ -24,14 +24,14 @@ use Rattle.commands.specs.declared.living.Halted.TheVariants as halts
 use Rattle.commands.specs.declared.reading.DiskFault.{DiskFault}
 use Rattle.commands.specs.declared.serving.Unserved.{Unserved}
 use Rattle.commands.specs.declared.serving.Unserved.TheVariants.{NotRead, NotWritten, NotPrinted}
-use Rattle.commands.specs.Beginnings.{AreUsed, HasBegun, IsBegunUnder, IsKeepRead, tree_of}
+use Rattle.commands.specs.Beginnings.{AreUsed, HasBegun, IsBegunUnder, IsKeepRead, IsKeepStarved, tree_of}
 use Rattle.commands.specs.Plays.{IsStopUnder}
 use Rattle.commands.specs.declared.beginning.Beginning.{Beginning}
 
 -- The plant of the text's setup under the binding, which begins with the values of a file of kept ones where there is
--- one, ran on the lines that these words name, which were open and greeted, with so many scan workers and events of a run. What it leaves: a legal history of all its runs, in which nothing is
--- open, in which lines and clock sent, gave and took what it says (HasLived); and each scan came to what the source
--- program means of the snapshot that it took.
+-- one, ran on the lines that these words name, which were open and greeted, with so many scan workers and events of a
+-- run. What it leaves: a legal history of all its runs, in which nothing is open, in which lines and clock sent, gave
+-- and took what it says (HasLived); and each scan came to what the source program means of the snapshot that it took.
 pub record IsLivedOut {B C : Type 0} (binding text : List ℕ) (file : Option (List ℕ)) (bus_log : B → BusLog)
     (clock_log : C → ClockLog) (words : List LineWord) (size : RunSize) (left : Lived B C) : Type 0 where
   pub setup : Loaded
@@ -99,15 +99,19 @@ pub record IsLiveServed {B C : Type 0} (gives : List ℕ → List ℕ → Type 0
   pub file_read : IsKeepRead gives fails (option_map (λ path. path.now) options.beside.keep) file
   pub end : IsLiveEnd binding text file refuses bus_log clock_log words options.size came_to
 
--- the binding isn't read; or it is, and the text isn't
-abbrev pub IsFirstLiveUnread : (List ℕ → List ℕ → Type 0) → (List ℕ → DiskFault → Type 0) → LiveFiles → List ℕ → DiskFault
-    → Type 0
-IsFirstLiveUnread gives fails files path why =
+-- the binding isn't read; or it is, and the text isn't; or both are, and memory was refused while the file of kept
+-- values was read
+abbrev pub IsFirstLiveUnread : (List ℕ → List ℕ → Type 0) → (List ℕ → DiskFault → Type 0) → LiveFiles
+    → Option (List ℕ) → List ℕ → DiskFault → Type 0
+IsFirstLiveUnread gives fails files keep path why =
     ((path ≡ files.binding.now) × fails path why)
-    ⊎ (((binding : List ℕ) × gives files.binding.now binding) × (path ≡ files.text.now) × fails path why)
+    ⊎ (((binding : List ℕ) × gives files.binding.now binding)
+    × (((path ≡ files.text.now) × fails path why)
+    ⊎ (((text : List ℕ) × gives files.text.now text) × IsKeepStarved fails keep path why)))
 
 -- the first of the named files that isn't read is reported; of a failure of the writer nothing is said
-abbrev pub IsLiveUnread : (List ℕ → List ℕ → Type 0) → (List ℕ → DiskFault → Type 0) → LiveFiles → Unserved → Type 0
-IsLiveUnread gives fails files (NotRead path why) = IsFirstLiveUnread gives fails files path.now why
-IsLiveUnread gives fails files (NotWritten path why) = ⊥
-IsLiveUnread gives fails files (NotPrinted error) = ⊤
+abbrev pub IsLiveUnread : (List ℕ → List ℕ → Type 0) → (List ℕ → DiskFault → Type 0) → LiveFiles → Option (List ℕ)
+    → Unserved → Type 0
+IsLiveUnread gives fails files keep (NotRead path why) = IsFirstLiveUnread gives fails files keep path.now why
+IsLiveUnread gives fails files keep (NotWritten path why) = ⊥
+IsLiveUnread gives fails files keep (NotPrinted error) = ⊤

@@ -3,9 +3,11 @@
 ghost use Rattle.std.specs.Prelude.{◌≡◌, ℕ, List, Option, None, IfErr, IfOk, option_map};
 ghost use Rattle.commands.specs.Plays.{IsSetupUnder, IsStopUnder};
 ghost use Rattle.commands.specs.Beginnings.{AreUsed, IsBegunUnder, IsFileOf, IsKeepRead};
+ghost use Rattle.commands.specs.Beginnings.{IsKeepUnread};
 
 use crate::pages::setup_of;
-use crate::reading::Disk;
+use crate::reading::{Disk, DiskFault};
+use crate::serving::Unserved;
 use answers::{Stop, binding_of};
 use ilcompile::Setup;
 use keeping::{Kept, KeptFault, LeftOut};
@@ -52,14 +54,32 @@ impl fmt::Display for KeptNote {
     }
 }
 
-/// What the disk gives for the file of kept values, where one is named and read.
-pub(crate) fn kept_at<D: Disk>(alloc: Global, disk: &D, path: Option<&str>) -> Option<Vec<u8>>
-    ensures { IsKeepRead (D.gives disk.now) (D.fails disk.now) (option_map (λ path. path.now) path.entry)
-        (option_map (λ bytes. bytes.items) result) }
+/// What the disk gives for the file of kept values, where one is named. One that can't be read
+/// counts as none.
+///
+/// # Errors
+///
+/// Memory is refused while it is read.
+pub(crate) fn kept_at<'a, D: Disk>(
+    alloc: Global,
+    disk: &D,
+    path: Option<&'a str>,
+) -> Result<Option<Vec<u8>>, Unserved<'a>>
+    ensures read { IfOk result (λ file. IsKeepRead (D.gives disk.now) (D.fails disk.now)
+        (option_map (λ path. path.now) path.entry) (option_map (λ bytes. bytes.items) file)) }
+    ensures unread { IfErr result (IsKeepUnread (D.fails disk.now)
+        (option_map (λ path. path.now) path.entry)) }
 {
-    match disk.read(alloc, path?) {
-        Ok(bytes) => Some(bytes),
-        Err(_) => None,
+    let Some(path) = path else {
+        return Ok(None);
+    };
+    match disk.read(alloc, path) {
+        Ok(bytes) => Ok(Some(bytes)),
+        Err(DiskFault::Failed) => Ok(None),
+        Err(DiskFault::Memory) => Err(Unserved::NotRead {
+            path,
+            why: DiskFault::Memory,
+        }),
     }
 }
 

@@ -1,6 +1,6 @@
 //! Running a building: its files are read, its lines opened, and what it came to is printed.
 
-ghost use Rattle.std.specs.Prelude.{◌≡◌, ℕ, List, Option, IfErr, IfOk};
+ghost use Rattle.std.specs.Prelude.{◌≡◌, ℕ, List, Option, IfErr, IfOk, option_map};
 ghost use Rattle.commands.specs.Plays.{IsStopUnder};
 ghost use Rattle.commands.specs.Beginnings.{HasBegun};
 ghost use Rattle.commands.specs.Buildings.{IsHalted, IsLiveEnd, IsLiveServed, IsLiveUnread, IsLivedOut};
@@ -103,13 +103,14 @@ pub struct Grounds<'g, S: Site, N: Notice> {
     pub notice: &'g N,
 }
 
-/// Reads the files that are named, the binding before the text, opens the lines of the buses, runs
-/// the building and prints what it came to; the writer, which then has every line, and what it came
-/// to.
+/// Reads the files that are named, the binding before the text and that before the kept values, opens
+/// the lines of the buses, runs the building and prints what it came to; the writer, which then has
+/// every line, and what it came to.
 ///
 /// # Errors
 ///
-/// The first file that isn't read, or the writer's error.
+/// The first file that isn't read, where kept values count only for lack of memory; or the writer's
+/// error.
 pub fn serve_live<
     'a,
     D: Disk,
@@ -130,12 +131,13 @@ pub fn serve_live<
     ensures live { IfOk result (λ done. IsLiveServed (D.gives disk.now) (D.fails disk.now)
         (S.refuses grounds.now.site.now) S.Line.log S.Clock.log files.entry lines.now options.now
         done.1) }
-    ensures unread { IfErr result (IsLiveUnread (D.gives disk.now) (D.fails disk.now) files.entry) }
+    ensures unread { IfErr result (IsLiveUnread (D.gives disk.now) (D.fails disk.now) files.entry
+        (option_map (λ path. path.now) options.now.beside.keep)) }
 {
     let pages = LivePages {
         binding: bytes_at(alloc, disk, files.binding)?,
         text: bytes_at(alloc, disk, files.text)?,
-        kept: kept_at(alloc, disk, options.beside.keep),
+        kept: kept_at(alloc, disk, options.beside.keep)?,
     };
     Ok(print(rt, alloc, grounds, to, &pages, lines, options)?)
 }
