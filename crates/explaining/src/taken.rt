@@ -2,7 +2,7 @@
 
 use ilcode::{Code, Word};
 use ilranges::after_word;
-use listing::{Flow, Judged};
+use ilverify::{Pass, Passed};
 use std::alloc::{AllocError, Global};
 
 /// What is known of the ways from a word.
@@ -23,22 +23,23 @@ const UNREACHED: Ways = Ways {
 /// The ways from each word up to one.
 pub(crate) fn ways_up_to(alloc: Global, code: &Code, word: usize) -> Result<Vec<Ways>, AllocError> {
     let mut ways = Vec::new(alloc);
-    let mut flow = Flow::new(alloc, code)?;
+    let mut pass = Pass::begin(alloc, code)?;
     for place in 0..word.saturating_add(1) {
-        ways.push(ways_from(code, &flow, place))?;
-        if flow.advance(code)? != Judged::Accepted {
+        ways.push(ways_from(code, &pass, place))?;
+        let Passed::On(next) = pass.advance()? else {
             return Ok(ways);
-        }
+        };
+        pass = next;
     }
     Ok(ways)
 }
 
-/// The ways from the word to which a flow has come.
-fn ways_from(code: &Code, flow: &Flow, place: usize) -> Ways {
+/// The ways from the word to which a pass has come.
+fn ways_from(code: &Code, pass: &Pass, place: usize) -> Ways {
     if place >= code.len() {
         return UNREACHED;
     }
-    let Some(entry) = flow.entry() else {
+    let Some(entry) = pass.entry() else {
         return UNREACHED;
     };
     let word = code.word(place);

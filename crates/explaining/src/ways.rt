@@ -5,7 +5,8 @@ use curing::{Spot, part, place_of, shown};
 use ilcode::{Code, Word};
 use ilranges::Entry;
 use iltokens::{Keyword, Lexed, What, token};
-use listing::{Flow, Judged, KnownText, TaskNames, WordText};
+use ilverify::{Pass, Passed};
+use listing::{KnownText, TaskNames, WordText};
 use std::alloc::{AllocError, Global};
 use std::io;
 use std::io::Write;
@@ -26,15 +27,16 @@ pub(crate) fn write_way<W: Write>(
     let ways = ways_up_to(alloc, code, word)?;
     let way = way_to(alloc, code, &ways, word)?;
     writeln!(out, "the way there, with what is known before each word:")?;
-    let mut flow = Flow::new(alloc, code)?;
+    let mut pass = Pass::begin(alloc, code)?;
     for place in 0..word.saturating_add(1) {
         if way.contains(&place) {
-            write_step(alloc, out, names, text, &flow)?;
+            write_step(alloc, out, names, text, &pass)?;
             write_meeting(out, code, &ways, place)?;
         }
-        if flow.advance(code)? != Judged::Accepted {
+        let Passed::On(next) = pass.advance()? else {
             return Ok(());
-        }
+        };
+        pass = next;
     }
     Ok(())
 }
@@ -58,21 +60,21 @@ fn way_to(
     Ok(way)
 }
 
-/// Writes the word to which a flow has come, with what is known before it.
+/// Writes the word to which a pass has come, with what is known before it.
 fn write_step<W: Write>(
     alloc: Global,
     out: &mut W,
     names: &TaskNames,
     text: &[u8],
-    flow: &Flow,
+    pass: &Pass,
 ) -> io::Result<()> {
-    let Some(word) = names.code.get(flow.place()) else {
+    let Some(word) = names.code.get(pass.place()) else {
         return Ok(());
     };
-    let line = line_at(names.code, flow.place());
+    let line = line_at(names.code, pass.place());
     let spelled = spelled(alloc, names, text, word, line)?;
     write!(out, "{line:>6} | {spelled:<24}  ")?;
-    match flow.entry() {
+    match pass.entry() {
         Some(entry) => write_known(out, names, word, entry),
         None => writeln!(out),
     }

@@ -10,6 +10,7 @@ mod PassForward
 mod PassGrowth
 mod PassPending
 mod PassWays
+mod Passings
 mod Placed
 mod Raises
 pub mod Refusals

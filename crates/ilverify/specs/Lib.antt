@@ -1,8 +1,10 @@
+pub mod BeforeWords
 pub mod BoundSteps
 pub mod CallSteps
 pub mod Calls
 pub mod Certificates
 pub mod PassSteps
+pub mod Passes
 pub mod Printed
 pub mod RequestSteps
 pub mod Requests

@@ -17,12 +17,16 @@
 mod bound;
 mod calls;
 mod pass;
+mod passed;
+mod passing;
 mod refusal;
 mod requests;
 mod through;
 mod verified;
 mod verifier;
 
+pub use passed::Passed;
+pub use passing::Pass;
 pub use refusal::{Refusal, VerifyError};
 pub use verified::Verified;
 pub use verifier::verify;

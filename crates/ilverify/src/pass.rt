@@ -7,7 +7,7 @@
 //! (`IsFound`). Entries share the ranges that no word between them has changed.
 
 ghost use Rattle.std.specs.Prelude.{◌≡◌, ◌+◌, ◌<◌, length, slice_get, replicate, Some, None};
-ghost use Rattle.std.specs.Prelude.{IfOk, OnOk, MatchOption};
+ghost use Rattle.std.specs.Prelude.{IfOk, IfSome, OnOk, MatchOption};
 ghost use Rattle.limits.specs.Limits.{most_words};
 ghost use Rattle.ilcode.specs.Listings.{IsLawful, start_of, end_of, body_at};
 ghost use Rattle.ilranges.specs.Changes.{changed, ways_of};
@@ -171,16 +171,17 @@ fn follow_ways(
 }
 
 /// Judges the word at the place, where it is reached, and follows the ways from it.
-fn advance(
+pub(crate) fn advance(
     code: &Code,
     pending: &mut Vec<Option<Entry>>,
     place: usize,
 ) -> Result<Option<Refusal>, AllocError>
     requires within { place < length code.now.instructions }
     requires found { IsFound code.now place pending.old.items }
-    ensures { IfOk result (λ refusal. MatchOption refusal
+    ensures judged { IfOk result (λ refusal. MatchOption refusal
         (IsFound code.now (place + 1) pending.new.items)
         (IsRangeRefusal code.now)) }
+    ensures here { IfOk result (λ refusal. IfSome refusal (λ refusal. refusal.word ≡ place)) }
 {
     let Some(entry) = pending[place].take() else {
         return Ok(None);
@@ -227,7 +228,7 @@ fn begin_body(
 }
 
 /// The entries that are kept before the first word: what is known at first where each body begins.
-fn begin(alloc: Global, code: &Code) -> Result<Vec<Option<Entry>>, AllocError>
+pub(crate) fn begin(alloc: Global, code: &Code) -> Result<Vec<Option<Entry>>, AllocError>
     ensures { IfOk result (λ pending. IsFound code.now 0 pending.items) }
 {
     let mut pending = unreached(alloc, code.len())?;

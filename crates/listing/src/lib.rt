@@ -22,9 +22,7 @@ mod chains;
 mod contents;
 mod current;
 mod facts;
-mod flow;
 mod globals;
-mod joining;
 mod knowing;
 mod level_notes;
 mod levels;
@@ -48,7 +46,6 @@ mod uses;
 mod words;
 
 pub use chains::{write_deepest_calls, write_longest_calls};
-pub use flow::{Flow, Judged};
 pub use knowing::KnownText;
 pub use load::write_load;
 pub use notes::{write_notes, write_played_notes};

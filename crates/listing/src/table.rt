@@ -3,7 +3,6 @@
 ghost use Rattle.std.specs.Prelude.{◌<◌, length};
 
 use crate::bodies::{write_bound, write_functions_at};
-use crate::flow::{Flow, Judged};
 use crate::knowing::KnownText;
 use crate::paths::{Counted, Most, most_at, most_at_target, most_in, most_on_paths};
 use crate::stars::{is_marked, longest_path};
@@ -12,6 +11,7 @@ use crate::words::WordText;
 use ilcode::Word;
 use ilcompile::Setup;
 use iltypes::Condition;
+use ilverify::{Pass, Passed};
 use std::alloc::Global;
 use std::io;
 use std::io::Write;
@@ -84,13 +84,14 @@ fn write_table<W: Write>(
 
 /// Writes a line for each word, and one before the words of each function.
 fn write_words<W: Write>(out: &mut W, table: &Table) -> io::Result<()> {
-    let mut flow = Flow::new(table.alloc, table.names.code)?;
+    let mut pass = Pass::begin(table.alloc, table.names.code)?;
     for place in 0..table.names.code.len() {
         write_functions_at(out, table.names, table.most, place)?;
-        write_word(out, table, &flow, place)?;
-        if flow.advance(table.names.code)? != Judged::Accepted {
+        write_word(out, table, &pass, place)?;
+        let Passed::On(next) = pass.advance()? else {
             return Ok(());
-        }
+        };
+        pass = next;
     }
     write_functions_at(out, table.names, table.most, table.names.code.len())
 }
@@ -101,7 +102,7 @@ fn left_at(table: &Table, body: usize, place: usize) -> u32 {
 }
 
 /// Writes the line of a word.
-fn write_word<W: Write>(out: &mut W, table: &Table, flow: &Flow, place: usize) -> io::Result<()> {
+fn write_word<W: Write>(out: &mut W, table: &Table, pass: &Pass, place: usize) -> io::Result<()> {
     let Some(word) = table.names.code.get(place) else {
         return Ok(());
     };
@@ -113,7 +114,7 @@ fn write_word<W: Write>(out: &mut W, table: &Table, flow: &Flow, place: usize) -
     };
     let text = format!(in alloc; "{text}")?;
     write!(out, "{text:<24}  ")?;
-    write_known(out, table, flow, word)?;
+    write_known(out, table, pass, word)?;
     write_ways(out, table, place, word)?;
     writeln!(out)
 }
@@ -131,8 +132,8 @@ fn write_numbers<W: Write>(out: &mut W, table: &Table, place: usize) -> io::Resu
 }
 
 /// Writes what is known before a word.
-fn write_known<W: Write>(out: &mut W, table: &Table, flow: &Flow, word: Word) -> io::Result<()> {
-    match flow.entry() {
+fn write_known<W: Write>(out: &mut W, table: &Table, pass: &Pass, word: Word) -> io::Result<()> {
+    match pass.entry() {
         Some(entry) => {
             let known = KnownText {
                 names: table.names,

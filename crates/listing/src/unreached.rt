@@ -1,12 +1,12 @@
 //! Notes on words: those that no scan reaches, and those that make requests.
 
 use crate::bodies::write_function;
-use crate::flow::{Flow, Judged};
 use crate::paths::most_requests;
 use crate::stars::{is_marked, mark};
 use crate::task_names::{TaskNames, functions_in};
 use crate::uses::line_at;
 use ilcompile::Setup;
+use ilverify::{Pass, Passed};
 use std::alloc::Global;
 use std::io;
 use std::io::Write;
@@ -48,17 +48,18 @@ fn write_unreached_of<W: Write>(
     names: &TaskNames,
     told: &[bool],
 ) -> io::Result<()> {
-    let mut flow = Flow::new(alloc, names.code)?;
+    let mut pass = Pass::begin(alloc, names.code)?;
     let mut was_reached = true;
     for place in 0..names.code.len() {
-        let is_reached = flow.entry().is_some();
+        let is_reached = pass.entry().is_some();
         if was_reached && !is_reached {
             write_line(out, names, told, place)?;
         }
         was_reached = is_reached;
-        if flow.advance(names.code)? != Judged::Accepted {
+        let Passed::On(next) = pass.advance()? else {
             return Ok(());
-        }
+        };
+        pass = next;
     }
     Ok(())
 }

@@ -12,8 +12,8 @@ use Rattle.ilverify.proofs.PassForward.{refused}
 use Rattle.ilverify.proofs.PassPending.{found_skipped, found_next, rest_bounded, rest_same}
 use Rattle.ilverify.proofs.pass.advance.Goals as goal
 
-pub returns-in_default : goal.returns-in_default
-returns-in_default c =
+pub returns-in_default-clause-judged : goal.returns-in_default-clause-judged
+returns-in_default-clause-judged c =
     let code = c.args.code.now in
     let pending = c.args.pending.now.items in
     let n = c.args.place in
@@ -42,8 +42,8 @@ follow_ways-requires-clause-bounded c =
     subst (λ (x : Option Entry). AreBounded code n (slice_set pending n x)) (sym c.take.ensures.after)
     (rest_bounded code n pending c.requires.found.bounded)
 
-pub returns-in_ok-follow_ways-in-Ok : goal.returns-in_ok-follow_ways-in-Ok
-returns-in_ok-follow_ways-in-Ok c =
+pub returns-in_ok-follow_ways-in-Ok-clause-judged : goal.returns-in_ok-follow_ways-in-Ok-clause-judged
+returns-in_ok-follow_ways-in-Ok-clause-judged c =
     let code = c.args.code.now in
     let pending = c.args.pending.now.items in
     let n = c.args.place in
@@ -65,8 +65,8 @@ returns-in_ok-follow_ways-in-Ok c =
     (e ∙ ap Some c.in-Some.is)
     c.word-word.ensures.value rule ways
 
-pub returns-in-Err : goal.returns-in-Err
-returns-in-Err c =
+pub returns-in-Err-clause-judged : goal.returns-in-Err-clause-judged
+returns-in-Err-clause-judged c =
     let code = c.args.code.now in
     let pending = c.args.pending.now.items in
     let n = c.args.place in
