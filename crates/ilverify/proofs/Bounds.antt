@@ -4,36 +4,29 @@ use Rattle.std.proofs.Common.{Option, Some, None, refl, sym, ap, ◌∙◌, subs
 use Rattle.std.specs.Prelude.{IsTrue, slice_get, min, max, if◌then◌else◌}
 use Rattle.std.proofs.Math.Nat.{le_refl}
 use Rattle.std.proofs.lemmas.Bool.{cases_lt}
-use Rattle.limits.specs.Limits.{most_steps}
 use Rattle.iltypes.specs.declared.condition.Condition.TheVariants.{Always, IfTrue, IfFalse}
 use Rattle.ilcode.specs.declared.word.Word.{Word}
 use Rattle.ilcode.specs.declared.word.Word.TheVariants as words
 use Rattle.ilcode.specs.Listings.{Listing, IsLawful, IsIn, end_of, start_of}
 use Rattle.ilcode.specs.Paths.{PathCall, path_call, Standing, standing, body_on, land, IsWord, IsJumpTo, LeadsTo}
-use Rattle.ilcode.specs.Paths.{IsNext, AreNext, IsPath, IsBound, IsTooLong}
+use Rattle.ilcode.specs.Paths.{IsNext, AreNext}
 use Rattle.ilcode.specs.Steps.{is_target}
 use Rattle.ilverify.specs.declared.through.Counted.TheVariants.{Words}
 use Rattle.ilverify.specs.Calls.{HasGoodCalls}
 use Rattle.ilverify.specs.Tables.{cap, AreRightFrom, IsFilled}
 use Rattle.ilverify.specs.Through.{max_if, through_at, through_to, through_in, through_after, through_from}
 use Rattle.ilverify.specs.Through.{AreThrough}
-use Rattle.ilverify.specs.BoundSteps.{longest_at, longest_to, longest_in, longest_after, longest_from}
+use Rattle.ilverify.specs.BoundSteps.{longest_at, longest_to, longest_in, longest_after, longest_from, AreRight}
+use Rattle.ilverify.specs.LongestWays.{IsPlaced}
 use Rattle.ilverify.proofs.CalledBodies.{good_call}
 use Rattle.ilverify.proofs.Fills.{at_end_is, at_place_is, target_in}
-use Rattle.ilverify.proofs.Placed.{IsPlaced, placed_within, placed_on, next_placed, call_placed, land_keeps}
+use Rattle.ilverify.proofs.Placed.{placed_within, placed_on, next_placed, call_placed, land_keeps}
 use Rattle.ilverify.proofs.Placed.{land_placed}
 use Rattle.ilverify.proofs.Placed.{LandsOn, lands_on, word_at}
 use Rattle.ilverify.proofs.Throughs.{through_is}
 use Rattle.ilverify.proofs.Spans.{span, IsNear, near_is, near_trans, near_more, near_joined, span_either, span_nowhere}
 
 -- ---- what is kept, with open calls
-
--- all numbers are right
-pub record AreRight (code : Listing) (through : List (Option ℕ)) (longest : List ℕ) : Type 0 where
-  pub good : HasGoodCalls code
-  pub lawful : IsLawful code
-  pub ways : AreThrough code Words through
-  pub each : (body : ℕ) → AreRightFrom code 0 (longest_from code through) longest body (start_of code body)
 
 abbrev pub reach : Listing → List (Option ℕ) → List ℕ → List PathCall → ℕ → ℕ
 reach code through longest [] place = longest_at longest (end_of code 0) place
@@ -53,7 +46,7 @@ reach_is : (code : Listing) (through : List (Option ℕ)) (longest : List ℕ) (
 reach_is code through longest [] place = refl
 reach_is code through longest (c ∷ cs) place = refl
 
-abbrev reach_at : Listing → List (Option ℕ) → List ℕ → Standing → ℕ
+abbrev pub reach_at : Listing → List (Option ℕ) → List ℕ → Standing → ℕ
 reach_at code through longest s = reach code through longest s.calls s.place
 
 -- ---- where a body ends
@@ -68,14 +61,14 @@ end_reach code through longest c cs =
     ∙ ap (λ (l : ℕ). span (Some 0) l (Some r)) (at_end_is 0 0 longest end end refl) in
     omega (arith, e)
 
-land_reach : (code : Listing) (through : List (Option ℕ)) (longest : List ℕ) (calls : List PathCall) (place : ℕ)
+pub land_reach : (code : Listing) (through : List (Option ℕ)) (longest : List ℕ) (calls : List PathCall) (place : ℕ)
     → reach_at code through longest (land code place calls) ≡ reach code through longest calls place
 land_reach code through longest calls place =
     land_keeps code (λ cs p. reach code through longest cs p ≡ reach code through longest calls place)
     (λ c cs e. sym (end_reach code through longest c cs) ∙ e) calls place refl
 
 -- where something may follow, a word stands
-land_word : (code : Listing) (through : List (Option ℕ)) (longest : List ℕ) (calls : List PathCall) (place : ℕ)
+pub land_word : (code : Listing) (through : List (Option ℕ)) (longest : List ℕ) (calls : List PathCall) (place : ℕ)
     → IsPlaced code calls place → 1 ≤ reach code through longest calls place → IsWord code (land code place calls)
 land_word code through longest calls place h some =
     by (land code place calls) (lands_on code calls place h)
@@ -406,7 +399,7 @@ next_after code through longest s t h placed w n =
     step_after code through longest s.calls s.place n.word t
     (record { right = h; in_body = placed_within code s.calls s.place placed w; placed = placed; is = n.is }) n.leads
 
-few_words : (code : Listing) (through : List (Option ℕ)) (longest : List ℕ) → AreRight code through longest
+pub few_words : (code : Listing) (through : List (Option ℕ)) (longest : List ℕ) → AreRight code through longest
     → (s : Standing) (more : List Standing) → IsPlaced code s.calls s.place → IsWord code s → AreNext code s more
     → min (length more + 1) cap ≤ reach_at code through longest s
 few_words code through longest h s [] placed w are =
@@ -419,12 +412,12 @@ few_words code through longest h s (t ∷ more) placed w are =
     let less = a.less in
     omega (arith, less, i)
 
-record HasPath (code : Listing) (s : Standing) (n : ℕ) : Type 0 where
-  more : List Standing
-  are : AreNext code s more
-  long : length more ≡ n
+pub record HasPath (code : Listing) (s : Standing) (n : ℕ) : Type 0 where
+  pub more : List Standing
+  pub are : AreNext code s more
+  pub long : length more ≡ n
 
-has_path : (code : Listing) (through : List (Option ℕ)) (longest : List ℕ) → AreRight code through longest → (n : ℕ)
+pub has_path : (code : Listing) (through : List (Option ℕ)) (longest : List ℕ) → AreRight code through longest → (n : ℕ)
     (s : Standing) → IsPlaced code s.calls s.place → IsWord code s → n < reach_at code through longest s
     → HasPath code s n
 has_path code through longest h zero s placed w lt = record { more = []; are = tt; long = refl }
@@ -435,47 +428,6 @@ has_path code through longest h (suc n) s placed w lt =
     let less = g.less in
     let p = has_path code through longest h n g.to a.placed g.next.within (omega (arith, less, lt)) in
     record { more = g.to ∷ p.more; are = (g.next, p.are); long = let e = p.long in omega (arith, e) }
-
--- from the first place
-path_long : (code : Listing) (through : List (Option ℕ)) (longest : List ℕ) → AreRight code through longest
-    → (path : List Standing) → IsPath code path → min (length path) cap ≤ reach code through longest [] 0
-path_long code through longest h [] is = omega arith
-path_long code through longest h (s ∷ more) is =
-    let e = is.0 in
-    let w = subst (IsWord code) e is.1 in
-    let are = subst (λ (u : Standing). AreNext code u more) e is.2 in
-    let f = few_words code through longest h (standing 0 []) more (omega arith) w are in
-    omega (arith, f)
-
-record HasFirst (code : Listing) (n : ℕ) : Type 0 where
-  path : List Standing
-  is : IsPath code path
-  long : length path ≡ n
-
-first_path : (code : Listing) (through : List (Option ℕ)) (longest : List ℕ) → AreRight code through longest → (n : ℕ)
-    → n ≤ reach code through longest [] 0 → HasFirst code n
-first_path code through longest h zero le = record { path = []; is = tt; long = refl }
-first_path code through longest h (suc n) le =
-    let w = land_word code through longest [] 0 (omega arith) (omega arith) in
-    let p = has_path code through longest h n (standing 0 []) (omega arith) w (omega arith) in
-    record { path = standing 0 [] ∷ p.more; is = (refl, w, p.are); long = let e = p.long in omega (arith, e) }
-
-pub bound_is : (code : Listing) (through : List (Option ℕ)) (longest : List ℕ) → AreRight code through longest
-    → reach code through longest [] 0 ≤ most_steps → IsBound code (reach code through longest [] 0)
-bound_is code through longest h le =
-    let p = first_path code through longest h (reach code through longest [] 0) (le_refl _) in
-    record {
-      path = p.path;
-      is = p.is;
-      long = p.long;
-      greatest = λ path is. let f = path_long code through longest h path is in omega (arith, f, le);
-    }
-
-pub too_long : (code : Listing) (through : List (Option ℕ)) (longest : List ℕ) → AreRight code through longest
-    → most_steps < reach code through longest [] 0 → IsTooLong code
-too_long code through longest h gt =
-    let p = first_path code through longest h cap (omega (arith, gt)) in
-    record { path = p.path; is = p.is; long = let e = p.long in omega (arith, e) }
 
 -- ---- when all bodies are filled in
 

@@ -4,6 +4,7 @@ mod CalledBodies
 mod Chains
 mod Fills
 mod Lists
+mod MostRequests
 mod PassBegins
 mod PassEntries
 mod PassForward
@@ -24,3 +25,4 @@ mod Throughs
 pub mod Verdict
 mod VerdictSoundness
 mod Waiting
+mod WayLengths

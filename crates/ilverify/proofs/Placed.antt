@@ -9,13 +9,8 @@ use Rattle.ilcode.specs.Listings.{Listing, IsLawful, IsIn, end_of}
 use Rattle.ilcode.specs.Paths.{PathCall, path_call, Standing, standing, body_on, land, IsWord}
 use Rattle.ilcode.proofs.Bodies.{start_suc, rising, within}
 use Rattle.ilcode.proofs.Lists.{get}
+use Rattle.ilverify.specs.LongestWays.{IsPlaced}
 use Rattle.ilverify.proofs.CalledBodies.{eq_true, eq_false}
-
--- each place is one of its body or its end
-abbrev pub IsPlaced : Listing → List PathCall → ℕ → Type 0
-IsPlaced code [] place = place ≤ end_of code 0
-IsPlaced code (c ∷ cs) place =
-    (end_of code c.function ≤ place) × (place ≤ end_of code (c.function + 1)) × IsPlaced code cs c.back
 
 pub placed_within : (code : Listing) (calls : List PathCall) (place : ℕ) → IsPlaced code calls place
     → place < end_of code (body_on calls) → IsIn code (body_on calls) place

@@ -16,7 +16,8 @@ use Rattle.ilverify.specs.Through.{plus_if, max_if, weight, through_at, through_
 use Rattle.ilverify.specs.Through.{through_from}
 use Rattle.ilverify.specs.RequestSteps.{Holds, IsBehind, LeadsWith, IsPassedOn, AreMost, AreAllMost}
 use Rattle.ilverify.proofs.Fills.{at_end_is, target_in}
-use Rattle.ilverify.proofs.Placed.{IsPlaced, placed_within, placed_on, next_placed, call_placed, land_keeps}
+use Rattle.ilverify.specs.LongestWays.{IsPlaced}
+use Rattle.ilverify.proofs.Placed.{placed_within, placed_on, next_placed, call_placed, land_keeps}
 use Rattle.ilverify.proofs.Placed.{land_placed}
 use Rattle.ilverify.proofs.Throughs.{through_is}
 use Rattle.ilverify.proofs.RequestPaths.{requests_first, weight_is}

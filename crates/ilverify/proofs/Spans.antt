@@ -5,12 +5,9 @@ use Rattle.std.specs.Prelude.{min, max}
 use Rattle.ilverify.specs.Tables.{cap, plus}
 use Rattle.ilverify.specs.Through.{plus_if, max_if}
 use Rattle.ilverify.specs.BoundSteps.{longest_behind}
+use Rattle.ilverify.specs.LongestWays.{then_more}
 
--- the words of a body from a place, and those of its callers after it, if it has any
-abbrev pub then_more : Option ℕ → ℕ → ℕ
-then_more (Some t) rest = t + rest
-then_more None rest = 0
-
+-- and those of its callers after them
 abbrev pub span : Option ℕ → ℕ → Option ℕ → ℕ
 span through longest None = longest
 span through longest (Some rest) = max longest (then_more through rest)

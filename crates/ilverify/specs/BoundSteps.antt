@@ -4,10 +4,12 @@ use Rattle.limits.specs.Limits.{most_steps}
 use Rattle.iltypes.specs.declared.condition.Condition.TheVariants.{Always}
 use Rattle.ilcode.specs.declared.word.Word.{Word}
 use Rattle.ilcode.specs.declared.word.Word.TheVariants as words
-use Rattle.ilcode.specs.Listings.{Listing, end_of}
+use Rattle.ilcode.specs.Listings.{Listing, IsLawful, start_of, end_of}
 use Rattle.ilcode.specs.Steps.{is_target}
-use Rattle.ilverify.specs.Tables.{plus}
-use Rattle.ilverify.specs.Through.{through_in}
+use Rattle.ilverify.specs.declared.through.Counted.TheVariants.{Words}
+use Rattle.ilverify.specs.Calls.{HasGoodCalls}
+use Rattle.ilverify.specs.Tables.{plus, AreRightFrom}
+use Rattle.ilverify.specs.Through.{through_in, AreThrough}
 
 -- what is kept for a place of a body that ends there
 abbrev pub longest_at : List ℕ → ℕ → ℕ → ℕ
@@ -43,3 +45,10 @@ longest_from code through longest end place word = plus 1 (longest_after code th
 -- the number, where it is within the limit
 abbrev pub limited : ℕ → Option ℕ
 limited words = if nat_le words most_steps then Some words else None
+
+-- all numbers are right
+pub record AreRight (code : Listing) (through : List (Option ℕ)) (longest : List ℕ) : Type 0 where
+  pub good : HasGoodCalls code
+  pub lawful : IsLawful code
+  pub ways : AreThrough code Words through
+  pub each : (body : ℕ) → AreRightFrom code 0 (longest_from code through) longest body (start_of code body)

@@ -3,6 +3,7 @@ pub mod BoundSteps
 pub mod CallSteps
 pub mod Calls
 pub mod Certificates
+pub mod LongestWays
 pub mod PassSteps
 pub mod Passes
 pub mod Printed

@@ -1,13 +1,12 @@
 -- Tables that are filled in body by body, each from its last word to its first: what is kept for a word is what it says
 -- by what is kept for the words that may follow it.
 use Rattle.std.specs.Prelude.{◌≡◌, ℕ, ◌+◌, ◌<◌, ◌≤◌, ◌⊎◌, min, List, length, Some, slice_get, get_or}
-use Rattle.limits.specs.Limits.{most_steps}
 use Rattle.ilcode.specs.declared.word.Word.{Word}
 use Rattle.ilcode.specs.Listings.{Listing, start_of, end_of}
 
--- numbers past the limit of words on a path are not told apart
+-- numbers that 32 bits do not hold are not told apart
 abbrev pub cap : ℕ
-cap = most_steps + 1
+cap = 4294967295
 
 abbrev pub plus : ℕ → ℕ → ℕ
 plus a b = min (a + b) cap

@@ -1,58 +1,23 @@
-//! The greatest number of words on a path: body by body, in declared order and the programs last,
-//! each from its last word to its first. A call weighs one and what its function weighs.
+//! The greatest numbers of words on the ways from each word: body by body, in declared order and
+//! the programs last, each from its last word to its first. A call weighs one and what its function
+//! weighs.
 
-ghost use Rattle.std.specs.Prelude.{◌≡◌, ◌≤◌, ◌<◌, length, IfOk, IfSome, MatchOption};
-ghost use Rattle.limits.specs.Limits.{most_words, most_steps};
+ghost use Rattle.std.specs.Prelude.{◌≡◌, ◌<◌, length};
+ghost use Rattle.limits.specs.Limits.{most_words};
 ghost use Rattle.ilcode.specs.Listings.{IsLawful, start_of};
-ghost use Rattle.ilcode.specs.Paths.{IsBound, IsTooLong};
+ghost use Rattle.ilverify.specs.declared.through.Counted.TheVariants.{Words};
 ghost use Rattle.ilverify.specs.Calls.{HasGoodCalls};
 ghost use Rattle.ilverify.specs.Tables.{AreDone, IsFilled};
+ghost use Rattle.ilverify.specs.Through.{AreThrough};
 ghost use Rattle.ilverify.specs.BoundSteps.{longest_at, longest_to, longest_in, longest_behind};
-ghost use Rattle.ilverify.specs.BoundSteps.{longest_after, longest_from, limited};
+ghost use Rattle.ilverify.specs.BoundSteps.{longest_after, longest_from, AreRight};
 
-use crate::through::{Counted, plus, through_in, ways_through};
+use crate::through::{plus, through_in};
 use ilcode::{Code, Word};
 use iltypes::Condition;
-use limits::MOST_STEPS;
-use std::alloc::{AllocError, Global};
-
-/// The greatest number of words on a path, whatever the values; none where some path has more than
-/// the limit.
-pub(crate) fn greatest_path(alloc: Global, code: &Code) -> Result<Option<u32>, AllocError>
-    requires { HasGoodCalls code.now }
-    ensures exact { IfOk result (λ bound. MatchOption bound
-        (IsTooLong code.now)
-        (IsBound code.now)) }
-    ensures few { IfOk result (λ bound. IfSome bound (λ words. words ≤ most_steps)) }
-{
-    let through = ways_through(alloc, code, Counted::Words)?;
-    let mut longest = vec![in alloc; 0u32; code.len()]?;
-    for function in 0..code.functions().len() {
-        fill(
-            code,
-            &through,
-            &mut longest,
-            function + 1,
-            code.end_of(function),
-        );
-    }
-    fill(code, &through, &mut longest, 0, 0);
-    Ok(limited(longest_at(&longest, code.end_of(0), 0)))
-}
-
-/// The number, where it is within the limit.
-fn limited(words: u32) -> Option<u32>
-    ensures { result ≡ limited words }
-{
-    if words <= MOST_STEPS {
-        Some(words)
-    } else {
-        None
-    }
-}
 
 /// How many words are kept for a place of a body that ends there.
-fn longest_at(longest: &[u32], end: usize, place: usize) -> u32
+pub(crate) fn longest_at(longest: &[u32], end: usize, place: usize) -> u32
     ensures { result ≡ longest_at longest.now end place }
 {
     if place == end {
@@ -134,4 +99,17 @@ fn fill(code: &Code, through: &[Option<u32>], longest: &mut Vec<u32>, body: usiz
         let after = longest_after(code, through, longest, end, place, code.word(place));
         longest[place] = plus(1, after);
     }
+}
+
+/// Fills in all bodies.
+pub(crate) fn fill_bodies(code: &Code, through: &[Option<u32>], longest: &mut Vec<u32>)
+    requires good { HasGoodCalls code.now }
+    requires ways { AreThrough code.now Words through.now }
+    requires long { length longest.old.items ≡ length code.now.instructions }
+    ensures { AreRight code.now through.now longest.new.items }
+{
+    for function in 0..code.functions().len() {
+        fill(code, through, longest, function + 1, code.end_of(function));
+    }
+    fill(code, through, longest, 0, 0);
 }

@@ -24,6 +24,14 @@ pub(crate) fn first_bad_call(alloc: Global, code: &Code) -> Result<Option<usize>
     Ok(first_bad(code, &chains))
 }
 
+/// Whether each call may stand where it does.
+pub(crate) fn has_good_calls(alloc: Global, code: &Code) -> Result<bool, AllocError>
+    ensures { IfOk result (λ good. IsTrue good ↔ HasGoodCalls code.now) }
+{
+    let bad = first_bad_call(alloc, code)?;
+    Ok(bad.is_none())
+}
+
 /// Whether the code is one that a file of version 1 can hold: in such a code no word calls a
 /// function.
 fn is_old(code: &Code) -> bool

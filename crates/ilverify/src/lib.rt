@@ -7,7 +7,9 @@
 //! (specs/Certificates.antt): an entry for each word, consistent by the rules of `ilranges`; by
 //! where a function may be called (specs/Calls.antt); and by the length of each path and the calls
 //! of request blocks on it (specs/Requests.antt). A `Verified` has its words and constants in the
-//! form in which the machine reads them, too (`ilrows::ReadyWord`, `ilrows::Cell`).
+//! form in which the machine reads them, too (`ilrows::ReadyWord`, `ilrows::Cell`). Who prints what
+//! was found takes a [`Pass`], which says what is known before each word
+//! (specs/BeforeWords.antt), [`LongestWays`] (specs/LongestWays.antt) and [`most_requests`].
 //!
 //! ```text
 //! let verified = verify(alloc, code)?;
@@ -16,6 +18,7 @@
 
 mod bound;
 mod calls;
+mod longest;
 mod pass;
 mod passed;
 mod passing;
@@ -25,8 +28,10 @@ mod through;
 mod verified;
 mod verifier;
 
+pub use longest::LongestWays;
 pub use passed::Passed;
 pub use passing::Pass;
 pub use refusal::{Refusal, VerifyError};
+pub use requests::most_requests;
 pub use verified::Verified;
 pub use verifier::verify;

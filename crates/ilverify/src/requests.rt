@@ -1,16 +1,17 @@
 //! Calls of request blocks on paths: over the programs from their first word to their last, and
 //! then over the functions, of which each is called by those behind it alone.
 
-ghost use Rattle.std.specs.Prelude.{◌≡◌, ◌<◌, ◌≤◌, ◌↔◌, length, IfOk, Some, None, ℕ};
+ghost use Rattle.std.specs.Prelude.{◌≡◌, ◌<◌, ◌≤◌, ◌↔◌, length, IfOk, MatchOption, Some, None, ℕ};
 ghost use Rattle.limits.specs.Limits.{most_words};
 ghost use Rattle.ilcode.specs.Listings.{IsLawful, start_of, end_of};
 ghost use Rattle.ilverify.specs.declared.through.Counted.TheVariants.{Requests};
 ghost use Rattle.ilverify.specs.Calls.{HasGoodCalls};
-ghost use Rattle.ilverify.specs.Requests.{HasFewRequests};
+ghost use Rattle.ilverify.specs.Requests.{HasFewRequests, IsMostRequests};
 ghost use Rattle.ilverify.specs.Through.{AreThrough};
 ghost use Rattle.ilverify.specs.RequestSteps.{raised, raised_target, raised_behind};
 ghost use Rattle.ilverify.specs.RequestSteps.{raised_after, AreMost, AreAllMost, IsFirstOverfull};
 
+use crate::calls::has_good_calls;
 use crate::through::{Counted, plus, through_in, ways_through, weight};
 use ilcode::{Code, Word};
 use iltypes::Condition;
@@ -29,6 +30,41 @@ pub(crate) fn first_overfull(alloc: Global, code: &Code) -> Result<Option<usize>
     let _functions = code.functions();
     let most = most_before(alloc, code)?;
     Ok(find_overfull(code, &most))
+}
+
+/// The greatest number of calls of request blocks on a path, whatever the values, or none where a
+/// call of a function stands in the code that may not.
+///
+/// # Errors
+///
+/// The allocator is out of memory.
+pub fn most_requests(alloc: Global, code: &Code) -> Result<Option<u32>, AllocError>
+    ensures { IfOk result (λ most. MatchOption most
+        (¬ HasGoodCalls code.now)
+        (IsMostRequests code.now)) }
+{
+    let good = has_good_calls(alloc, code)?;
+    if !good {
+        return Ok(None);
+    }
+    let most = most_before(alloc, code)?;
+    Ok(Some(greatest_of(code, &most)))
+}
+
+/// The greatest number on a path, by what is kept for each place.
+fn greatest_of(code: &Code, most: &[Option<u32>]) -> u32
+    requires good { HasGoodCalls code.now }
+    requires most { AreAllMost code.now most.now }
+    ensures { IsMostRequests code.now result }
+{
+    let mut greatest = 0;
+    for place in 0..code.len() {
+        if let Some(before) = most[place] {
+            let requests = plus(before, weight(code, Counted::Requests, code.word(place)));
+            greatest = requests.max(greatest);
+        }
+    }
+    greatest
 }
 
 /// The first place at which there are too many, by what is kept for each.

@@ -12,11 +12,7 @@ ghost use Rattle.ilverify.specs.Through.{through_in, through_after, through_from
 
 use ilcode::{Code, Word};
 use iltypes::Condition;
-use limits::MOST_STEPS;
 use std::alloc::{AllocError, Global};
-
-/// One more than the limit of words on a path: more are not told apart.
-const CAP: u32 = MOST_STEPS + 1;
 
 /// What is counted on a way.
 #[derive(Clone, Copy)]
@@ -27,11 +23,11 @@ pub(crate) enum Counted {
     Requests,
 }
 
-/// The sum, as far as it is told apart.
+/// The sum, as far as 32 bits hold it.
 pub(crate) fn plus(a: u32, b: u32) -> u32
     ensures { result ≡ plus a b }
 {
-    a.saturating_add(b).min(CAP)
+    a.saturating_add(b)
 }
 
 /// The sum, where there are both.
@@ -79,7 +75,7 @@ pub(crate) fn weight(code: &Code, counted: Counted, word: Word) -> u32
 }
 
 /// What is kept for a place of a body that ends there.
-fn through_at(through: &[Option<u32>], end: usize, place: usize) -> Option<u32>
+pub(crate) fn through_at(through: &[Option<u32>], end: usize, place: usize) -> Option<u32>
     ensures { result ≡ through_at through.now end place }
 {
     if place == end {

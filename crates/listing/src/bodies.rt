@@ -1,9 +1,10 @@
 //! Lines on the functions of a code: what makes the bound, and who calls whom.
 
-use crate::paths::{Most, most_in};
+use crate::paths::words_in;
 use crate::stars::Share;
 use crate::task_names::TaskNames;
 use ilcode::{Code, Word};
+use ilverify::LongestWays;
 use std::io;
 use std::io::Write;
 
@@ -58,7 +59,7 @@ pub(crate) fn write_function<W: Write>(
 pub(crate) fn write_functions_at<W: Write>(
     out: &mut W,
     names: &TaskNames,
-    most: &[Most],
+    ways: &LongestWays,
     place: usize,
 ) -> io::Result<()> {
     let functions = names.code.functions();
@@ -67,7 +68,7 @@ pub(crate) fn write_functions_at<W: Write>(
         if start == place {
             let end = names.code.end_of(number.saturating_add(1));
             let words = end.saturating_sub(start);
-            let bound = most_in(names.code, most, number).any;
+            let bound = words_in(names.code, ways, number);
             write!(out, "function ")?;
             write_function(out, names, number)?;
             write!(out, " words {words} bound {bound}")?;

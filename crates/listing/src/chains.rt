@@ -1,11 +1,12 @@
 //! Chains of calls: the one that makes a path long, and the deepest one.
 
 use crate::bodies::{Caller, write_function};
-use crate::paths::{Counted, Most, most_in, most_on_paths, start_of};
+use crate::paths::{start_of, words_in};
 use crate::stars::{calls_on_longest, count_at};
 use crate::task_names::TaskNames;
 use crate::uses::line_at;
 use ilcode::{Code, Word};
+use ilverify::LongestWays;
 use std::alloc::{AllocError, Global};
 use std::io;
 use std::io::Write;
@@ -22,15 +23,17 @@ pub fn write_longest_calls<W: Write>(
     out: &mut W,
     names: &TaskNames,
 ) -> io::Result<()> {
-    let most = most_on_paths(alloc, names.code, Counted::Words)?;
+    let Some(ways) = LongestWays::of(alloc, names.code)? else {
+        return Ok(());
+    };
     let mut body: usize = 0;
     for _ in 0..names.code.functions().len() {
-        let calls = calls_on_longest(alloc, names.code, &most, body)?;
-        let Some(function) = longest_call(names.code, &most, &calls) else {
+        let calls = calls_on_longest(alloc, names.code, &ways, body)?;
+        let Some(function) = longest_call(names.code, &ways, &calls) else {
             return Ok(());
         };
         let times = count_at(&calls, function);
-        let words = most_in(names.code, &most, function).any;
+        let words = words_in(names.code, &ways, function);
         if let Some(place) = first_call(names.code, body, function) {
             write_call(out, names, place, function)?;
             write_times(out, times, words)?;
@@ -50,11 +53,11 @@ fn write_times<W: Write>(out: &mut W, times: u32, words: u32) -> io::Result<()> 
 }
 
 /// The function whose calls have the most words in all, where one is called; of several the first.
-fn longest_call(code: &Code, most: &[Most], calls: &[u32]) -> Option<usize> {
+fn longest_call(code: &Code, ways: &LongestWays, calls: &[u32]) -> Option<usize> {
     let mut found = None;
     let mut greatest: u32 = 0;
     for function in 0..calls.len() {
-        let words = most_in(code, most, function).any;
+        let words = words_in(code, ways, function);
         let all = words.saturating_mul(calls[function]);
         if all > greatest {
             greatest = all;

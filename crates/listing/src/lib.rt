@@ -2,13 +2,12 @@
 //! each word and which words make the bound of a scan, and who calls each function; and notes, of
 //! what is likely not meant, though nothing stands against it.
 //!
-//! What crosses the boundary: a setup, its source program, and lines on a writer; and a [`Flow`],
-//! which goes over the words of a [`Code`](ilcode::Code): before each it says what is known there
-//! ([`Entry`](ilranges::Entry)), or that no scan reaches the word, and at the first refused word
-//! why. A [`WordText`] and a [`KnownText`] are written with the names of the text, which
-//! [`TaskNames`] has. The rules are those of `ilranges`, to be read first. All this is for people:
-//! the verdict is that of `ilverify`, and a note refuses nothing. What is printed is fixed by
-//! worked rows (crates/rows); of the code it is proved that it is safe and ends.
+//! What crosses the boundary: a setup, its source program, and lines on a writer. A [`WordText`] and
+//! a [`KnownText`] are written with the names of the text, which [`TaskNames`] has. What is known
+//! before a word ([`Entry`](ilranges::Entry)) and how long the ways from it are is what `ilverify`
+//! found, to be read first. All this is for people: the verdict is that of `ilverify`, and a note
+//! refuses nothing. What is printed is fixed by worked rows (crates/rows); of the code it is proved
+//! that it is safe and ends.
 //!
 //! ```text
 //! write_task(alloc, &mut out, &setup, 0)?;

@@ -4,7 +4,7 @@
 use crate::contents::Content;
 use crate::facts::{BlockCall, TaskFacts, facts_of};
 use crate::levels::level_of;
-use crate::paths::{Counted, most_at, most_on_paths};
+use crate::paths::most_on_paths;
 use crate::stars::all_unused;
 use ilblocks::BlockKind;
 use ilcode::Code;
@@ -210,8 +210,7 @@ fn most_halves(
     if !is_any {
         return Ok(0);
     }
-    let most = most_on_paths(alloc, code, Counted::Weights(&weights))?;
-    Ok(most_at(code, &most, 0, 0).any)
+    most_on_paths(alloc, code, &weights)
 }
 
 /// How many halves of frames a call may ask a bus for in each scan.

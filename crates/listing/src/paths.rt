@@ -1,29 +1,33 @@
-//! The longest paths of a code, and the paths with the most requests. A path goes through the body
-//! of each function that it calls.
+//! The paths of a code on which most is counted. A path goes through the body of each function that
+//! it calls.
 
 use ilcode::{Code, Word};
 use iltypes::Condition;
+use ilverify::LongestWays;
 use std::alloc::{AllocError, Global};
 
-/// What is counted on a path.
-#[derive(Clone, Copy)]
-pub(crate) enum Counted<'a> {
-    /// Its words.
-    Words,
-    /// Its calls of request blocks.
-    Requests,
-    /// What the words count at their places.
-    Weights(&'a [u32]),
+/// The place where a body begins: that of the programs is 0, that of function n is n + 1.
+pub(crate) fn start_of(code: &Code, body: usize) -> usize {
+    match body.checked_sub(1) {
+        Some(function) => code.end_of(function),
+        None => 0,
+    }
 }
 
-/// The most that paths from a place hold, whatever the values, those that begin there within the
+/// The most words on a path through a function.
+pub(crate) fn words_in(code: &Code, ways: &LongestWays, function: usize) -> u32 {
+    let body = function.saturating_add(1);
+    ways.words_from(body, start_of(code, body))
+}
+
+/// The most that paths from a place count, whatever the values, those that begin there within the
 /// body of the place.
 #[derive(Clone, Copy)]
-pub(crate) struct Most {
+struct Most {
     /// On one that goes through to the body's end, where there is such a path.
-    pub through: Option<u32>,
+    through: Option<u32>,
     /// On any.
-    pub any: u32,
+    any: u32,
 }
 
 /// At the end of a body.
@@ -81,9 +85,9 @@ fn greater(one: Option<u32>, other: Option<u32>) -> Option<u32> {
     }
 }
 
-/// For each place the most that paths from there hold. A function calls those before it alone, so
-/// the functions are gone over in their order and the programs last, each from its last word to its
-/// first.
+/// The most that a path counts, where each word counts what its place has. A function calls those
+/// before it alone, so the functions are gone over in their order and the programs last, each from
+/// its last word to its first.
 ///
 /// # Errors
 ///
@@ -91,50 +95,32 @@ fn greater(one: Option<u32>, other: Option<u32>) -> Option<u32> {
 pub(crate) fn most_on_paths(
     alloc: Global,
     code: &Code,
-    counted: Counted,
-) -> Result<Vec<Most>, AllocError> {
+    weights: &[u32],
+) -> Result<u32, AllocError> {
     let mut most = Vec::new(alloc);
     for _ in 0..code.len() {
         most.push(NOWHERE)?;
     }
     for function in 0..code.functions().len() {
-        fill(code, &mut most, counted, function.saturating_add(1));
+        fill(code, &mut most, weights, function.saturating_add(1));
     }
-    fill(code, &mut most, counted, 0);
-    Ok(most)
-}
-
-/// The most calls of request blocks on a path, whatever the values.
-///
-/// # Errors
-///
-/// The allocator is out of memory.
-pub(crate) fn most_requests(alloc: Global, code: &Code) -> Result<u32, AllocError> {
-    let most = most_on_paths(alloc, code, Counted::Requests)?;
+    fill(code, &mut most, weights, 0);
     Ok(most_at(code, &most, 0, 0).any)
 }
 
 /// Fills in the places of a body.
-fn fill(code: &Code, most: &mut Vec<Most>, counted: Counted, body: usize) {
+fn fill(code: &Code, most: &mut Vec<Most>, weights: &[u32], body: usize) {
     let start = start_of(code, body);
     for place in (start..code.end_of(body)).rev() {
-        let here = most_from(code, most, counted, body, place);
+        let here = most_from(code, most, weights, body, place);
         if let Some(kept) = most.get_mut(place) {
             *kept = here;
         }
     }
 }
 
-/// The place where a body begins: that of the programs is 0, that of function n is n + 1.
-pub(crate) fn start_of(code: &Code, body: usize) -> usize {
-    match body.checked_sub(1) {
-        Some(function) => code.end_of(function),
-        None => 0,
-    }
-}
-
 /// The most on paths from a word of a body on.
-fn most_from(code: &Code, most: &[Most], counted: Counted, body: usize, place: usize) -> Most {
+fn most_from(code: &Code, most: &[Most], weights: &[u32], body: usize, place: usize) -> Most {
     let Some(word) = code.get(place) else {
         return NOWHERE;
     };
@@ -150,11 +136,11 @@ fn most_from(code: &Code, most: &[Most], counted: Counted, body: usize, place: u
         Word::Invoke(function) => most_in(code, most, usize::from(function)).and_then(next),
         _ => next,
     };
-    on.after(weight(code, counted, place, word))
+    on.after(weights.get(place).copied().unwrap_or(0))
 }
 
 /// The most on paths from a place of a body on.
-pub(crate) fn most_at(code: &Code, most: &[Most], body: usize, place: usize) -> Most {
+fn most_at(code: &Code, most: &[Most], body: usize, place: usize) -> Most {
     if place >= code.end_of(body) {
         return AT_END;
     }
@@ -165,13 +151,7 @@ pub(crate) fn most_at(code: &Code, most: &[Most], body: usize, place: usize) -> 
 }
 
 /// The most on paths from a jump's target on, to which the jump at the place may lead.
-pub(crate) fn most_at_target(
-    code: &Code,
-    most: &[Most],
-    body: usize,
-    place: usize,
-    target: usize,
-) -> Most {
+fn most_at_target(code: &Code, most: &[Most], body: usize, place: usize, target: usize) -> Most {
     if code.is_target(place, target) {
         most_at(code, most, body, target)
     } else {
@@ -180,33 +160,10 @@ pub(crate) fn most_at_target(
 }
 
 /// The most on paths through a function.
-pub(crate) fn most_in(code: &Code, most: &[Most], function: usize) -> Most {
+fn most_in(code: &Code, most: &[Most], function: usize) -> Most {
     if function >= code.functions().len() {
         return NOWHERE;
     }
     let body = function.saturating_add(1);
     most_at(code, most, body, start_of(code, body))
-}
-
-/// What the word at a place counts.
-fn weight(code: &Code, counted: Counted, place: usize, word: Word) -> u32 {
-    match counted {
-        Counted::Words => 1,
-        Counted::Requests => u32::from(may_request(code, word)),
-        Counted::Weights(weights) => match weights.get(place) {
-            Some(weight) => *weight,
-            None => 0,
-        },
-    }
-}
-
-/// Whether a word calls an instance that may make a request.
-fn may_request(code: &Code, word: Word) -> bool {
-    match word {
-        Word::Call(block) => match code.kinds().get(usize::from(block)) {
-            Some(kind) => kind.makes_requests(),
-            None => false,
-        },
-        _ => false,
-    }
 }

@@ -1,9 +1,10 @@
 //! The words of a longest path, and how many of them each body has. Where the path calls a function
 //! it goes through the body of that.
 
-use crate::paths::{Most, most_at, most_at_target, most_in, start_of};
+use crate::paths::{start_of, words_in};
 use ilcode::{Code, Word};
 use iltypes::Condition;
+use ilverify::LongestWays;
 use std::alloc::{AllocError, Global};
 
 /// Which of the paths from a place is followed.
@@ -16,11 +17,12 @@ enum Goal {
 }
 
 impl Goal {
-    /// How long such a path is: one more than its words, and 0 where there is none.
-    fn length(self, most: Most) -> u32 {
+    /// How long such a path from a place of a body is: one more than its words, and 0 where there is
+    /// none.
+    fn length(self, ways: &LongestWays, body: usize, place: usize) -> u32 {
         let words = match self {
-            Goal::End => most.through,
-            Goal::Any => Some(most.any),
+            Goal::End => ways.words_through(body, place),
+            Goal::Any => Some(ways.words_from(body, place)),
         };
         match words {
             Some(words) => words.saturating_add(1),
@@ -69,21 +71,21 @@ struct Stars {
 pub(crate) fn longest_path(
     alloc: Global,
     code: &Code,
-    most: &[Most],
+    ways: &LongestWays,
 ) -> Result<Longest, AllocError> {
     let functions = code.functions().len();
     let mut stars = no_stars(alloc, code)?;
     let mut shares = Vec::new(alloc);
-    shares.push(follow(code, most, &mut stars, 0, 1, Goal::Any))?;
+    shares.push(follow(code, ways, &mut stars, 0, 1, Goal::Any))?;
     for function in (0..functions).rev() {
         let body = function.saturating_add(1);
         let times = count_at(&stars.to_end, function);
         if times > 0 {
-            shares.push(follow(code, most, &mut stars, body, times, Goal::End))?;
+            shares.push(follow(code, ways, &mut stars, body, times, Goal::End))?;
         }
         let times = count_at(&stars.to_any, function);
         if times > 0 {
-            shares.push(follow(code, most, &mut stars, body, times, Goal::Any))?;
+            shares.push(follow(code, ways, &mut stars, body, times, Goal::Any))?;
         }
     }
     let Stars {
@@ -102,11 +104,11 @@ pub(crate) fn longest_path(
 pub(crate) fn calls_on_longest(
     alloc: Global,
     code: &Code,
-    most: &[Most],
+    ways: &LongestWays,
     body: usize,
 ) -> Result<Vec<u32>, AllocError> {
     let mut stars = no_stars(alloc, code)?;
-    let _share = follow(code, most, &mut stars, body, 1, Goal::Any);
+    let _share = follow(code, ways, &mut stars, body, 1, Goal::Any);
     let Stars {
         words: _,
         to_end,
@@ -181,7 +183,7 @@ pub(crate) fn mark(marks: &mut Vec<bool>, place: usize) {
 /// so many times; what it has of the longest path.
 fn follow(
     code: &Code,
-    most: &[Most],
+    ways: &LongestWays,
     stars: &mut Stars,
     body: usize,
     times: u32,
@@ -196,7 +198,7 @@ fn follow(
         }
         mark(&mut stars.words, place);
         words = words.saturating_add(1);
-        match place_after(code, most, stars, body, times, place, goal) {
+        match place_after(code, ways, stars, body, times, place, goal) {
             Some(after) => place = after,
             None => break,
         }
@@ -207,7 +209,7 @@ fn follow(
 /// Where the path goes on in the body from a place: to the next word where both ways are as long.
 fn place_after(
     code: &Code,
-    most: &[Most],
+    ways: &LongestWays,
     stars: &mut Stars,
     body: usize,
     times: u32,
@@ -221,34 +223,34 @@ fn place_after(
             if condition == Condition::Always {
                 return code.is_target(place, target).then_some(target);
             }
-            let there = most_at_target(code, most, body, place, target);
-            let on = most_at(code, most, body, next);
-            let is_jump = goal.length(there) > goal.length(on);
+            let is_jump = code.is_target(place, target)
+                && goal.length(ways, body, target) > goal.length(ways, body, next);
             Some(if is_jump { target } else { next })
         }
         Some(Word::Invoke(function)) => {
-            let on = most_at(code, most, body, next);
-            call(code, most, stars, usize::from(function), times, on, goal).then_some(next)
+            let on = ways.words_from(body, next);
+            call(code, ways, stars, usize::from(function), times, on, goal).then_some(next)
         }
         _ => Some(next),
     }
 }
 
 /// Counts that the path calls a function so many times; whether it goes through to the function's
-/// end, and then on from the call.
+/// end, and then on from the call, with so many words at most.
 fn call(
     code: &Code,
-    most: &[Most],
+    ways: &LongestWays,
     stars: &mut Stars,
     function: usize,
     times: u32,
-    on: Most,
+    on: u32,
     goal: Goal,
 ) -> bool {
-    let within = most_in(code, most, function);
-    let is_through = match (goal, within.through) {
+    let body = function.saturating_add(1);
+    let through = ways.words_through(body, start_of(code, body));
+    let is_through = match (goal, through) {
         (Goal::End, _) => true,
-        (Goal::Any, Some(words)) => words.saturating_add(on.any) >= within.any,
+        (Goal::Any, Some(words)) => words.saturating_add(on) >= words_in(code, ways, function),
         (Goal::Any, None) => false,
     };
     if is_through {

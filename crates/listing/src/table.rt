@@ -4,25 +4,25 @@ ghost use Rattle.std.specs.Prelude.{◌<◌, length};
 
 use crate::bodies::{write_bound, write_functions_at};
 use crate::knowing::KnownText;
-use crate::paths::{Counted, Most, most_at, most_at_target, most_in, most_on_paths};
+use crate::paths::words_in;
 use crate::stars::{is_marked, longest_path};
 use crate::task_names::{TaskNames, functions_in};
 use crate::words::WordText;
 use ilcode::Word;
 use ilcompile::Setup;
 use iltypes::Condition;
-use ilverify::{Pass, Passed};
+use ilverify::{LongestWays, Pass, Passed};
 use std::alloc::Global;
 use std::io;
 use std::io::Write;
 
-/// The way of a task's table: its code with the names, the longest path from each of its words, and
-/// the words of a longest path of the code.
+/// What makes a task's table: its code with the names, the longest ways from its words, and the words
+/// of a longest path of the code.
 #[derive(Clone, Copy)]
 struct Table<'a> {
     alloc: Global,
     names: &'a TaskNames<'a>,
-    most: &'a [Most],
+    ways: &'a LongestWays<'a>,
     on_longest: &'a [bool],
 }
 
@@ -66,8 +66,10 @@ fn write_table<W: Write>(
     names: &TaskNames,
     bound: u32,
 ) -> io::Result<()> {
-    let most = most_on_paths(alloc, names.code, Counted::Words)?;
-    let longest = longest_path(alloc, names.code, &most)?;
+    let Some(ways) = LongestWays::of(alloc, names.code)? else {
+        return Ok(());
+    };
+    let longest = longest_path(alloc, names.code, &ways)?;
     write_bound(out, names, &longest.shares, bound)?;
     writeln!(
         out,
@@ -76,7 +78,7 @@ fn write_table<W: Write>(
     let table = Table {
         alloc,
         names,
-        most: &most,
+        ways: &ways,
         on_longest: &longest.words,
     };
     write_words(out, &table)
@@ -86,19 +88,14 @@ fn write_table<W: Write>(
 fn write_words<W: Write>(out: &mut W, table: &Table) -> io::Result<()> {
     let mut pass = Pass::begin(table.alloc, table.names.code)?;
     for place in 0..table.names.code.len() {
-        write_functions_at(out, table.names, table.most, place)?;
+        write_functions_at(out, table.names, table.ways, place)?;
         write_word(out, table, &pass, place)?;
         let Passed::On(next) = pass.advance()? else {
             return Ok(());
         };
         pass = next;
     }
-    write_functions_at(out, table.names, table.most, table.names.code.len())
-}
-
-/// How many words the longest path from a place of a body has.
-fn left_at(table: &Table, body: usize, place: usize) -> u32 {
-    most_at(table.names.code, table.most, body, place).any
+    write_functions_at(out, table.names, table.ways, table.names.code.len())
 }
 
 /// Writes the line of a word.
@@ -123,7 +120,9 @@ fn write_word<W: Write>(out: &mut W, table: &Table, pass: &Pass, place: usize) -
 fn write_numbers<W: Write>(out: &mut W, table: &Table, place: usize) -> io::Result<()> {
     let is_longest = is_marked(table.on_longest, place);
     let star = if is_longest { "*" } else { " " };
-    let left = left_at(table, table.names.code.body_at(place), place);
+    let left = table
+        .ways
+        .words_from(table.names.code.body_at(place), place);
     let line = match table.names.code.lines().get(place) {
         Some(line) => *line as usize,
         None => 0,
@@ -157,7 +156,7 @@ fn write_ways<W: Write>(out: &mut W, table: &Table, place: usize, word: Word) ->
             write_both(out, table, place, target as usize)
         }
         Word::Invoke(function) => {
-            let within = most_in(table.names.code, table.most, usize::from(function)).any;
+            let within = words_in(table.names.code, table.ways, usize::from(function));
             write!(out, "; {within} in the function")
         }
         _ => Ok(()),
@@ -167,7 +166,11 @@ fn write_ways<W: Write>(out: &mut W, table: &Table, place: usize, word: Word) ->
 /// Writes how long the longest paths are on both ways from a jump.
 fn write_both<W: Write>(out: &mut W, table: &Table, place: usize, target: usize) -> io::Result<()> {
     let body = table.names.code.body_at(place);
-    let there = most_at_target(table.names.code, table.most, body, place, target).any;
-    let next = left_at(table, body, place.saturating_add(1));
+    let there = if table.names.code.is_target(place, target) {
+        table.ways.words_from(body, target)
+    } else {
+        0
+    };
+    let next = table.ways.words_from(body, place.saturating_add(1));
     write!(out, "; {there} left there, else {next}")
 }

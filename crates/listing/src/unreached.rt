@@ -1,12 +1,11 @@
 //! Notes on words: those that no scan reaches, and those that make requests.
 
 use crate::bodies::write_function;
-use crate::paths::most_requests;
 use crate::stars::{is_marked, mark};
 use crate::task_names::{TaskNames, functions_in};
 use crate::uses::line_at;
 use ilcompile::Setup;
-use ilverify::{Pass, Passed};
+use ilverify::{Pass, Passed, most_requests};
 use std::alloc::Global;
 use std::io;
 use std::io::Write;
@@ -108,7 +107,8 @@ pub(crate) fn write_request_notes<W: Write>(
 ) -> io::Result<()> {
     let mut all: u32 = 0;
     for task in 0..setup.plan().tasks() {
-        all = all.saturating_add(most_requests(alloc, setup.code(task).code())?);
+        let requests = most_requests(alloc, setup.code(task).code())?;
+        all = all.saturating_add(requests.unwrap_or(0));
     }
     if all > MOST_WAITING {
         writeln!(
