@@ -11,7 +11,7 @@ use Rattle.ilverify.specs.Tables.{cap}
 use Rattle.ilverify.specs.Through.{through_at}
 use Rattle.ilverify.specs.BoundSteps.{longest_at, AreRight}
 use Rattle.ilverify.specs.LongestWays.{IsWayFrom, IsLongest, IsPlaced, alone, then_more, IsThrough}
-use Rattle.ilverify.proofs.Bounds.{reach, reach_at, land_reach, land_word, few_words, has_path}
+use Rattle.ilverify.proofs.Bounds.{reach, land_reach, land_word, few_words, has_path}
 use Rattle.ilverify.proofs.Fills.{at_end_is}
 use Rattle.ilverify.proofs.Placed.{land_placed}
 
