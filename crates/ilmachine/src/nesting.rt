@@ -80,7 +80,7 @@ impl Nesting {
 
     /// Opens a call of a function whose body ends at `end`, and whose caller goes on at `back`.
     #[inline(always)]
-    pub(crate) fn enter(&mut self, function: u16, back: usize, end: usize)
+    pub(crate) fn enter(&mut self, function: u32, back: usize, end: usize)
         requires { length self.old.calls < most_calls }
         ensures { self.new
             ≡ nested [] (open_call function back self.old.nesting ∷ self.old.calls) end }

@@ -1,10 +1,12 @@
 //! Functions whose bodies run.
 
 /// A call that is open: the function, the place where its caller goes on, and how many operators
-/// waited for their parenthesis when it was opened.
+/// waited for their parenthesis when it was opened. The function's number has more bits than in its
+/// word: where the machine stored the 16 bits of the word themselves, it would keep the number of
+/// each word twice.
 #[derive(Clone, Copy)]
 pub(crate) struct OpenFunction {
-    pub(crate) function: u16,
+    pub(crate) function: u32,
     pub(crate) back: usize,
     pub(crate) mark: usize,
 }
