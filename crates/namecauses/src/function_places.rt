@@ -56,11 +56,7 @@ pub(crate) fn standing_of(
             }
             Element::Function(function) => {
                 if function.name().from == at {
-                    return Ok(Some(Standing::Function {
-                        number,
-                        inputs: function.inputs().len(),
-                        depth: depth_at(&depths(alloc, source)?, number),
-                    }));
+                    return Ok(Some(standing_as_function(alloc, source, function, number)?));
                 }
                 if let Some(found) = standing_in(alloc, function, at)? {
                     return Ok(Some(found));
@@ -78,6 +74,21 @@ pub(crate) fn standing_of(
         }
     }
     Ok(None)
+}
+
+/// The standing of the name of a function of this number.
+fn standing_as_function(
+    alloc: Global,
+    source: &Source,
+    function: &Function,
+    number: usize,
+) -> Result<Standing, AllocError> {
+    let depths = depths(alloc, source)?;
+    Ok(Standing::Function {
+        number,
+        inputs: function.inputs().len(),
+        depth: depth_at(&depths, number),
+    })
 }
 
 /// A name that a function of the text has too.
@@ -167,11 +178,8 @@ fn depths(alloc: Global, source: &Source) -> Result<Vec<usize>, AllocError> {
     for element in source.elements() {
         if let Element::Function(function) = element {
             let below = deepest_called(alloc, text, function, &numbers, &depths)?;
-            numbers.add(
-                alloc,
-                &lower_case(alloc, function.name().text(text))?,
-                depths.len(),
-            )?;
+            let spelling = lower_case(alloc, function.name().text(text))?;
+            numbers.add(alloc, &spelling, depths.len())?;
             depths.push(below.saturating_add(1))?;
         }
     }
@@ -190,7 +198,8 @@ fn deepest_called(
     let mut deepest: usize = 0;
     for found in &uses_of(alloc, function.lines())? {
         if let Operand::Name(Symbol::Function(called)) = found.operand {
-            if let Some(number) = numbers.get(&lower_case(alloc, called.text(text))?) {
+            let spelling = lower_case(alloc, called.text(text))?;
+            if let Some(number) = numbers.get(&spelling) {
                 deepest = deepest.max(depth_at(depths, number));
             }
         }

@@ -91,14 +91,14 @@ impl OtherFaults {
 }
 
 /// Whether a fault is the first of some in the order of the text. One of what is too much is not
-/// looked for, so that it stands before them or is none of theirs.
+/// looked for: it stands before them.
 fn is_least(fault: Found, found: &[Found]) -> bool {
-    let Some(first) = found.first() else {
-        return false;
-    };
-    is_same(*first, fault)
-        || fault.cause == NameCause::TooMany
-            && (fault.at, fault.cause.number()) < (first.at, first.cause.number())
+    match found.first() {
+        Some(first) => {
+            is_same(*first, fault) || fault.cause == NameCause::TooMany && fault.at <= first.at
+        }
+        None => false,
+    }
 }
 
 /// Whether both are one fault.
