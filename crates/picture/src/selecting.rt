@@ -134,6 +134,14 @@ fn rows_at(
     Ok(kept)
 }
 
+/// The first column that gets a number, where one does.
+fn first_kept(numbers: &[Option<usize>]) -> usize {
+    numbers
+        .iter()
+        .position(|number| number.is_some())
+        .unwrap_or(numbers.len())
+}
+
 /// A row with the marks whose columns get a number; before them it is as the marks before left it.
 fn row_at(alloc: Global, row: Row, numbers: &[Option<usize>]) -> Result<Row, AllocError> {
     let Row {
@@ -145,11 +153,12 @@ fn row_at(alloc: Global, row: Row, numbers: &[Option<usize>]) -> Result<Row, All
     } = row;
     let mut kept = Row::new(alloc, name, place, bus);
     kept.level = level;
+    let first = first_kept(numbers);
     let mut is_down = false;
     for mark in marks {
         match number_at(numbers, mark.column) {
             Some(number) => kept.add(number, mark.sign)?,
-            None if kept.marks.is_empty() => {
+            None if mark.column < first => {
                 kept.level = level_of(mark.sign);
                 is_down = mark.sign == Sign::Down;
             }
