@@ -15,14 +15,14 @@ _dalictl() {
     case ${COMP_WORDS[1]} in
         check) options='--bind --code --help' files='--bind' others='' ;;
         step) options='--bind --scans --every --help' files='--bind' others='--scans --every' ;;
-        play) options='--limit --names --expect --help' files='' others='--limit --expect' ;;
+        play) options='--limit --names --expect --watch --help' files='' others='--limit --expect --watch' ;;
         run) options='--limit --workers --help' files='' others='--limit --workers' ;;
         live) options='--line --period --for --stop --limit --workers --stay --log --log-size --record --status --json --keep --help' files='--stop --log --record --status --keep' others='--line --period --for --limit --workers --log-size' ;;
         probe) options='--line --bus --help' files='--line' others='--bus' ;;
         listen) options='--line --bind --bus --record --for --stop --help' files='--line --bind --record --stop' others='--bus --for' ;;
         blink) options='--line --help' files='--line' others='' ;;
         ask) options='--line --help' files='--line' others='' ;;
-        look) options='--bind --text --out --bus --from --to --help' files='--bind --out' others='--bus --from --to' ;;
+        look) options='--bind --text --out --bus --from --to --watch --help' files='--bind --out' others='--bus --from --to --watch' ;;
         notes) options='--bind --help' files='--bind' others='' ;;
         list) options='--bind --help' files='--bind' others='' ;;
         explain) options='--bind --help' files='--bind' others='' ;;

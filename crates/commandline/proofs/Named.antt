@@ -3,12 +3,13 @@ use Rattle.std.proofs.Common.{List, Option, inl, inr}
 use Rattle.clap.specs.Words.{Row, Text}
 use Rattle.invocations.proofs.ExpectedLists.{not_expected}
 use Rattle.invocations.proofs.LineFaults.{no_lines}
-use Rattle.invocations.specs.Invocations.{IsOfFault, expected_words, line_word, line_words}
+use Rattle.invocations.proofs.WatchedLists.{seventeen}
+use Rattle.invocations.specs.Invocations.{IsOfFault, expected_words, line_word, line_words, watched_words}
 use Rattle.invocations.specs.LineWords.{ArePaths, IsNoPath}
 use Rattle.invocations.specs.declared.line_words.LineWordFault.{LineWordFault}
 use Rattle.invocations.specs.declared.line_words.LineWordFault.TheVariants.{Again, NoLine}
 use Rattle.invocations.specs.declared.word_fault.WordFault.{WordFault}
-use Rattle.invocations.specs.declared.word_fault.WordFault.TheVariants.{Expected, Line}
+use Rattle.invocations.specs.declared.word_fault.WordFault.TheVariants.{Expected, Line, Watched}
 use Rattle.commandline.specs.CommandLine.{HasWrongValue}
 
 no_path : (text : Text) (fault : LineWordFault) → IsNoPath text fault → (from : Text) (to : Option Text)
@@ -24,4 +25,10 @@ fault_is_wrong name found (Line fault) of =
       | inr line ↦ inr (inl (inr (line.0, no_path (line_word found) fault line.1)))
     ]
 fault_is_wrong name found (Expected fault) of =
-    inr (inr (of.0, not_expected (expected_words found) fault of.1))
+    inr (inr (inl (of.0, not_expected (expected_words found) fault of.1)))
+fault_is_wrong name found (Watched fault) of =
+    let many = seventeen (watched_words found) fault of.1 in
+    elim of.0 as (λ _. HasWrongValue name found) [
+      | inl look ↦ inr (inr (inr (inr look, many)))
+      | inr play ↦ inr (inr (inr (inl play.0, many)))
+    ]

@@ -1,16 +1,18 @@
 -- The command line (profile): `check FILE [--bind FILE]`, `check --code FILE`, `step FILE TASK [--bind FILE] [--scans N]
--- [--every MS]`, `play TEXT BIND SCENARIO [--limit N] [--names] [--expect NAME=VALUE]..`,
+-- [--every MS]`, `play TEXT BIND SCENARIO [--limit N] [--names] [--expect NAME=VALUE].. [--watch NAME]..`,
 -- `run TEXT BIND SCENARIO [--limit N] [--workers W]`,
 -- `live TEXT BIND --line B=PATH.. [--period MS] [--for SECONDS] [--stop PATH] [--limit N] [--workers W] [--stay]
 -- [--log FILE] [--log-size BYTES] [--record FILE] [--status FILE] [--json] [--keep FILE]`,
 -- `probe --line PATH [TEXT BIND] [--bus B]`,
 -- `listen --line PATH [--bind FILE] [--bus B] [--record FILE] [--for SECONDS] [--stop PATH]`, `blink --line PATH ADR`,
 -- `ask --line PATH REQUEST ADR [VALUE] [VALUE2]`,
--- `look TEXT BIND SCENARIO [--text] [--out FILE] [--bus B] [--from MS] [--to MS]`, `look TEXT SCENARIO --bind FILE ..`,
+-- `look TEXT BIND SCENARIO [--text] [--out FILE] [--bus B] [--from MS] [--to MS] [--watch NAME]..`,
+-- `look TEXT SCENARIO --bind FILE ..`,
 -- `notes FILE [--bind FILE]`, `list FILE [TASK] [--bind FILE]`, `explain FILE [SCENARIO] [--bind FILE]`,
 -- `code FILE TASK OUT [--bind FILE]`, `frame HEX [HEX2] [HEX3] [HEX4]` and `event BIND B.K INFORMATION`, with the reading
 -- of words that `clap` has.
-use Rattle.std.specs.Prelude.{◌≡◌, ℕ, ◌⊎◌, List, [], Option, Some, true, pos, codes, IsSome, Result, Ok, Err}
+use Rattle.std.specs.Prelude.{◌≡◌, ℕ, ◌<◌, ◌⊎◌, List, [], Option, Some, true, pos, codes, length, IsSome, Result}
+use Rattle.std.specs.Prelude.{Ok, Err}
 use Rattle.clap.specs.Words.{App, HasKind, Row, Rule, Text, fault_of, first_of, kind_of, new_app, new_rule, one_of}
 use Rattle.clap.specs.Words.{subcommand_of, with_rule, with_subcommand}
 use Rattle.clap.specs.Simple.{on_top}
@@ -22,6 +24,7 @@ use Rattle.clap.specs.declared.error.kind.ErrorKind.TheVariants.{ArgumentConflic
 use Rattle.clap.specs.declared.error.kind.ErrorKind.TheVariants.{ValueValidation}
 use Rattle.invocations.specs.ExpectedWords.{AreExpected}
 use Rattle.invocations.specs.Invocations.{IsLineName, IsOfCommand, expected_words, line_word, line_words}
+use Rattle.invocations.specs.Invocations.{watched_words}
 use Rattle.invocations.specs.LineWords.{AreLines, ArePaths}
 use Rattle.invocations.specs.declared.expected_words.ExpectedWord.{ExpectedWord}
 use Rattle.invocations.specs.declared.invocations.Invocation.{Invocation}
@@ -89,9 +92,11 @@ scenario_files name =
 
 abbrev pub play_command : App
 play_command =
-    with_rule (with_rule (with_rule (scenario_files (codes "play")) (number_option (codes "limit") 100 1000000))
+    with_rule (with_rule (with_rule (with_rule (scenario_files (codes "play"))
+    (number_option (codes "limit") 100 1000000))
     (flag (codes "names")))
-    (listed_option (codes "expect"))
+    (listed_option (codes "expect")))
+    (listed_option (codes "watch"))
 
 abbrev pub run_command : App
 run_command =
@@ -165,9 +170,10 @@ look_picture = with_rule (with_rule look_files (flag (codes "text"))) (option (c
 
 abbrev pub look_command : App
 look_command =
-    with_rule (with_rule (with_rule look_picture (number_option (codes "bus") 0 63))
+    with_rule (with_rule (with_rule (with_rule look_picture (number_option (codes "bus") 0 63))
     (number_option (codes "from") 0 4294967295))
-    (number_option (codes "to") 0 4294967295)
+    (number_option (codes "to") 0 4294967295))
+    (listed_option (codes "watch"))
 
 abbrev pub notes_command : App
 notes_command = with_rule (with_rule (new_app (codes "notes")) (wanted (codes "FILE"))) (option (codes "bind"))
@@ -318,9 +324,15 @@ abbrev pub IsUnexpected : Text → List Row → Type 0
 IsUnexpected name found =
     (name ≡ codes "play") × ((expected : List ExpectedWord) → ¬ AreExpected (expected_words found) expected)
 
+-- what was found under `play` or `look` names more than 16 variables that are watched
+abbrev pub WatchesTooMany : Text → List Row → Type 0
+WatchesTooMany name found =
+    ((name ≡ codes "play") ⊎ (name ≡ codes "look")) × (16 < length (watched_words found))
+
 -- what was found has a value that isn't taken
 abbrev pub HasWrongValue : Text → List Row → Type 0
-HasWrongValue name found = WritesOverInput name found ⊎ NamesNoLines name found ⊎ IsUnexpected name found
+HasWrongValue name found =
+    WritesOverInput name found ⊎ NamesNoLines name found ⊎ IsUnexpected name found ⊎ WatchesTooMany name found
 
 -- what was found is at fault, and the first fault is of this kind: a thing beside another one, then a file that lacks,
 -- then a value

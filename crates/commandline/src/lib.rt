@@ -24,6 +24,6 @@ mod words;
 pub use invocations::{
     Beside, ExpectedWord, ExpectedWords, Files, FrameWords, Inquiry, Invocation, LineWord,
     LineWords, ListenEnd, LiveFiles, LiveOptions, LookOptions, PlayFiles, PlayShows, Question,
-    RequestWords, RunSize, Tool,
+    RequestWords, RunSize, Tool, WatchedNames,
 };
 pub use options::read;

@@ -8,7 +8,7 @@ use crate::checks::{is_given, is_word};
 use crate::tables::{ASK, BLINK, CHECK, CODE, LISTEN, LIVE, LOOK, PLAY, PROBE, Subcommand};
 use clap::error::ErrorKind;
 use clap::{ArgMatches, Error};
-use invocations::{ExpectedFault, LineWordFault, WordFault, word_in};
+use invocations::{ExpectedFault, LineWordFault, WatchedFault, WordFault, word_in};
 use std::alloc::{AllocError, Global};
 
 /// The fault of a binding that is named beside a code file, or beside another one.
@@ -73,6 +73,7 @@ pub(crate) fn wrong_word(alloc: Global, name: &str, fault: WordFault) -> Result<
     match fault {
         WordFault::Line(fault) => no_line(alloc, name, fault),
         WordFault::Expected(fault) => unexpected(alloc, fault),
+        WordFault::Watched(fault) => watched(alloc, name, fault),
     }
 }
 
@@ -88,6 +89,18 @@ fn unexpected(alloc: Global, fault: ExpectedFault) -> Result<Error, AllocError>
         "invalid value '{word}' for '--expect <NAME=VALUE>': {reason}"
     )?;
     command_of(alloc, PLAY)?.error(ErrorKind::ValueValidation, message.as_str())
+}
+
+/// The fault of a name that is watched and is one too many, under the command's name.
+fn watched(alloc: Global, name: &str, fault: WatchedFault) -> Result<Error, AllocError>
+    ensures { IfOk result (λ error. kind_of error ≡ ErrorKind.ValueValidation) }
+{
+    let word = fault.name;
+    let command = if name == "look" { LOOK } else { PLAY };
+    let message = format!(in alloc;
+        "invalid value '{word}' for '--watch <NAME>': 16 are given before it, which is the most"
+    )?;
+    command_of(alloc, command)?.error(ErrorKind::ValueValidation, message.as_str())
 }
 
 /// The fault of a word that names no line, or a second one of a bus, under the command's name.

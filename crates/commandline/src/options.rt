@@ -23,7 +23,7 @@ use std::alloc::{AllocError, Global};
 /// that a binding is named beside a code file, or twice; or a text without its binding or its
 /// scenario; or that the code file would be written over the text or the binding; or that a word
 /// names no line, or a bus that another one names; or that a word says nothing that is expected, or
-/// is one too many.
+/// is one too many; or that a name that is watched is one too many.
 pub fn read<'a>(alloc: Global, words: &'a [String]) -> Result<Invocation<'a>, Error>
     // Exactly the words that the command line takes are taken, unless memory is refused,
     ensures taken { AreTaken (map (λ word. string_bytes word) words.entry.now) result }

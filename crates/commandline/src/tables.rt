@@ -141,6 +141,11 @@ pub(crate) const PLAY: Subcommand = Subcommand {
             "NAME=VALUE",
             "What a value must be at the end, at most 16 times; where it isn't, the status is 1",
         ),
+        Word::Listed(
+            "watch",
+            "NAME",
+            "Prints a variable's value behind each commit that finds it changed, at most 16 times",
+        ),
     ],
 };
 
@@ -277,6 +282,11 @@ pub(crate) const LOOK: Subcommand = Subcommand {
             0,
             4_294_967_295,
             "Ends at this millisecond, 0 to 4294967295 [default: the last]",
+        ),
+        Word::Listed(
+            "watch",
+            "NAME",
+            "Draws a row of a variable's values, at most 16 times",
         ),
     ],
 };

@@ -4,3 +4,4 @@ mod Found
 pub mod LineFaults
 mod LineLists
 mod LineParts
+pub mod WatchedLists

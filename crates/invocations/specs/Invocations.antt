@@ -6,6 +6,7 @@ use Rattle.std.specs.Str.Parse.{IsNumeral, digits_value, without_leading_plus}
 use Rattle.clap.specs.Words.{Row, Text, all_of, first_of, one_of}
 use Rattle.invocations.specs.ExpectedWords.{AreExpected, IsFirstUnexpected}
 use Rattle.invocations.specs.LineWords.{AreLines, ArePaths, IsFirstFault, IsNoPath}
+use Rattle.invocations.specs.WatchedNames.{AreWatched, IsSeventeenth}
 use Rattle.invocations.specs.declared.files.Files.{Files}
 use Rattle.invocations.specs.declared.files.LiveFiles.{LiveFiles}
 use Rattle.invocations.specs.declared.files.PlayFiles.{PlayFiles}
@@ -21,6 +22,7 @@ use Rattle.invocations.specs.declared.invocations.LiveOptions.{LiveOptions}
 use Rattle.invocations.specs.declared.invocations.LookOptions.{LookOptions}
 use Rattle.invocations.specs.declared.invocations.PlayShows.{PlayShows}
 use Rattle.invocations.specs.declared.invocations.RunSize.{RunSize}
+use Rattle.invocations.specs.declared.expected_words.ExpectedWord.{ExpectedWord}
 use Rattle.invocations.specs.declared.line_words.LineWord.{LineWord}
 use Rattle.invocations.specs.declared.line_words.LineWordFault.{LineWordFault}
 use Rattle.invocations.specs.declared.questions.Question.{Question}
@@ -30,7 +32,7 @@ use Rattle.invocations.specs.declared.tools.RequestWords.{RequestWords}
 use Rattle.invocations.specs.declared.tools.Tool.{Tool}
 use Rattle.invocations.specs.declared.tools.Tool.TheVariants.{Blink, Listen, Probe, Request}
 use Rattle.invocations.specs.declared.word_fault.WordFault.{WordFault}
-use Rattle.invocations.specs.declared.word_fault.WordFault.TheVariants.{Expected, Line}
+use Rattle.invocations.specs.declared.word_fault.WordFault.TheVariants.{Expected, Line, Watched}
 
 -- the text that was given, or none
 abbrev pub given : Option Text → Text
@@ -107,10 +109,16 @@ pub record ArePlayFiles (found : List Row) (files : PlayFiles) : Type 0 where
 abbrev pub expected_words : List Row → List Text
 expected_words found = unwrap_or (all_of (codes "expect") found) []
 
--- what a play shows beside what happens: whether frames are in words too, and what is expected at its end
+-- the words that name the variables that are watched
+abbrev pub watched_words : List Row → List Text
+watched_words found = unwrap_or (all_of (codes "watch") found) []
+
+-- what a play shows beside what happens: whether frames are in words too, what is expected at its end, and the variables
+-- whose changes are shown
 pub record AreShows (found : List Row) (shows : PlayShows) : Type 0 where
   pub names : IsFlag (one_of (codes "names") found) shows.names
   pub expects : AreExpected (expected_words found) shows.expects.items
+  pub watches : AreWatched (watched_words found) shows.watches.items
 
 -- the binding and the scenario of a scenario that is looked at: where `--bind` names the binding, the second word is the
 -- scenario; else the second word is the binding, and the third the scenario
@@ -254,8 +262,9 @@ IsOfCommand name found (Live files lines options) =
     (name ≡ codes "live") × AreLiveFiles found files × AreLines (line_words found) lines.items
     × AreLiveOptions found options
 IsOfCommand name found (invocations.Tool tool) = IsOfTool name found tool
-IsOfCommand name found (Look files options) =
+IsOfCommand name found (Look files options watches) =
     (name ≡ codes "look") × AreLookFiles found files × AreLookOptions found options
+    × AreWatched (watched_words found) watches.items
 IsOfCommand name found (Code files task to) =
     (name ≡ codes "code") × AreFiles found files × AreCodeWords found task to
 IsOfCommand name found (CheckCode path) =
@@ -272,10 +281,19 @@ IsOfCommand name found (Tell files question) =
 abbrev pub IsOfLineFault : Text → List Row → LineWordFault → Type 0
 IsOfLineFault name found fault = IsLineName name × IsNoPath (line_word found) fault
 
+-- what was found under a command's name names what is watched: it is `look`, or it is `play` and no word for what is
+-- expected is at fault
+abbrev pub IsWatching : Text → List Row → Type 0
+IsWatching name found =
+    (name ≡ codes "look")
+    ⊎ ((name ≡ codes "play") × ((expected : List ExpectedWord) × AreExpected (expected_words found) expected))
+
 -- what was found under a command's name has a word at fault: under `live` the first among those for the lines of buses,
--- at one line that for it, and under `play` the first among those for what is expected
+-- at one line that for it, under `play` the first among those for what is expected, and under `look`, or under `play`
+-- where these are not at fault, the seventeenth that names what is watched
 abbrev pub IsOfFault : Text → List Row → WordFault → Type 0
 IsOfFault name found (Line fault) =
     ((name ≡ codes "live") × IsFirstFault (line_words found) fault) ⊎ IsOfLineFault name found fault
 IsOfFault name found (Expected fault) =
     (name ≡ codes "play") × IsFirstUnexpected (expected_words found) fault
+IsOfFault name found (Watched fault) = IsWatching name found × IsSeventeenth (watched_words found) fault

@@ -2,3 +2,4 @@ pub mod ExpectedWords
 pub mod Inquiries
 pub mod Invocations
 pub mod LineWords
+pub mod WatchedNames

@@ -6,13 +6,14 @@ use crate::inquiries::Inquiry;
 use crate::line_words::LineWords;
 use crate::questions::Question;
 use crate::tools::Tool;
+use crate::watched_names::WatchedNames;
 
 /// What the user asks for.
 #[derive(Drop)]
 pub enum Invocation<'a> {
     /// An answer to a text.
     Ask(Inquiry<'a>),
-    /// `play TEXT BIND SCENARIO [--limit N] [--names] [--expect NAME=VALUE]..`
+    /// `play TEXT BIND SCENARIO [--limit N] [--names] [--expect NAME=VALUE].. [--watch NAME]..`
     Play {
         files: PlayFiles<'a>,
         limit: u32,
@@ -33,11 +34,13 @@ pub enum Invocation<'a> {
     },
     /// What is done at one line.
     Tool(Tool<'a>),
-    /// `look TEXT BIND SCENARIO [--text] [--out FILE] [--bus B] [--from MS] [--to MS]`, or
-    /// `look TEXT SCENARIO --bind FILE ..`
+    /// `look TEXT BIND SCENARIO [--text] [--out FILE] [--bus B] [--from MS] [--to MS]
+    /// [--watch NAME]..`, or `look TEXT SCENARIO --bind FILE ..`
     Look {
         files: PlayFiles<'a>,
         options: LookOptions<'a>,
+        /// The variables that have a row each.
+        watches: WatchedNames<'a>,
     },
     /// A question about a text.
     Tell {
@@ -126,6 +129,8 @@ pub struct PlayShows<'a> {
     pub names: bool,
     /// What is expected at the end.
     pub expects: ExpectedWords<'a>,
+    /// The variables whose changes are shown.
+    pub watches: WatchedNames<'a>,
 }
 
 /// What of a scenario a picture shows, and where the picture goes.

@@ -5,9 +5,9 @@
 //! are played, run or looked at, a building with the lines of its buses, a [`Tool`] at one line, a
 //! code file that is written or judged, or frames and events in words. Or it gives the
 //! [`WordFault`]: the first word that names no line, or a second one of a bus, or that says nothing
-//! that is expected. The definitions to read first are `IsOfCommand` (specs/Invocations.antt),
-//! `IsLineWord` (specs/LineWords.antt) and `IsExpectedWord` (specs/ExpectedWords.antt). Which words
-//! are taken stands above, in `commandline`.
+//! that is expected, or is the seventeenth name that is watched. The definitions to read first are
+//! `IsOfCommand` (specs/Invocations.antt), `IsLineWord` (specs/LineWords.antt) and `IsExpectedWord`
+//! (specs/ExpectedWords.antt). Which words are taken stands above, in `commandline`.
 //!
 //! ```text
 //! match invocations::invocation_of("check", &found)? {
@@ -26,6 +26,7 @@ mod questions;
 mod readers;
 mod shows;
 mod tools;
+mod watched_names;
 mod word_fault;
 
 pub use expected_words::{ExpectedFault, ExpectedWord, ExpectedWords, MOST_EXPECTED};
@@ -38,4 +39,5 @@ pub use line_words::{LineWord, LineWordFault, LineWords};
 pub use questions::{Question, word_in};
 pub use readers::invocation_of;
 pub use tools::{ListenEnd, RequestWords, Tool};
+pub use watched_names::{MOST_WATCHED, WatchedFault, WatchedNames};
 pub use word_fault::WordFault;

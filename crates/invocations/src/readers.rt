@@ -14,7 +14,7 @@ use crate::inquiries::Inquiry;
 use crate::invocations::{Beside, Invocation, LiveOptions, RunSize};
 use crate::line_words::{LineWordFault, LineWords, lines_of};
 use crate::questions::{question_of, word_in};
-use crate::shows::{event_in, frame_words_in, look_files_in, look_options_in, play_in};
+use crate::shows::{event_in, frame_words_in, look_in, play_in};
 use crate::word_fault::WordFault;
 use arrayvec::ArrayVec;
 use clap::ArgMatches;
@@ -24,7 +24,7 @@ use clap::ArgMatches;
 /// # Errors
 ///
 /// A word for a line names none, or a bus that a word before it names; or a word for what is
-/// expected isn't one, or is one too many.
+/// expected isn't one, or is one too many; or a name that is watched is one too many.
 pub fn invocation_of<'a>(
     name: &str,
     found: &ArgMatches<'a>,
@@ -36,7 +36,10 @@ pub fn invocation_of<'a>(
         return Ok(live_in(found)?);
     }
     if name == "play" {
-        return Ok(play_in(found)?);
+        return play_in(found);
+    }
+    if name == "look" {
+        return Ok(look_in(found)?);
     }
     match at_line(name, found) {
         Some(made) => Ok(Invocation::Tool(made?)),
@@ -44,11 +47,12 @@ pub fn invocation_of<'a>(
     }
 }
 
-/// The invocation of what was found under the name of a command that takes no words for lines and
-/// none for what is expected.
+/// The invocation of what was found under the name of a command that takes no words for lines, and
+/// none for what is expected or watched.
 fn without_lists<'a>(name: &str, found: &ArgMatches<'a>) -> Invocation<'a>
     requires building { ¬ (name.now ≡ codes "live") }
     requires play { ¬ (name.now ≡ codes "play") }
+    requires look { ¬ (name.now ≡ codes "look") }
     requires line { ¬ IsLineName name.now }
     ensures { IsOfCommand name.now (rows_of (found_of found.now)) result }
 {
@@ -56,12 +60,6 @@ fn without_lists<'a>(name: &str, found: &ArgMatches<'a>) -> Invocation<'a>
         return Invocation::Run {
             files: play_files_in(found),
             size: run_size_in(found),
-        };
-    }
-    if name == "look" {
-        return Invocation::Look {
-            files: look_files_in(found),
-            options: look_options_in(found),
         };
     }
     if name == "code" {

@@ -5,28 +5,34 @@ ghost use Rattle.std.specs.Prelude.{◌≡◌, MatchResult, codes};
 ghost use Rattle.clap.specs.Words.{found_of, rows_of};
 ghost use Rattle.invocations.specs.ExpectedWords.{AreExpected, IsFirstUnexpected};
 ghost use Rattle.invocations.specs.Invocations.{AreFrameWords, AreLookFiles, AreLookOptions};
-ghost use Rattle.invocations.specs.Invocations.{IsOfCommand, expected_words};
+ghost use Rattle.invocations.specs.Invocations.{IsOfCommand, IsOfFault, expected_words};
+ghost use Rattle.invocations.specs.Invocations.{watched_words};
+ghost use Rattle.invocations.specs.WatchedNames.{AreWatched, IsSeventeenth};
 
 use crate::expected_words::{ExpectedFault, ExpectedWords, expected_of};
 use crate::files::PlayFiles;
 use crate::invocations::{FrameWords, Invocation, LookOptions, PlayShows};
 use crate::questions::word_in;
 use crate::readers::{flag_in, given_number_in, number_in, play_files_in, text_in};
+use crate::watched_names::{WatchedFault, WatchedNames, watched_of};
+use crate::word_fault::WordFault;
 use arrayvec::ArrayVec;
 use clap::ArgMatches;
 
 /// What is asked by what was found under `play`.
-pub(crate) fn play_in<'a>(found: &ArgMatches<'a>) -> Result<Invocation<'a>, ExpectedFault<'a>>
+pub(crate) fn play_in<'a>(found: &ArgMatches<'a>) -> Result<Invocation<'a>, WordFault<'a>>
     ensures { MatchResult result (IsOfCommand (codes "play") (rows_of (found_of found.now)))
-        (IsFirstUnexpected (expected_words (rows_of (found_of found.now)))) }
+        (IsOfFault (codes "play") (rows_of (found_of found.now))) }
 {
     let expects = expected_in(found)?;
+    let watches = watched_in(found)?;
     Ok(Invocation::Play {
         files: play_files_in(found),
         limit: number_in(found, "limit", 100_000),
         shows: PlayShows {
             names: flag_in(found, "names"),
             expects,
+            watches,
         },
     })
 }
@@ -43,8 +49,33 @@ fn expected_in<'a>(found: &ArgMatches<'a>) -> Result<ExpectedWords<'a>, Expected
     }
 }
 
+/// The variables that are watched.
+fn watched_in<'a>(found: &ArgMatches<'a>) -> Result<WatchedNames<'a>, WatchedFault<'a>>
+    ensures { MatchResult result
+        (λ watched. AreWatched (watched_words (rows_of (found_of found.now))) watched.items)
+        (IsSeventeenth (watched_words (rows_of (found_of found.now)))) }
+{
+    match found.get_strs("watch") {
+        Some(words) => watched_of(words),
+        None => Ok(ArrayVec::new()),
+    }
+}
+
+/// What is asked by what was found under `look`.
+pub(crate) fn look_in<'a>(found: &ArgMatches<'a>) -> Result<Invocation<'a>, WatchedFault<'a>>
+    ensures { MatchResult result (IsOfCommand (codes "look") (rows_of (found_of found.now)))
+        (IsSeventeenth (watched_words (rows_of (found_of found.now)))) }
+{
+    let watches = watched_in(found)?;
+    Ok(Invocation::Look {
+        files: look_files_in(found),
+        options: look_options_in(found),
+        watches,
+    })
+}
+
 /// The files that are named for a scenario that is looked at.
-pub(crate) fn look_files_in<'a>(found: &ArgMatches<'a>) -> PlayFiles<'a>
+fn look_files_in<'a>(found: &ArgMatches<'a>) -> PlayFiles<'a>
     ensures { AreLookFiles (rows_of (found_of found.now)) result }
 {
     match word_in(found, "bind") {
@@ -58,7 +89,7 @@ pub(crate) fn look_files_in<'a>(found: &ArgMatches<'a>) -> PlayFiles<'a>
 }
 
 /// What of the scenario the picture shows, and where it goes.
-pub(crate) fn look_options_in<'a>(found: &ArgMatches<'a>) -> LookOptions<'a>
+fn look_options_in<'a>(found: &ArgMatches<'a>) -> LookOptions<'a>
     ensures { AreLookOptions (rows_of (found_of found.now)) result }
 {
     LookOptions {

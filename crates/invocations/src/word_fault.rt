@@ -2,6 +2,7 @@
 
 use crate::expected_words::ExpectedFault;
 use crate::line_words::LineWordFault;
+use crate::watched_names::WatchedFault;
 
 /// The first word that is at fault among those of one option.
 #[derive(Clone, Copy)]
@@ -10,6 +11,8 @@ pub enum WordFault<'a> {
     Line(LineWordFault<'a>),
     /// Of `--expect`.
     Expected(ExpectedFault<'a>),
+    /// Of `--watch`.
+    Watched(WatchedFault<'a>),
 }
 
 impl<'a> From<LineWordFault<'a>> for WordFault<'a> {
@@ -31,5 +34,16 @@ impl<'a> From<ExpectedFault<'a>> for WordFault<'a> {
 
     fn from(fault: ExpectedFault<'a>) -> Self {
         WordFault::Expected(fault)
+    }
+}
+
+impl<'a> From<WatchedFault<'a>> for WordFault<'a> {
+    ghost use Rattle.std.specs.Prelude.{◌≡◌};
+    ghost use Rattle.invocations.specs.declared.word_fault.WordFault.TheVariants.{Watched};
+
+    ghost from_gives = { λ fault word_fault. word_fault ≡ Watched fault };
+
+    fn from(fault: WatchedFault<'a>) -> Self {
+        WordFault::Watched(fault)
     }
 }
