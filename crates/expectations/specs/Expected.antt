@@ -1,27 +1,17 @@
 -- What is expected of the global variables of a plant (profile).
-use Rattle.std.specs.Prelude.{◌≡◌, ℕ, ◌<◌, List, length, map, codes, IsSomeAnd, Some, true, false}
+use Rattle.std.specs.Prelude.{◌≡◌, ℕ, ◌<◌, List, length, codes, Some, true, false}
 use Rattle.std.specs.List.{All}
-use Rattle.std.specs.Char.{to_ascii_lowercase}
 use Rattle.std.specs.Str.Parse.{IsNumeral, signed_digits_value, without_leading_sign}
 use Rattle.iltypes.specs.declared.value.Value.{Value}
 use Rattle.iltypes.specs.declared.value.Value.TheVariants as values
 use Rattle.ilimage.specs.Images.{Global}
-use Rattle.ilplan.specs.declared.slot.SlotOwner.TheVariants as owners
-use Rattle.ilplan.specs.Plans.{Planned, variable_name}
+use Rattle.ilplan.specs.Plans.{Planned}
 use Rattle.plantevents.specs.Variables.{value}
 use Rattle.plant.specs.Shown.{Shown}
+use Rattle.watching.specs.Names.{IsAlike, IsNamed}
 use Rattle.invocations.specs.declared.expected_words.ExpectedWord.{ExpectedWord}
 
--- ---- names and values
-
--- both are the same, without regard to letter case
-abbrev pub IsAlike : List ℕ → List ℕ → Type 0
-IsAlike a b = map to_ascii_lowercase a ≡ map to_ascii_lowercase b
-
--- the global variable of this number is declared, and has this name in any letter case
-abbrev pub IsNamed : Planned → List ℕ → ℕ → Type 0
-IsNamed plan name number =
-    IsSomeAnd (variable_name plan (owners.Global number)) (λ declared. IsAlike declared name)
+-- ---- values
 
 -- a word spells a value: TRUE and FALSE in any letter case, a whole number by its decimal digits
 abbrev pub IsSpelled : List ℕ → Value → Type 0

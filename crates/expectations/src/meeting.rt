@@ -1,13 +1,14 @@
 //! Whether a plant is as it is expected to be.
 
 ghost use Rattle.std.specs.Prelude.{◌<◌, ◌↔◌, length, IsTrue};
-ghost use Rattle.expectations.specs.Expected.{AreKnown, AreMet, IsKnown, IsMet, IsMetAt, IsNamed};
+ghost use Rattle.expectations.specs.Expected.{AreKnown, AreMet, IsKnown, IsMet, IsMetAt};
 ghost use Rattle.expectations.specs.Expected.{IsSpelled};
 
 use ilplan::Plan;
 use iltypes::Value;
 use invocations::ExpectedWord;
 use plant::Plant;
+use watching::is_named;
 
 /// Whether each name that is expected is one of a global variable, in any letter case.
 pub fn are_known(plan: &Plan, expected: &[ExpectedWord]) -> bool
@@ -31,15 +32,6 @@ pub(crate) fn is_known(plan: &Plan, expected: &ExpectedWord) -> bool
         }
     }
     false
-}
-
-/// Whether a global variable has this name, in any letter case.
-pub(crate) fn is_named(plan: &Plan, global: usize, name: &str) -> bool
-    requires { global < length plan.now.globals }
-    ensures { IsTrue result ↔ IsNamed plan.now name.now global }
-{
-    let declared = plan.global_name(global);
-    declared.bytes.eq_ignore_ascii_case(name.as_bytes())
 }
 
 /// Whether all is met that is expected.

@@ -2,12 +2,13 @@
 
 ghost use Rattle.std.specs.Prelude.{◌<◌, length};
 
-use crate::meeting::{is_known, is_named, is_spelled};
+use crate::meeting::{is_known, is_spelled};
 use ilplan::Plan;
 use invocations::ExpectedWord;
 use plant::Plant;
 use std::io;
 use std::io::Write;
+use watching::is_named;
 
 /// Reports each name that is expected and that no global variable has.
 ///

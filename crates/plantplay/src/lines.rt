@@ -9,6 +9,7 @@ use std::alloc::{AllocError, Global};
 use std::io::Write;
 use std::{fmt, io};
 use transact::{Outcome, Report, Transaction};
+use watching::Watch;
 
 /// How the frames of a play are written.
 #[derive(Clone, Copy, PartialEq, Eq, Debug)]
@@ -19,11 +20,13 @@ pub enum FrameStyle {
     Words,
 }
 
-/// An observer that writes a line for each event.
+/// An observer that writes a line for each event, and behind the line of a commit one for each
+/// variable that is watched and has another value than was told last.
 #[derive(Drop)]
 pub(crate) struct Lines<'a, W> {
     out: &'a mut W,
     style: FrameStyle,
+    watch: Option<Watch>,
     /// The names of the tasks, by their numbers.
     tasks: Vec<String>,
 }
@@ -38,10 +41,16 @@ impl<'a, W: Write> Lines<'a, W> {
         alloc: Global,
         out: &'a mut W,
         style: FrameStyle,
+        watch: Option<Watch>,
         plan: &Plan,
     ) -> Result<Self, AllocError> {
         let tasks = task_names(alloc, plan)?;
-        Ok(Lines { out, style, tasks })
+        Ok(Lines {
+            out,
+            style,
+            watch,
+            tasks,
+        })
     }
 }
 
@@ -64,10 +73,16 @@ fn name_of(tasks: &[String], task: usize) -> &str {
 
 impl<B, W: Write> Observer<B> for Lines<'_, W> {
     fn ticked(&mut self, _place: u64, moment: u64) -> io::Result<()> {
+        if let Some(watch) = &mut self.watch {
+            watch.ticked(moment);
+        }
         writeln!(self.out, "tick {moment}")
     }
 
     fn heard(&mut self, _place: u64, bus: u8, frame: Frame24) -> io::Result<()> {
+        if let Some(watch) = &mut self.watch {
+            watch.heard(bus, frame);
+        }
         let behind = WordsBehind {
             style: self.style,
             frames: &[Frame::Forward24(frame)],
@@ -76,6 +91,9 @@ impl<B, W: Write> Observer<B> for Lines<'_, W> {
     }
 
     fn took(&mut self, _place: u64, _worker: usize, task: usize) -> io::Result<()> {
+        if let Some(watch) = &mut self.watch {
+            watch.took()?;
+        }
         let name = name_of(&self.tasks, task);
         writeln!(self.out, "take {name}")
     }
@@ -88,7 +106,11 @@ impl<B, W: Write> Observer<B> for Lines<'_, W> {
         steps: u32,
     ) -> io::Result<()> {
         let name = name_of(&self.tasks, task);
-        writeln!(self.out, "commit {name} steps {steps}")
+        writeln!(self.out, "commit {name} steps {steps}")?;
+        match &mut self.watch {
+            Some(watch) => watch.write_changes(self.out),
+            None => Ok(()),
+        }
     }
 
     fn handed(
@@ -98,6 +120,9 @@ impl<B, W: Write> Observer<B> for Lines<'_, W> {
         _origin: Origin,
         transaction: &Transaction,
     ) -> io::Result<()> {
+        if let Some(watch) = &mut self.watch {
+            watch.handed(bus);
+        }
         let handed = TransactionLine { bus, transaction };
         let behind = WordsBehind {
             style: self.style,
@@ -107,11 +132,17 @@ impl<B, W: Write> Observer<B> for Lines<'_, W> {
     }
 
     fn reported(&mut self, _place: u64, bus: u8, report: &Report, _line: &B) -> io::Result<()> {
+        if let Some(watch) = &mut self.watch {
+            watch.reported(bus, report);
+        }
         let outcome = report.outcome();
         writeln!(self.out, "done {}", OutcomeLine { bus, outcome })
     }
 
     fn went_down(&mut self, _place: u64, bus: u8) -> io::Result<()> {
+        if let Some(watch) = &mut self.watch {
+            watch.went_down(bus);
+        }
         writeln!(self.out, "down {bus}")
     }
 }

@@ -18,6 +18,7 @@ use simbus::{Scenario, SimBus};
 use std::alloc::Global;
 use std::io;
 use std::io::Write;
+use watching::Watch;
 use wordlines::Happening;
 
 /// Plays a scenario: its ticks and events in order, each with what follows from it, and writes a
@@ -42,7 +43,31 @@ pub fn play<W: Write>(
         (stage_of installation.new)) }
     ensures legal { AreLegal installation.new.plant.plant installation.new.plant.history }
 {
-    let played = play_lines(alloc, out, style, installation, scenario);
+    play_watched(alloc, out, style, None, installation, scenario)
+}
+
+/// Plays a scenario as [`play`] does. Behind the line of each commit it writes one for each variable
+/// that is watched and has another value than was told last.
+///
+/// # Errors
+///
+/// The writer's, or that the watch is out of memory.
+pub fn play_watched<W: Write>(
+    alloc: Global,
+    out: &mut W,
+    style: FrameStyle,
+    watch: Option<Watch>,
+    installation: &mut Installation<SimBus>,
+    scenario: &Scenario,
+) -> io::Result<Ending>
+    ensures played { MatchResult result
+        (λ ending. IsPlayedTo ending (happenings scenario.now) (stage_of installation.old)
+        (stage_of installation.new))
+        (λ error. IsPlayedSomeFar (happenings scenario.now) (stage_of installation.old)
+        (stage_of installation.new)) }
+    ensures legal { AreLegal installation.new.plant.plant installation.new.plant.history }
+{
+    let played = play_lines(alloc, out, style, watch, installation, scenario);
     let _legal = installation.plant().len();
     let ending = played?;
     write_ending(out, ending, installation)?;
@@ -54,6 +79,7 @@ fn play_lines<W: Write>(
     alloc: Global,
     out: &mut W,
     style: FrameStyle,
+    watch: Option<Watch>,
     installation: &mut Installation<SimBus>,
     scenario: &Scenario,
 ) -> io::Result<Ending>
@@ -63,7 +89,13 @@ fn play_lines<W: Write>(
         (λ error. IsPlayedSomeFar (happenings scenario.now) (stage_of installation.old)
         (stage_of installation.new)) }
 {
-    match Lines::new(alloc, out, style, installation.plant().setup().plan()) {
+    match Lines::new(
+        alloc,
+        out,
+        style,
+        watch,
+        installation.plant().setup().plan(),
+    ) {
         Ok(mut lines) => play_on(alloc, installation, scenario, &mut lines),
         Err(_) => Ok(Ending::NoMemory),
     }

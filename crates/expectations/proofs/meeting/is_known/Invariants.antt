@@ -1,5 +1,5 @@
 use Rattle.std.proofs.Common.{ℕ, ◌<◌}
-use Rattle.expectations.specs.Expected.{IsNamed}
+use Rattle.watching.specs.Names.{IsNamed}
 use Rattle.expectations.proofs.meeting.is_known.Given as goal
 
 abbrev pub invariant-loop-global : goal.invariant-loop-global

@@ -1,0 +1,3 @@
+mod EachName
+mod Parts
+mod Places

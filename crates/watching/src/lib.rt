@@ -1,0 +1,21 @@
+//! Variables of a plant that are watched while a scenario is played.
+//!
+//! What crosses the boundary: names of variables, as `--watch` gives them. [`are_watchable`] says
+//! whether a plan has them, and [`report_unwatchable`] writes those that it has not. A [`Watch`] is
+//! told what happens at a plant, which it repeats on one of its own, and gives the values that are
+//! new behind a commit. The definition to read first is `IsWatchable` (specs/Watched.antt).
+//!
+//! ```text
+//! let mut watch = Watch::open(alloc, setup, 1_000, names)?;
+//! watch.took()?; // and so on, as it happens
+//! watch.write_changes(&mut to)?; //     lamp = 200
+//! ```
+#![tactic(auto)]
+
+mod naming;
+mod reporting;
+mod watch;
+
+pub use naming::{are_watchable, is_named};
+pub use reporting::report_unwatchable;
+pub use watch::{Watch, Watched};
