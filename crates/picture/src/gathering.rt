@@ -16,6 +16,7 @@ pub(crate) fn gather(
         lamps,
         sources,
         tasks,
+        variables,
         buses,
         notes,
     } = picture;
@@ -25,6 +26,7 @@ pub(crate) fn gather(
         lamps: gather_rows(alloc, lamps, numbers)?,
         sources: gather_rows(alloc, sources, numbers)?,
         tasks: gather_rows(alloc, tasks, numbers)?,
+        variables: gather_rows(alloc, variables, numbers)?,
         buses: gather_rows(alloc, buses, numbers)?,
         notes,
     })
@@ -97,7 +99,8 @@ fn graver_of(before: Sign, after: Sign) -> Sign {
 /// How much a mark matters among those of its row.
 fn gravity(sign: Sign) -> u8 {
     match sign {
-        Sign::Level(_) | Sign::Scan | Sign::Stray | Sign::Sent => 0,
+        Sign::Level(_) | Sign::Truth(_) | Sign::Number(_) => 0,
+        Sign::Scan | Sign::Stray | Sign::Sent => 0,
         Sign::Event(_) | Sign::Answered(_) => 1,
         Sign::Damaged => 2,
         Sign::GaveUp => 3,

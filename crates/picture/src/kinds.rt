@@ -9,6 +9,7 @@ pub(crate) enum Kind {
     Levels,
     Sources,
     Tasks,
+    Variables,
     Buses,
 }
 
@@ -19,6 +20,7 @@ impl Kind {
             Kind::Levels => "LEVELS",
             Kind::Sources => "BUTTONS AND SENSORS",
             Kind::Tasks => "TASKS",
+            Kind::Variables => "VARIABLES",
             Kind::Buses => "FRAMES",
         }
     }
@@ -29,6 +31,7 @@ impl Kind {
             Kind::Levels => "levels that never change",
             Kind::Sources => "sources without an event",
             Kind::Tasks => "tasks that never ran",
+            Kind::Variables => "variables that never change",
             Kind::Buses => "buses without a frame",
         }
     }
@@ -61,11 +64,12 @@ pub(crate) fn blocks_of(
     alloc: Global,
     picture: &Picture,
     width: usize,
-) -> Result<[Block<'_>; 4], AllocError> {
+) -> Result<[Block<'_>; 5], AllocError> {
     Ok([
         block_of(alloc, Kind::Levels, &picture.lamps, width)?,
         block_of(alloc, Kind::Sources, &picture.sources, width)?,
         block_of(alloc, Kind::Tasks, &picture.tasks, width)?,
+        block_of(alloc, Kind::Variables, &picture.variables, width)?,
         block_of(alloc, Kind::Buses, &picture.buses, width)?,
     ])
 }
@@ -112,7 +116,7 @@ fn folded_of(
     let mut left = silent;
     for row in rows.iter().filter(|row| row.marks.is_empty()) {
         left = left.saturating_sub(1);
-        let word = word_of(alloc, row, left)?;
+        let word = word_of(alloc, kind, row, left)?;
         if line.len().saturating_add(word.len()) > width {
             lines.push(line)?;
             line = String::from_str(alloc, " ")?;
@@ -123,12 +127,16 @@ fn folded_of(
     Ok(lines)
 }
 
-/// A row to which nothing happened, with its level where it has one, before so many others.
-fn word_of(alloc: Global, row: &Row, left: usize) -> Result<String, AllocError> {
+/// A row to which nothing happened, with its level or its value where it has one, before so many
+/// others.
+fn word_of(alloc: Global, kind: Kind, row: &Row, left: usize) -> Result<String, AllocError> {
     let end = if left == 0 { "" } else { "," };
     let name = row.called();
-    match row.level {
-        Some(level) => format!(in alloc; " {name} {level}{end}"),
-        None => format!(in alloc; " {name}{end}"),
+    match (kind, row.level, row.number) {
+        (Kind::Variables, Some(0), _) => format!(in alloc; " {name} FALSE{end}"),
+        (Kind::Variables, Some(_), _) => format!(in alloc; " {name} TRUE{end}"),
+        (_, Some(level), _) => format!(in alloc; " {name} {level}{end}"),
+        (_, None, Some(number)) => format!(in alloc; " {name} {number}{end}"),
+        (_, None, None) => format!(in alloc; " {name}{end}"),
     }
 }

@@ -1,5 +1,5 @@
 //! Pictures of what a scenario did: time goes from left to right in columns, and lamps, buttons,
-//! tasks and buses are rows.
+//! tasks, variables and buses are rows.
 //!
 //! What crosses the boundary: a [`Picture`], and bytes on a writer, as SVG ([`write_svg`]) or as
 //! lines for a terminal ([`write_text`]). What is drawn is fixed by worked rows (crates/rows); of

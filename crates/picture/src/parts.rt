@@ -16,6 +16,8 @@ pub struct Picture {
     pub sources: Vec<Row>,
     /// When tasks ran.
     pub tasks: Vec<Row>,
+    /// The values of variables.
+    pub variables: Vec<Row>,
     /// What was sent on buses.
     pub buses: Vec<Row>,
     /// What is said below, a line each.
@@ -42,8 +44,11 @@ pub struct Row {
     pub place: String,
     /// The bus that it belongs to, where it belongs to one.
     pub bus: Option<u8>,
-    /// Its level before its first mark, where it has one.
+    /// Its level before its first mark, where it has one; of a variable that is TRUE 254, and of one
+    /// that is FALSE 0.
     pub level: Option<u8>,
+    /// The number that it is before its first mark, where it is a variable that is one.
+    pub number: Option<i64>,
     /// What happened to it, by rising columns.
     pub marks: Vec<Mark>,
 }
@@ -61,6 +66,10 @@ pub struct Mark {
 pub enum Sign {
     /// From here on it has this level, 0 to 254.
     Level(u8),
+    /// From here on the variable is TRUE or FALSE.
+    Truth(bool),
+    /// From here on the variable is this number.
+    Number(i64),
     /// An event with this information was heard.
     Event(u16),
     /// An event was heard that nobody waits for.
@@ -90,6 +99,7 @@ impl Picture {
             lamps: Vec::new(alloc),
             sources: Vec::new(alloc),
             tasks: Vec::new(alloc),
+            variables: Vec::new(alloc),
             buses: Vec::new(alloc),
             notes: Vec::new(alloc),
         }
@@ -104,6 +114,7 @@ impl Row {
             place,
             bus,
             level: None,
+            number: None,
             marks: Vec::new(alloc),
         }
     }
@@ -121,6 +132,38 @@ impl Row {
         }
         self.marks.push(Mark { column, sign })?;
         Ok(())
+    }
+
+    /// The row of a variable that has the value of this mark before anything happened.
+    pub fn of_variable(alloc: Global, name: String, first: Sign) -> Self {
+        let mut row = Row::new(alloc, name, String::new(alloc), None);
+        row.level = level_of(first);
+        row.number = number_of(first);
+        row
+    }
+
+    /// Sets the value that the variable has from a column on, where it is another one than before.
+    ///
+    /// # Errors
+    ///
+    /// The allocator is out of memory.
+    pub fn set(&mut self, column: usize, sign: Sign) -> Result<(), AllocError> {
+        if self.last_level() == level_of(sign) && self.last_number() == number_of(sign) {
+            return Ok(());
+        }
+        match self.marks.last_mut() {
+            Some(last) if last.column >= column => last.sign = sign,
+            _ => self.marks.push(Mark { column, sign })?,
+        }
+        Ok(())
+    }
+
+    /// The number that it is now, where it is a variable that is one.
+    fn last_number(&self) -> Option<i64> {
+        match self.marks.last() {
+            Some(mark) => number_of(mark.sign),
+            None => self.number,
+        }
     }
 
     /// The level that it has now, where it has one.
@@ -159,6 +202,17 @@ impl Row {
         }
     }
 
+    /// The number before a column, where there was one.
+    pub(crate) fn number_before(&self, column: usize) -> Option<i64> {
+        match self.marks_before(column).checked_sub(1) {
+            Some(before) => match self.marks.get(before) {
+                Some(mark) => number_of(mark.sign),
+                None => None,
+            },
+            None => self.number,
+        }
+    }
+
     /// How many marks stand before a column.
     fn marks_before(&self, column: usize) -> usize {
         self.marks.partition_point(|mark| mark.column < column)
@@ -169,6 +223,15 @@ impl Row {
 pub(crate) fn level_of(sign: Sign) -> Option<u8> {
     match sign {
         Sign::Level(level) => Some(level),
+        Sign::Truth(truth) => Some(if truth { 254 } else { 0 }),
+        _ => None,
+    }
+}
+
+/// The number that a mark shows of a variable.
+pub(crate) fn number_of(sign: Sign) -> Option<i64> {
+    match sign {
+        Sign::Number(number) => Some(number),
         _ => None,
     }
 }

@@ -1,6 +1,6 @@
 //! A part of a picture: what happened on a bus, or from a moment to another.
 
-use crate::parts::level_of;
+use crate::parts::{level_of, number_of};
 use crate::{Column, Mark, Picture, Row, Sign};
 use std::alloc::{AllocError, Global};
 
@@ -22,6 +22,7 @@ impl Picture {
         }
         keep_marked(&mut is_kept, &self.lamps);
         keep_marked(&mut is_kept, &self.tasks);
+        keep_marked(&mut is_kept, &self.variables);
         self.keep(alloc, &is_kept)
     }
 
@@ -52,6 +53,7 @@ impl Picture {
             lamps,
             sources,
             tasks,
+            variables,
             buses,
             notes,
         } = self;
@@ -61,6 +63,7 @@ impl Picture {
             lamps: rows_at(alloc, lamps, &numbers)?,
             sources: rows_at(alloc, sources, &numbers)?,
             tasks: rows_at(alloc, tasks, &numbers)?,
+            variables: rows_at(alloc, variables, &numbers)?,
             buses: rows_at(alloc, buses, &numbers)?,
             notes,
         })
@@ -149,17 +152,20 @@ fn row_at(alloc: Global, row: Row, numbers: &[Option<usize>]) -> Result<Row, All
         place,
         bus,
         level,
+        number,
         marks,
     } = row;
     let mut kept = Row::new(alloc, name, place, bus);
     kept.level = level;
+    kept.number = number;
     let first = first_kept(numbers);
     let mut is_down = false;
     for mark in marks {
         match number_at(numbers, mark.column) {
-            Some(number) => kept.add(number, mark.sign)?,
+            Some(column) => kept.add(column, mark.sign)?,
             None if mark.column < first => {
                 kept.level = level_of(mark.sign);
+                kept.number = number_of(mark.sign);
                 is_down = mark.sign == Sign::Down;
             }
             None => {}

@@ -32,7 +32,7 @@ pub(crate) struct Sizes {
     lamp: usize,
     /// Of the greatest level itself.
     pub light: usize,
-    /// Of a source, and of a bus.
+    /// Of a source, of a variable, and of a bus.
     line: usize,
     /// Of a task.
     task: usize,
@@ -59,7 +59,7 @@ impl Sizes {
     pub fn height(&self, kind: Kind) -> usize {
         match kind {
             Kind::Levels => self.lamp,
-            Kind::Sources | Kind::Buses => self.line,
+            Kind::Sources | Kind::Variables | Kind::Buses => self.line,
             Kind::Tasks => self.task,
         }
     }
@@ -70,7 +70,7 @@ impl Sizes {
             Kind::Levels => self.lamp.saturating_sub(6),
             Kind::Sources => self.line / 2,
             Kind::Tasks => self.task / 2,
-            Kind::Buses => self.line.saturating_sub(6),
+            Kind::Variables | Kind::Buses => self.line.saturating_sub(6),
         }
     }
 }
@@ -144,6 +144,7 @@ pub(crate) fn left_of(picture: &Picture) -> usize {
     widest_of(&picture.lamps)
         .max(widest_of(&picture.sources))
         .max(widest_of(&picture.tasks))
+        .max(widest_of(&picture.variables))
         .max(widest_of(&picture.buses))
         .saturating_add(2 * EDGE)
 }

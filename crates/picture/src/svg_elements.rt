@@ -52,7 +52,7 @@ pub(crate) fn write_number<W: Write>(
     class: &str,
     x: usize,
     y: usize,
-    number: u16,
+    number: i64,
 ) -> io::Result<()> {
     writeln!(
         out,

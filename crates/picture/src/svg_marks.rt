@@ -1,6 +1,7 @@
 //! The marks of rows in SVG.
 
 use crate::kinds::Kind;
+use crate::parts::level_of;
 use crate::sheet::Sheet;
 use crate::svg_elements::{write_circle, write_number, write_stroke, write_words};
 use crate::{Mark, Row, Sign};
@@ -9,6 +10,8 @@ use std::io::Write;
 
 /// The greatest level.
 const GREATEST: usize = 254;
+/// How high TRUE is drawn over FALSE.
+const TRUE_HEIGHT: usize = 13;
 /// The width of a digit, at most.
 const DIGIT: usize = 6;
 
@@ -29,8 +32,10 @@ pub(crate) fn write_marks<W: Write>(
     y: usize,
 ) -> io::Result<()> {
     write_stroke(out, "b", sheet.left, y, 'H', sheet.right())?;
-    if kind == Kind::Levels {
-        write_levels(out, row, sheet, y)?;
+    match kind {
+        Kind::Levels => write_levels(out, row, sheet, y)?,
+        Kind::Variables => write_values(out, row, sheet, y)?,
+        Kind::Sources | Kind::Tasks | Kind::Buses => {}
     }
     write_signs(out, kind, row, sheet, y, false)?;
     write_signs(out, kind, row, sheet, y, true)
@@ -64,6 +69,8 @@ fn is_trouble(sign: Sign) -> bool {
     match sign {
         Sign::Damaged | Sign::GaveUp | Sign::Failed | Sign::Down => true,
         Sign::Level(_)
+        | Sign::Truth(_)
+        | Sign::Number(_)
         | Sign::Event(_)
         | Sign::Stray
         | Sign::Scan
@@ -97,6 +104,7 @@ fn write_mark<W: Write>(
         Kind::Levels => write_level(out, sign, spot, sheet),
         Kind::Sources => write_source(out, sign, spot, sheet),
         Kind::Tasks => write_circle(out, "t", spot.x, spot.y, sheet.radius("3.5", "2.5")),
+        Kind::Variables => write_change(out, sign, spot, sheet),
         Kind::Buses => write_bus(out, sign, spot, sheet),
     }
 }
@@ -119,6 +127,48 @@ fn write_levels<W: Write>(out: &mut W, row: &Row, sheet: &Sheet, base: usize) ->
             write_value(out, level, spot, sheet)
         }
         None => Ok(()),
+    }
+}
+
+/// Draws the line of a variable that is TRUE or FALSE, high or low, or writes the number that
+/// another one is at first.
+fn write_values<W: Write>(out: &mut W, row: &Row, sheet: &Sheet, base: usize) -> io::Result<()> {
+    if let Some(number) = row.number {
+        let spot = Spot {
+            x: sheet.left,
+            y: base.saturating_sub(3),
+            next: next_of(row, 0, sheet),
+        };
+        return write_beside(out, "v", number, 2, spot, sheet);
+    }
+    let right = sheet.right();
+    let start = sheet.left;
+    let first = truth_height(base, row.level);
+    write!(out, "<path class=\"e\" d=\"M{start} {first}")?;
+    for mark in row.marks.iter() {
+        let height = truth_height(base, level_of(mark.sign));
+        write_step(out, x_of(mark, sheet), height)?;
+    }
+    writeln!(out, "H{right}\"/>")
+}
+
+/// Where TRUE or FALSE is drawn over a base, by its level.
+fn truth_height(base: usize, level: Option<u8>) -> usize {
+    match level {
+        Some(1..) => base.saturating_sub(TRUE_HEIGHT),
+        _ => base,
+    }
+}
+
+/// Draws that a variable that is a number is another one, and writes that where there is room.
+fn write_change<W: Write>(out: &mut W, sign: Sign, spot: Spot, sheet: &Sheet) -> io::Result<()> {
+    match sign {
+        Sign::Number(number) => {
+            write_stroke(out, "e", spot.x, spot.y, 'V', spot.y.saturating_sub(6))?;
+            let y = spot.y.saturating_sub(3);
+            write_beside(out, "v", number, 3, Spot { y, ..spot }, sheet)
+        }
+        _ => Ok(()),
     }
 }
 
@@ -173,14 +223,14 @@ fn write_level<W: Write>(out: &mut W, sign: Sign, spot: Spot, sheet: &Sheet) -> 
 /// Writes a level that begins at a spot, over where it is drawn, where there is room.
 fn write_value<W: Write>(out: &mut W, level: u8, spot: Spot, sheet: &Sheet) -> io::Result<()> {
     let y = height_at(spot.y, level, sheet).saturating_sub(4);
-    write_beside(out, "v", u16::from(level), 2, Spot { y, ..spot }, sheet)
+    write_beside(out, "v", i64::from(level), 2, Spot { y, ..spot }, sheet)
 }
 
 /// Writes a number behind a spot, where there is room.
 fn write_beside<W: Write>(
     out: &mut W,
     class: &str,
-    number: u16,
+    number: i64,
     gap: usize,
     spot: Spot,
     sheet: &Sheet,
@@ -193,14 +243,18 @@ fn write_beside<W: Write>(
     }
 }
 
-/// How many digits a number has that is below 10,000.
-pub(crate) fn digits(number: u16) -> usize {
-    match number {
-        0..=9 => 1,
-        10..=99 => 2,
-        100..=999 => 3,
-        _ => 4,
+/// How many digits a number has, with its sign.
+pub(crate) fn digits(number: i64) -> usize {
+    let mut left = number.unsigned_abs() / 10;
+    let mut digits: usize = if number < 0 { 2 } else { 1 };
+    for _ in 0..20 {
+        if left == 0 {
+            return digits;
+        }
+        left /= 10;
+        digits = digits.saturating_add(1);
     }
+    digits
 }
 
 /// Draws what was heard of a source.
@@ -220,7 +274,14 @@ fn write_event<W: Write>(
 ) -> io::Result<()> {
     write_circle(out, "s", spot.x, spot.y, sheet.radius("5", "3.5"))?;
     let y = spot.y.saturating_sub(3);
-    write_beside(out, "i", information, 7, Spot { y, ..spot }, sheet)
+    write_beside(
+        out,
+        "i",
+        i64::from(information),
+        7,
+        Spot { y, ..spot },
+        sheet,
+    )
 }
 
 /// Draws what was sent on a bus.
@@ -244,7 +305,7 @@ fn write_tick<W: Write>(out: &mut W, class: &str, spot: Spot) -> io::Result<()> 
 fn write_answer<W: Write>(out: &mut W, value: u8, spot: Spot, sheet: &Sheet) -> io::Result<()> {
     write_tick(out, "q", spot)?;
     let y = spot.y.saturating_sub(5);
-    write_beside(out, "r", u16::from(value), 4, Spot { y, ..spot }, sheet)
+    write_beside(out, "r", i64::from(value), 4, Spot { y, ..spot }, sheet)
 }
 
 /// Draws a frame that did not go well.

@@ -56,7 +56,7 @@ fn write_block_rows<W: Write>(
 /// From where the marks of a row stand down to the line of its name.
 fn name_below(kind: Kind) -> usize {
     match kind {
-        Kind::Levels | Kind::Buses => 0,
+        Kind::Levels | Kind::Variables | Kind::Buses => 0,
         Kind::Sources | Kind::Tasks => 4,
     }
 }

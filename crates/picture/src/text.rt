@@ -1,7 +1,7 @@
 //! A picture as lines for a terminal.
 
 use crate::kinds::{Block, Kind, blocks_of};
-use crate::text_cells::{CELL, write_levels, write_moments, write_signs};
+use crate::text_cells::{CELL, write_levels, write_moments, write_signs, write_values};
 use crate::{Picture, Row};
 use std::alloc::Global;
 use std::io;
@@ -121,6 +121,7 @@ fn write_block<W: Write>(out: &mut W, block: &Block, band: &Band) -> io::Result<
         write_name(out, row, band)?;
         match block.kind {
             Kind::Levels => write_levels(out, row, band),
+            Kind::Variables => write_values(out, row, band),
             Kind::Sources | Kind::Tasks | Kind::Buses => write_signs(out, row, band),
         }?;
     }

@@ -2,6 +2,7 @@
 
 use crate::lamps::{Lamp, add_lamps, mark_lamps};
 use crate::sources::{add_sources, mark_sources};
+use crate::variables::{add_variables, mark_variables};
 use daliframe::{Frame, Frame24};
 use driving::Observer;
 use framewords::{FrameWords, FramesWords};
@@ -12,6 +13,7 @@ use simbus::{Scenario, SimBus};
 use std::alloc::{AllocError, Global};
 use std::io;
 use transact::{Outcome, Reply, Report, Transaction};
+use watching::Watch;
 use wordlines::BoundSource;
 
 /// A picture that is drawn while a scenario is played. Its columns have the lines of the play.
@@ -23,15 +25,23 @@ pub struct Drawing {
     lamps: Vec<Lamp>,
     /// The sources of the binding, in the order of the picture.
     sources: Vec<BoundSource>,
+    /// The values of the variables that have a row, in the order of the picture.
+    watch: Option<Watch>,
 }
 
 impl Drawing {
-    /// The picture of this plan on the buses of a scenario, before anything happened.
+    /// The picture of this plan on the buses of a scenario, before anything happened, with a row for
+    /// each variable that is watched.
     ///
     /// # Errors
     ///
     /// The allocator is out of memory.
-    pub fn new(alloc: Global, plan: &Plan, scenario: &Scenario) -> Result<Drawing, AllocError> {
+    pub fn new(
+        alloc: Global,
+        plan: &Plan,
+        scenario: &Scenario,
+        watch: Option<Watch>,
+    ) -> Result<Drawing, AllocError> {
         let mut picture = Picture::new(alloc);
         let lamps = add_lamps(alloc, plan, scenario, &mut picture.lamps)?;
         let sources = add_sources(alloc, plan, &mut picture.sources)?;
@@ -44,11 +54,15 @@ impl Drawing {
             let name = format!(in alloc; "bus {bus}")?;
             picture.buses.push(row_called(alloc, name, Some(bus)))?;
         }
+        if let Some(watch) = &watch {
+            add_variables(alloc, watch, &mut picture.variables)?;
+        }
         Ok(Drawing {
             alloc,
             picture,
             lamps,
             sources,
+            watch,
         })
     }
 
@@ -130,6 +144,9 @@ impl Observer<SimBus> for Drawing {
         let title = format!(in self.alloc; "tick {moment}")?;
         let milliseconds = moment;
         self.begin_moment(Moment { milliseconds }, title)?;
+        if let Some(watch) = &mut self.watch {
+            watch.ticked(moment);
+        }
         Ok(())
     }
 
@@ -140,6 +157,9 @@ impl Observer<SimBus> for Drawing {
         let column = self.column();
         let rows = &mut self.picture.sources;
         mark_sources(self.alloc, &self.sources, rows, bus, frame, column)?;
+        if let Some(watch) = &mut self.watch {
+            watch.heard(bus, frame);
+        }
         Ok(())
     }
 
@@ -149,6 +169,9 @@ impl Observer<SimBus> for Drawing {
         let column = self.column();
         if let Some(row) = self.picture.tasks.get_mut(task) {
             row.add(column, Sign::Scan)?;
+        }
+        if let Some(watch) = &mut self.watch {
+            watch.took()?;
         }
         Ok(())
     }
@@ -162,6 +185,10 @@ impl Observer<SimBus> for Drawing {
     ) -> io::Result<()> {
         let line = format!(in self.alloc; "commit {} steps {steps}", self.task_name(task))?;
         self.add(&line)?;
+        let column = self.column();
+        if let Some(watch) = &self.watch {
+            mark_variables(watch, &mut self.picture.variables, column)?;
+        }
         Ok(())
     }
 
@@ -174,6 +201,9 @@ impl Observer<SimBus> for Drawing {
     ) -> io::Result<()> {
         let title = handed_line(self.alloc, bus, transaction)?;
         self.begin(bus, title)?;
+        if let Some(watch) = &mut self.watch {
+            watch.handed(bus);
+        }
         Ok(())
     }
 
@@ -185,6 +215,9 @@ impl Observer<SimBus> for Drawing {
         let column = self.column();
         let rows = &mut self.picture.lamps;
         mark_lamps(&self.lamps, rows, bus, report, line, column)?;
+        if let Some(watch) = &mut self.watch {
+            watch.reported(bus, report);
+        }
         Ok(())
     }
 
@@ -192,6 +225,9 @@ impl Observer<SimBus> for Drawing {
         let title = format!(in self.alloc; "down {bus}")?;
         self.begin(bus, title)?;
         self.mark_bus(bus, Sign::Down)?;
+        if let Some(watch) = &mut self.watch {
+            watch.went_down(bus);
+        }
         Ok(())
     }
 }

@@ -7,7 +7,7 @@
 //! ends.
 //!
 //! ```text
-//! let mut drawing = Drawing::new(alloc, setup.plan(), &scenario)?;
+//! let mut drawing = Drawing::new(alloc, setup.plan(), &scenario, None)?;
 //! let ending = play_on(alloc, &mut installation, &scenario, &mut drawing)?;
 //! let picture = drawing.into_picture(&notes)?;
 //! ```
@@ -16,5 +16,6 @@
 mod drawing;
 mod lamps;
 mod sources;
+mod variables;
 
 pub use drawing::Drawing;
