@@ -1,5 +1,5 @@
 -- What a play leaves, from what it started with.
-use Rattle.std.proofs.Common.{◌≡◌, ℕ, List, ap, sym}
+use Rattle.std.proofs.Common.{◌≡◌, ℕ, Bor, List, ap, sym}
 use Rattle.wordlines.specs.Wirings.{Wiring}
 use Rattle.wordlines.specs.declared.statements.Statement.{Statement}
 use Rattle.wordlines.specs.Happenings.{happenings}
@@ -18,8 +18,7 @@ use Rattle.plantplay.specs.declared.ending.Ending.{Ending}
 use Rattle.plant.specs.Shown.{Shown}
 use Rattle.exits.specs.declared.exit_status.ExitStatus.{ExitStatus}
 use Rattle.invocations.specs.declared.expected_words.ExpectedWord.{ExpectedWord}
-use Rattle.expectations.specs.Expected.{AreKnown}
-use Rattle.commands.specs.Plays.{PlayBytes, IsJudgedBy, IsStarted, IsPlayedOut, IsPlayedUnder, status_of_played}
+use Rattle.commands.specs.Plays.{PlayBytes, AreNames, IsJudgedBy, IsStarted, IsPlayedOut, IsPlayedUnder, status_of_played}
 
 -- the law of the scans of a text
 abbrev pub ScansAreAsMeant : Type 0
@@ -56,12 +55,13 @@ played_out bytes limit start left statements ending scans plays started played l
 pub played_under : (bytes : PlayBytes) (limit : ℕ) (start left : Installation Simulated) (statements : List Statement)
     (ending : Ending) → ScansAreAsMeant → PlaysAreByScenario → IsStarted bytes limit start statements
     → IsPlayedTo ending (happenings statements) (stage_of start) (stage_of left)
-    → AreLegal left.plant.plant left.plant.history → (expected : List ExpectedWord) (status : ExitStatus)
-    → AreKnown start.plant.plant.plan expected
+    → AreLegal left.plant.plant left.plant.history → (expected : List ExpectedWord) (watched : List (Bor (List ℕ)))
+    (status : ExitStatus) → AreNames start.plant.plant.plan expected watched
     → IsJudgedBy (status_of_played ending left) left.plant expected status
-    → IsPlayedUnder bytes limit expected status
+    → IsPlayedUnder bytes limit expected watched status
 unfolding played_out
-played_under bytes limit start left statements ending scans plays started played legal expected status known judged =
+played_under bytes limit start left statements ending scans plays started played legal expected watched status known
+    judged =
     record {
       ending = ending;
       left = left;

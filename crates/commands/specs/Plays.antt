@@ -1,7 +1,9 @@
 -- What a scenario is played from, or what stands against that: the fault of the binding, else of the text, else of the
 -- scenario, else why the plant does not start (profile).
 use Rattle.std.specs.Prelude.{◌≡◌, ℕ, ◌⊎◌, List, Some, Err, ⊤}
+use Rattle.std.specs.Borrow.{Bor}
 use Rattle.wordlines.specs.Wirings.{Wiring}
+use Rattle.ilplan.specs.Plans.{Planned}
 use Rattle.ilcompile.specs.Loaded.{Loaded}
 use Rattle.plantload.specs.Loading.{IsSetup}
 use Rattle.wordlines.specs.declared.statements.Statement.{Statement}
@@ -31,6 +33,7 @@ use Rattle.answers.specs.Answered.{IsCheckStop, IsStopOrMemory}
 use Rattle.answers.specs.Connected.{IsConnected, IsBindingStop}
 use Rattle.exits.specs.ExitStatuses.{status_of_play, status_of_play_stop}
 use Rattle.expectations.specs.Expected.{AreKnown, AreMet}
+use Rattle.watching.specs.Watched.{AreWatchable}
 
 -- the bytes of the three files
 pub record PlayBytes : Type 0 where
@@ -110,28 +113,34 @@ abbrev pub IsJudgedBy : ExitStatus → Shown → List ExpectedWord → ExitStatu
 IsJudgedBy played left expected status =
     (AreMet left expected × (status ≡ played)) ⊎ (¬ AreMet left expected × (status ≡ status_unmet played))
 
--- Nothing is played, since a name that is expected is none of the text's global variables.
-pub record IsUnknown (bytes : PlayBytes) (limit : ℕ) (expected : List ExpectedWord) (status : ExitStatus) : Type 0 where
+-- each name that is expected is that of a global variable of the text, and each that is watched that of a variable
+abbrev pub AreNames : Planned → List ExpectedWord → List (Bor (List ℕ)) → Type 0
+AreNames plan expected watched = AreKnown plan expected × AreWatchable plan watched
+
+-- Nothing is played, since a name that is expected is none of the text's global variables, or one that is watched is none
+-- of its variables.
+pub record IsUnknown (bytes : PlayBytes) (limit : ℕ) (expected : List ExpectedWord) (watched : List (Bor (List ℕ)))
+    (status : ExitStatus) : Type 0 where
   pub start : Installation Simulated
   pub statements : List Statement
   pub started : IsStarted bytes limit start statements
-  pub unknown : ¬ AreKnown start.plant.plant.plan expected
+  pub unknown : ¬ AreNames start.plant.plant.plan expected watched
   pub misused : status ≡ Misused
 
 -- It was played, and ended so; and the exit status is by how it ended and by what was expected of what it left.
-pub record IsPlayedUnder (bytes : PlayBytes) (limit : ℕ) (expected : List ExpectedWord) (status : ExitStatus) : Type 0
-  where
-    pub ending : Ending
-    pub left : Installation Simulated
-    pub played : IsPlayedOut bytes limit ending left
-    pub known : AreKnown played.start.plant.plant.plan expected
-    pub judged : IsJudgedBy (status_of_played ending left) left.plant expected status
+pub record IsPlayedUnder (bytes : PlayBytes) (limit : ℕ) (expected : List ExpectedWord) (watched : List (Bor (List ℕ)))
+    (status : ExitStatus) : Type 0 where
+  pub ending : Ending
+  pub left : Installation Simulated
+  pub played : IsPlayedOut bytes limit ending left
+  pub known : AreNames played.start.plant.plant.plan expected watched
+  pub judged : IsJudgedBy (status_of_played ending left) left.plant expected status
 
--- by what stands against it, or by the names that are expected, or by how the play ended and what is expected
-abbrev pub IsPlayEnd : PlayBytes → ℕ → List ExpectedWord → ExitStatus → Type 0
-IsPlayEnd bytes limit expected status =
+-- by what stands against it, or by the names that are asked for, or by how the play ended and what is expected
+abbrev pub IsPlayEnd : PlayBytes → ℕ → List ExpectedWord → List (Bor (List ℕ)) → ExitStatus → Type 0
+IsPlayEnd bytes limit expected watched status =
     ((stop : PlayStop) × IsPlayStop bytes 1 limit stop × (status ≡ status_of_play_stop stop))
-    ⊎ (IsUnknown bytes limit expected status ⊎ IsPlayedUnder bytes limit expected status)
+    ⊎ (IsUnknown bytes limit expected watched status ⊎ IsPlayedUnder bytes limit expected watched status)
 
 -- the disk gave these bytes for the three files
 pub record AreGiven (gives : List ℕ → List ℕ → Type 0) (files : PlayFiles) (bytes : PlayBytes) : Type 0 where
@@ -141,10 +150,10 @@ pub record AreGiven (gives : List ℕ → List ℕ → Type 0) (files : PlayFile
 
 -- the program ends so by what the disk gave for the three files; of what is printed nothing is said
 pub record IsPlayed (gives : List ℕ → List ℕ → Type 0) (files : PlayFiles) (limit : ℕ) (expected : List ExpectedWord)
-    (status : ExitStatus) : Type 0 where
+    (watched : List (Bor (List ℕ))) (status : ExitStatus) : Type 0 where
   pub bytes : PlayBytes
   pub given : AreGiven gives files bytes
-  pub end : IsPlayEnd bytes limit expected status
+  pub end : IsPlayEnd bytes limit expected watched status
 
 -- ---- files that are not read
 

@@ -2,7 +2,7 @@
 //! written to a file.
 
 use crate::pages::{Pages, read_pages};
-use crate::playing::start;
+use crate::playing::start_watched;
 use crate::reading::Disk;
 use crate::serving::Unserved;
 use commandline::{LookOptions, PlayFiles};
@@ -15,15 +15,26 @@ use simbus::{Scenario, SimBus};
 use std::alloc::{AllocError, Global};
 use std::io;
 use std::io::{BufWriter, Write};
+use watching::{Watch, are_watchable, report_unwatchable};
 
 /// The most events of a history that is looked at.
 const LIMIT: u32 = 100_000;
 
+/// Why there is no picture.
+#[derive(Drop)]
+enum Undrawn {
+    /// What stands against playing the scenario.
+    Stopped(PlayStop),
+    /// What is reported of names that are watched and that no variable has.
+    Unknown(Vec<u8>),
+}
+
 /// Reads the files that are named, the binding before the text and that before the scenario, plays
-/// the scenario and prints a picture of what happened, as SVG or as lines for a terminal; the
-/// writer, which then has all of it, and how the program ends. Where the picture goes to a file, the
-/// writer has nothing, and what stands against playing goes to the standard error. What is printed
-/// is by rows alone.
+/// the scenario and prints a picture of what happened, with a row for each variable that is watched,
+/// as SVG or as lines for a terminal; the writer, which then has all of it, and how the program ends.
+/// Where the picture goes to a file, the writer has nothing, and what stands against playing goes to
+/// the standard error. Names that are watched and that no variable has go there too; then nothing is
+/// played. What is printed is by rows alone.
 ///
 /// # Errors
 ///
@@ -35,15 +46,16 @@ pub fn serve_look<'a, D: Disk, W: Write + Drop, E: Eprint>(
     errors: &E,
     files: PlayFiles<'a>,
     options: LookOptions<'a>,
+    watches: &[&str],
 ) -> Result<(W, ExitStatus), Unserved<'a>> {
     match options.to {
         Some(path) => {
-            let status = look_at(alloc, disk, errors, files, options, path)?;
+            let status = look_at(alloc, disk, errors, files, options, path, watches)?;
             Ok((to, status))
         }
         None => {
             let pages = read_pages(alloc, disk, files)?;
-            Ok(print(alloc, to, &pages, files, options)?)
+            Ok(print(alloc, to, errors, &pages, files, options, watches)?)
         }
     }
 }
@@ -57,22 +69,32 @@ fn look_at<'a, D: Disk, E: Eprint>(
     files: PlayFiles<'a>,
     options: LookOptions<'a>,
     path: &'a str,
+    watches: &[&str],
 ) -> Result<ExitStatus, Unserved<'a>> {
     if is_input(files, path) {
         eprintln!(errors; "error: '{path}' is read, so the picture can't go there")?;
         return Ok(ExitStatus::Misused);
     }
     let pages = read_pages(alloc, disk, files)?;
-    match draw(alloc, &pages, files, options)? {
+    match draw(alloc, &pages, files, options, watches)? {
         Ok((picture, status)) => {
             write_at(alloc, disk, path, picture, options)?;
             Ok(status)
         }
-        Err(stop) => {
+        Err(Undrawn::Stopped(stop)) => {
             eprintln!(errors; "{stop}")?;
             Ok(stop.status())
         }
+        Err(Undrawn::Unknown(lines)) => Ok(misused(errors, &lines)),
     }
+}
+
+/// Prints what is reported of names to the standard error; how the program ends.
+fn misused<E: Eprint>(errors: &E, lines: &[u8]) -> ExitStatus {
+    if let Ok(text) = str::from_utf8(lines) {
+        let _told = eprint!(errors; "{text}");
+    }
+    ExitStatus::Misused
 }
 
 /// Whether a path is that of a file that is read.
@@ -82,23 +104,26 @@ fn is_input(files: PlayFiles, path: &str) -> bool {
 
 /// Prints the picture, or what stands against playing the scenario, through a buffer, and flushes
 /// it; how the program ends.
-fn print<W: Write + Drop>(
+fn print<W: Write + Drop, E: Eprint>(
     alloc: Global,
     to: W,
+    errors: &E,
     pages: &Pages,
     files: PlayFiles,
     options: LookOptions,
+    watches: &[&str],
 ) -> io::Result<(W, ExitStatus)> {
     let mut out = BufWriter::new(alloc, to)?;
-    let status = match draw(alloc, pages, files, options)? {
+    let status = match draw(alloc, pages, files, options, watches)? {
         Ok((picture, status)) => {
             write_picture(alloc, &mut out, picture, options)?;
             status
         }
-        Err(stop) => {
+        Err(Undrawn::Stopped(stop)) => {
             writeln!(out, "{stop}")?;
             stop.status()
         }
+        Err(Undrawn::Unknown(lines)) => misused(errors, &lines),
     };
     Ok((out.into_inner()?, status))
 }
@@ -133,8 +158,8 @@ fn write_picture<W: Write>(
     }
 }
 
-/// Plays the scenario; the picture of it that is asked for and how the program ends, or what stands
-/// against playing.
+/// Plays the scenario; the picture of it that is asked for and how the program ends, or why there is
+/// none.
 ///
 /// # Errors
 ///
@@ -144,15 +169,28 @@ fn draw(
     pages: &Pages,
     files: PlayFiles,
     options: LookOptions,
-) -> io::Result<Result<(Picture, ExitStatus), PlayStop>> {
-    match start(alloc, pages, LIMIT) {
-        Ok((mut installation, scenario)) => {
-            let (mut picture, status) = draw_all(alloc, &mut installation, &scenario, options.bus)?;
+    watches: &[&str],
+) -> io::Result<Result<(Picture, ExitStatus), Undrawn>> {
+    match start_watched(alloc, pages, LIMIT, watches) {
+        Ok((mut installation, scenario, watch)) => {
+            if !are_watchable(installation.plant().setup().plan(), watches) {
+                let lines = unknown(alloc, installation.plant(), watches)?;
+                return Ok(Err(Undrawn::Unknown(lines)));
+            }
+            let bus = options.bus;
+            let (mut picture, status) = draw_all(alloc, &mut installation, &scenario, watch, bus)?;
             picture.name = name_of(alloc, files, options)?;
             Ok(Ok((part_of(alloc, picture, options)?, status)))
         }
-        Err(stop) => Ok(Err(stop)),
+        Err(stop) => Ok(Err(Undrawn::Stopped(stop))),
     }
+}
+
+/// What is reported of names that no variable has.
+fn unknown(alloc: Global, plant: &Plant, watches: &[&str]) -> io::Result<Vec<u8>> {
+    let mut lines = Vec::new(alloc);
+    report_unwatchable(&mut lines, plant.setup().plan(), watches)?;
+    Ok(lines)
 }
 
 /// Plays a scenario of which a bus may be asked for; its whole picture, and how the program ends.
@@ -160,9 +198,10 @@ fn draw_all(
     alloc: Global,
     installation: &mut Installation<SimBus>,
     scenario: &Scenario,
+    watch: Option<Watch>,
     bus: Option<u32>,
 ) -> io::Result<(Picture, ExitStatus)> {
-    let mut drawing = Drawing::new(alloc, installation.plant().setup().plan(), scenario)?;
+    let mut drawing = Drawing::new(alloc, installation.plant().setup().plan(), scenario, watch)?;
     let ending = play_on(alloc, installation, scenario, &mut drawing)?;
     let mut notes = Vec::new(alloc);
     write_absent(&mut notes, bus, installation.plant().setup().plan().buses())?;

@@ -1,9 +1,10 @@
 //! Playing a scenario: its files are read, and what happens is printed.
 
 ghost use Rattle.std.specs.Prelude.{◌≡◌, ◌↔◌, IfErr, IfOk, IsTrue};
-ghost use Rattle.commands.specs.Plays.{IsJudgedBy, IsPlayEnd, IsPlayStop, IsPlayed, IsStarted};
-ghost use Rattle.commands.specs.Plays.{IsUnplayed, status_unmet};
+ghost use Rattle.commands.specs.Plays.{AreNames, HasScenario, IsJudgedBy, IsPlayEnd, IsPlayStop};
+ghost use Rattle.commands.specs.Plays.{IsPlayed, IsStarted, IsUnplayed, status_unmet};
 ghost use Rattle.expectations.specs.Expected.{AreKnown};
+ghost use Rattle.watching.specs.Watched.{AreWatchable};
 
 use crate::pages::{Pages, read_pages, scenario_of, setup_in};
 use crate::reading::Disk;
@@ -12,16 +13,26 @@ use commandline::{ExpectedWord, PlayFiles, PlayShows};
 use exits::{ExitStatus, PlayStop};
 use expectations::{are_known, are_met, report_unknown, report_unmet};
 use plantload::scans_are_as_meant;
-use plantplay::{FrameStyle, Installation, open, play, plays_are_by_scenario};
+use plantplay::{FrameStyle, Installation, StartFault, open, play_watched, plays_are_by_scenario};
 use simbus::{Scenario, SimBus};
 use std::alloc::Global;
 use std::io;
 use std::io::{BufWriter, Write};
+use watching::{Watch, are_watchable, report_unwatchable};
+
+/// What is asked of a play.
+#[derive(Clone, Copy)]
+struct Asked<'a> {
+    /// What is expected at its end.
+    expected: &'a [ExpectedWord<'a>],
+    /// The names of the variables that are watched.
+    watched: &'a [&'a str],
+}
 
 /// Reads the files that are named, the binding before the text and that before the scenario, plays
 /// the scenario and prints what happens; the writer, which then has every line, and how the program
-/// ends. `complaints` gets what isn't as expected at the end, or the expected names that the text
-/// does not have; then nothing is played.
+/// ends. `complaints` gets what isn't as expected at the end, or the names, expected or watched, that
+/// the text does not have; then nothing is played.
 ///
 /// # Errors
 ///
@@ -36,7 +47,8 @@ pub fn serve_play<'a, D: Disk, W: Write + Drop, E: Write>(
     shows: &PlayShows<'_>,
 ) -> Result<(W, ExitStatus), Unserved<'a>>
     ensures played { IfOk result (λ done.
-        IsPlayed (D.gives disk.now) files.entry limit shows.now.expects.items done.1) }
+        IsPlayed (D.gives disk.now) files.entry limit shows.now.expects.items
+        shows.now.watches.items done.1) }
     ensures unplayed { IfErr result
         (IsUnplayed (D.gives disk.now) (D.fails disk.now) files.entry) }
 {
@@ -53,13 +65,16 @@ fn print<W: Write + Drop, E: Write>(
     limit: u32,
     shows: &PlayShows,
 ) -> io::Result<(W, ExitStatus)>
-    ensures { IfOk result
-        (λ done. IsPlayEnd pages.now limit shows.now.expects.items done.1) }
+    ensures { IfOk result (λ done.
+        IsPlayEnd pages.now limit shows.now.expects.items shows.now.watches.items done.1) }
 {
     let mut out = BufWriter::new(alloc, to)?;
-    let expected = shows.expects.as_slice();
     let style = style_of(shows);
-    let status = report(alloc, &mut out, complaints, pages, limit, style, expected)?;
+    let asked = Asked {
+        expected: shows.expects.as_slice(),
+        watched: shows.watches.as_slice(),
+    };
+    let status = report(alloc, &mut out, complaints, pages, limit, style, asked)?;
     Ok((out.into_inner()?, status))
 }
 
@@ -80,24 +95,24 @@ fn report<W: Write, E: Write>(
     pages: &Pages,
     limit: u32,
     style: FrameStyle,
-    expected: &[ExpectedWord],
+    asked: Asked,
 ) -> io::Result<ExitStatus>
-    ensures { IfOk result (IsPlayEnd pages.now limit expected.now) }
+    ensures { IfOk result (IsPlayEnd pages.now limit asked.entry.expected.now
+        asked.entry.watched.now) }
 {
-    match start(alloc, pages, limit) {
-        Ok((mut installation, scenario)) => {
-            if !knows(&installation, expected) {
-                let plan = installation.plant().setup().plan();
-                let _told = report_unknown(complaints, plan, expected);
+    match start_watched(alloc, pages, limit, asked.watched) {
+        Ok((mut installation, scenario, watch)) => {
+            if !knows(&installation, asked) {
+                report_names(complaints, &installation, asked);
                 return Ok(ExitStatus::Misused);
             }
             scans_are_as_meant();
             plays_are_by_scenario();
-            let ending = play(alloc, out, style, &mut installation, &scenario)?;
+            let ending = play_watched(alloc, out, style, watch, &mut installation, &scenario)?;
             out.flush()?;
-            let _told = report_unmet(complaints, installation.plant(), expected);
+            let _told = report_unmet(complaints, installation.plant(), asked.expected);
             let status = ExitStatus::of_play(ending, installation.has_down());
-            Ok(judged(status, &installation, expected))
+            Ok(judged(status, &installation, asked.expected))
         }
         Err(stop) => {
             writeln!(out, "{stop}")?;
@@ -106,11 +121,33 @@ fn report<W: Write, E: Write>(
     }
 }
 
+/// Whether the text that is played has the names that are asked for.
+fn knows(installation: &Installation<SimBus>, asked: Asked) -> bool
+    ensures { IsTrue result ↔ AreNames installation.now.plant.plant.plan asked.entry.expected.now
+        asked.entry.watched.now }
+{
+    has_expected(installation, asked.expected) && has_watched(installation, asked.watched)
+}
+
 /// Whether the text that is played has the names that are expected.
-fn knows(installation: &Installation<SimBus>, expected: &[ExpectedWord]) -> bool
+fn has_expected(installation: &Installation<SimBus>, expected: &[ExpectedWord]) -> bool
     ensures { IsTrue result ↔ AreKnown installation.now.plant.plant.plan expected.now }
 {
     are_known(installation.plant().setup().plan(), expected)
+}
+
+/// Whether the text that is played has the names that are watched.
+fn has_watched(installation: &Installation<SimBus>, watched: &[&str]) -> bool
+    ensures { IsTrue result ↔ AreWatchable installation.now.plant.plant.plan watched.now }
+{
+    are_watchable(installation.plant().setup().plan(), watched)
+}
+
+/// Reports the names that are asked for and that the text does not have.
+fn report_names<E: Write>(complaints: &mut E, installation: &Installation<SimBus>, asked: Asked) {
+    let plan = installation.plant().setup().plan();
+    let _told = report_unknown(complaints, plan, asked.expected);
+    let _told = report_unwatchable(complaints, plan, asked.watched);
 }
 
 /// How the program ends after a play that ended so by itself, by what is expected of what it left.
@@ -156,4 +193,48 @@ pub(crate) fn start(
     let scenario = scenario_of(alloc, &pages.scenario)?;
     let installation = open(alloc, setup, &scenario, u64::from(limit))?;
     Ok((installation, scenario))
+}
+
+/// The plant of the text on the simulated buses of the scenario, the scenario, and the watch of the
+/// variables of these names, where there are any.
+///
+/// # Errors
+///
+/// Those of [`start`].
+pub(crate) fn start_watched(
+    alloc: Global,
+    pages: &Pages,
+    limit: u32,
+    watched: &[&str],
+) -> Result<(Installation<SimBus>, Scenario, Option<Watch>), PlayStop>
+    ensures started { IfOk result (λ made. IsStarted pages.now limit made.0 made.1) }
+    ensures stop { IfErr result (IsPlayStop pages.now 1 limit) }
+{
+    let (installation, scenario) = start(alloc, pages, limit)?;
+    let watch = watch_of(alloc, pages, limit, watched)?;
+    Ok((installation, scenario, watch))
+}
+
+/// The watch of the variables of these names, where there are any.
+///
+/// # Errors
+///
+/// The allocator is out of memory.
+fn watch_of(
+    alloc: Global,
+    pages: &Pages,
+    limit: u32,
+    watched: &[&str],
+) -> Result<Option<Watch>, PlayStop>
+    requires { HasScenario pages.now }
+    ensures { IfErr result (IsPlayStop pages.now 1 limit) }
+{
+    if watched.is_empty() {
+        return Ok(None);
+    }
+    let setup = setup_in(alloc, pages)?;
+    match Watch::open(alloc, setup, u64::from(limit), watched) {
+        Ok(watch) => Ok(Some(watch)),
+        Err(fault) => Err(PlayStop::Start(StartFault::Plant(fault))),
+    }
 }

@@ -98,7 +98,11 @@ where
                 Err(unserved) => Err(unserved),
             }
         }
-        Invocation::Look { files, options } => { serve_look(alloc, &disk, out, rt, files, options) }
+        Invocation::Look {
+            files,
+            options,
+            watches,
+        } => serve_look(alloc, &disk, out, rt, files, options, &watches),
         Invocation::Tell { files, question } => serve_question(alloc, &disk, out, files, question),
         Invocation::Code { files, task, to } => serve_code(alloc, &disk, out, files, task, to),
         Invocation::CheckCode { path } => serve_check_code(alloc, &disk, out, path),

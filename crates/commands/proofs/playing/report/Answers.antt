@@ -16,14 +16,14 @@ returns-then-not-knows g c =
 
 pub returns-in_ok-flush-in-Ok : goal.returns-in_ok-flush-in-Ok
 returns-in_ok-flush-in-Ok g c =
-    let ending = c.in_ok-ending-in-Ok.ending in let left = c.play.new.installation in
+    let ending = c.in_ok-ending-in-Ok.ending in let left = c.play_watched.new.installation in
     let t : IsTrue c.knows.result = cc in
     let same = c.of_play-status.ensures ∙ ap (status_of_play ending) c.has_down.ensures in
     inr (inr (
     played_under c.args.pages.now c.args.limit c.in-Ok.installation left c.in-Ok.scenario ending
     c.scans_are_as_meant.ensures c.plays_are_by_scenario.ensures c.in-Ok.ensures.started
-    c.in_ok-ending-in-Ok.ensures.played c.in_ok-ending-in-Ok.ensures.legal c.args.expected.now c.judged.result
-    (c.knows.ensures.0 t)
-    (judged_by (status_of_played ending left) c.of_play-status.result left.plant c.args.expected.now c.judged.result
-    same c.judged.ensures)
+    c.in_ok-ending-in-Ok.ensures.played c.in_ok-ending-in-Ok.ensures.legal c.args.asked.expected.now
+    c.args.asked.watched.now c.judged.result (c.knows.ensures.0 t)
+    (judged_by (status_of_played ending left) c.of_play-status.result left.plant c.args.asked.expected.now
+    c.judged.result same c.judged.ensures)
     ))
