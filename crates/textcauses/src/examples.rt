@@ -1,7 +1,7 @@
 //! Lines as they read where nothing is wrong, by where they stand.
 
-use curing::{Advice, Spot, Surroundings};
-use iltokens::Keyword;
+use curing::{Advice, Spot, Surroundings, part};
+use iltokens::{Keyword, Lexed, What, token};
 
 const BODY: Advice = Advice {
     what: "",
@@ -31,6 +31,20 @@ const INSTANCE: Advice = Advice {
     what: "",
     cure: "an instance has a name, a task behind WITH, and the name of its program",
     line: "PROGRAM hall WITH clock : light;",
+};
+
+const LATE_TASK: Advice = Advice {
+    what: "",
+    cure: "tasks stand before the programs: write this one above the first PROGRAM of the\n\
+        configuration",
+    line: "TASK clock (INTERVAL := T#100ms, PRIORITY := 1);\nPROGRAM hall WITH clock : light;",
+};
+
+const FIRST_INSTANCE: Advice = Advice {
+    what: "",
+    cure: "an instance has a name, a task behind WITH, and the name of its program; the\n\
+        task stands above it",
+    line: "TASK clock (INTERVAL := T#100ms, PRIORITY := 1);\nPROGRAM hall WITH clock : light;",
 };
 
 const CONFIGURATION: Advice = Advice {
@@ -96,7 +110,7 @@ pub(crate) fn example_of(spot: &Spot, around: &Surroundings) -> Advice {
     };
     match unit.word {
         Keyword::Type => NEW_TYPE,
-        Keyword::Configuration => in_configuration(spot),
+        Keyword::Configuration => in_configuration(spot, part(spot.text, unit.at, spot.at)),
         Keyword::Function if !around.is_in_body() => HEAD,
         _ if is_jump(spot) => JUMP,
         _ if is_call(spot) => CALL,
@@ -114,14 +128,46 @@ fn of_block(word: Keyword) -> Advice {
     }
 }
 
-/// What stands in a configuration, outside its variables.
-fn in_configuration(spot: &Spot) -> Advice {
-    if is_word(spot, b"TASK") {
+/// What stands in a configuration, outside its variables, where this stands in it before the place.
+fn in_configuration(spot: &Spot, front: &[u8]) -> Advice {
+    if has_word(front, Keyword::Program) && spot.found().eq_ignore_ascii_case(b"TASK") {
+        LATE_TASK
+    } else if is_word(spot, b"TASK") {
         TASK
+    } else if is_word(spot, b"PROGRAM") && !has_word(front, Keyword::Task) {
+        FIRST_INSTANCE
     } else if is_word(spot, b"PROGRAM") {
         INSTANCE
     } else {
         CONFIGURATION
+    }
+}
+
+/// Whether a reserved word stands in a text.
+fn has_word(text: &[u8], word: Keyword) -> bool {
+    let mut at: usize = 0;
+    for _ in 0..text.len() {
+        if at >= text.len() {
+            return false;
+        }
+        match token(text, at) {
+            Lexed::Token { what, to, .. } => {
+                if is_keyword(what, word) {
+                    return true;
+                }
+                at = to;
+            }
+            _ => return false,
+        }
+    }
+    false
+}
+
+/// Whether a token is a reserved word.
+fn is_keyword(what: What, word: Keyword) -> bool {
+    match what {
+        What::Keyword(found) => found == word,
+        _ => false,
     }
 }
 

@@ -28,6 +28,10 @@ pub(crate) fn edit_of(
             let to = from.saturating_add(len);
             Ok(Some(Edit::new(alloc, from, to, word.as_bytes())?))
         }
+        Fix::Literal(word) => {
+            let to = spot.literal_to();
+            Ok(Some(Edit::new(alloc, from, to, word.as_bytes())?))
+        }
         Fix::Untyped => {
             let literal = spot.part(from, spot.literal_to());
             let typed = literal.iter().take_while(|byte| **byte != b'#').count();

@@ -1,6 +1,7 @@
 //! What people write who come from other languages: a row for each.
 
 use crate::habits::{Fix, Habit, Where};
+use crate::numbers::FRACTION;
 use curing::Advice;
 
 const COMMENT: Advice = Advice {
@@ -41,7 +42,8 @@ const ASSIGNMENT: Advice = Advice {
     line: "LD 200\nST lamp",
 };
 
-const BASED: Advice = Advice {
+/// What is said of a number of another base.
+pub(crate) const BASED: Advice = Advice {
     what: "a number of another base as other languages have it",
     cure: "write 16# before hexadecimal digits, 8# before octal and 2# before binary ones",
     line: "LD 16#C8",
@@ -53,13 +55,21 @@ const TYPED: Advice = Advice {
     line: "LD 5",
 };
 
-const DOTTED: Advice = Advice {
+const TRUTH: Advice = Advice {
+    what: "a truth value with a type before it",
+    cure: "write TRUE or FALSE alone",
+    line: "LD TRUE",
+};
+
+/// What is said of a time with a fraction.
+pub(crate) const DOTTED: Advice = Advice {
     what: "a time with a fraction",
     cure: "write whole numbers with the units d, h, m, s and ms, in this order",
     line: "T#1s500ms",
 };
 
-const UNIT: Advice = Advice {
+/// What is said of a time without T#.
+pub(crate) const UNIT: Advice = Advice {
     what: "a time without T# before it",
     cure: "a time begins with T#",
     line: "T#100ms",
@@ -149,6 +159,13 @@ const SEMICOLON: Advice = Advice {
     line: "ST lamp",
 };
 
+/// What is said of a program without a name.
+pub(crate) const UNNAMED: Advice = Advice {
+    what: "a program without a name",
+    cure: "a program has a name, which stands behind PROGRAM",
+    line: "PROGRAM hall\nVAR count : UINT; END_VAR",
+};
+
 /// What people write in texts that don't read, the first that fits.
 pub(crate) const HABITS: &[Habit] = &[
     (Where::Begins, "//", Fix::Comment, COMMENT),
@@ -168,6 +185,7 @@ pub(crate) const HABITS: &[Habit] = &[
     (Where::First, "while", Fix::Nothing, LOOP),
     (Where::First, "end_while", Fix::Nothing, LOOP),
     (Where::First, "repeat", Fix::Nothing, LOOP),
+    (Where::First, "end_repeat", Fix::Nothing, LOOP),
     (Where::First, "until", Fix::Nothing, LOOP),
     (Where::InBody, ":=", Fix::LoadAndStore, ASSIGNMENT),
     (Where::InBody, ";", Fix::LeaveOut, SEMICOLON),
@@ -186,13 +204,20 @@ pub(crate) const HABITS: &[Habit] = &[
     (Where::Literal, "usint#", Fix::Untyped, TYPED),
     (Where::Literal, "dint#", Fix::Untyped, TYPED),
     (Where::Literal, "udint#", Fix::Untyped, TYPED),
-    (Where::Literal, "bool#", Fix::Untyped, TYPED),
+    (Where::Whole, "bool#1", Fix::Literal("TRUE"), TRUTH),
+    (Where::Whole, "bool#true", Fix::Literal("TRUE"), TRUTH),
+    (Where::Whole, "bool#0", Fix::Literal("FALSE"), TRUTH),
+    (Where::Whole, "bool#false", Fix::Literal("FALSE"), TRUTH),
+    (Where::Literal, "bool#", Fix::Nothing, TRUTH),
+    (Where::Literal, "real#", Fix::Nothing, FRACTION),
+    (Where::Literal, "lreal#", Fix::Nothing, FRACTION),
     (Where::Literal, "byte#", Fix::Untyped, TYPED),
     (Where::Literal, "word#", Fix::Untyped, TYPED),
     (Where::Unit, "ms", Fix::Front(0, "T#"), UNIT),
     (Where::Unit, "s", Fix::Front(0, "T#"), UNIT),
     (Where::Unit, "m", Fix::Front(0, "T#"), UNIT),
     (Where::Unit, "h", Fix::Front(0, "T#"), UNIT),
+    (Where::Unit, "d", Fix::Front(0, "T#"), UNIT),
     (Where::Address, "%", Fix::Nothing, NAMED),
     (Where::Literal, "%", Fix::Nothing, NO_ADDRESS),
     (Where::Before, "retain", Fix::LeaveOutBefore, RETAINED),

@@ -1,8 +1,9 @@
 //! What people write who come from other languages, and what to write in its place.
 
 use crate::habit_rows::HABITS;
+use crate::proposals::is_bracket;
 use curing::{Advice, Spot, Surroundings};
-use iltokens::{Keyword, Lexed, What, token};
+use iltokens::{Keyword, Lexed, What, reserved, token};
 
 /// Something that people write and the language does not have: where it stands, how it is written
 /// in small letters, how it is changed, and what is said of it.
@@ -29,6 +30,8 @@ pub(crate) enum Where {
     First,
     /// The number, time or address begins with it.
     Literal,
+    /// The number, time or address is it.
+    Whole,
     /// It is an address, and begins with this.
     Address,
     /// The number has this unit behind it.
@@ -52,6 +55,8 @@ pub(crate) enum Fix {
     Comment,
     /// So many characters at the number's front are replaced.
     Front(usize, &'static str),
+    /// The number is replaced.
+    Literal(&'static str),
     /// What stands up to the `#` is left out.
     Untyped,
     /// The part behind the dot becomes milliseconds.
@@ -65,6 +70,18 @@ pub(crate) enum Fix {
 /// What people write that stands at a place, if something does.
 pub(crate) fn habit_at(spot: &Spot, around: &Surroundings) -> Option<&'static Habit> {
     HABITS.iter().find(|habit| stands(*habit, spot, around))
+}
+
+/// Whether a program is open that has no name where one is asked for: something else stands on a
+/// line below PROGRAM, or begins or ends a block, or the text ends.
+pub(crate) fn is_unnamed(spot: &Spot, around: &Surroundings) -> bool {
+    let Some(unit) = around.unit else {
+        return false;
+    };
+    let is_open = unit.word == Keyword::Program && unit.name.is_none();
+    let is_word = reserved(spot.found()).is_some();
+    let is_below = unit.at < spot.line_from;
+    is_open && (spot.at >= spot.text.len() || is_word && (is_below || is_bracket(spot.found())))
 }
 
 /// Whether something that people write stands at a place.
@@ -83,6 +100,7 @@ fn stands(habit: &Habit, spot: &Spot, around: &Surroundings) -> bool {
         Where::Before => spot.part(from, to).eq_ignore_ascii_case(spelled),
         Where::First => spot.first_word().eq_ignore_ascii_case(spelled),
         Where::Literal => begins(literal, spelled),
+        Where::Whole => literal.eq_ignore_ascii_case(spelled),
         Where::Address => begins(literal, spelled) && is_address(literal),
         Where::Unit => is_number_with(literal, spelled),
         Where::Dotted => begins(literal, spelled) && literal.contains(&b'.'),

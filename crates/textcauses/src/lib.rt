@@ -9,10 +9,13 @@
 //! ```
 #![tactic(auto)]
 
+mod decimals;
+mod equals;
 mod examples;
 mod fixes;
 mod habit_rows;
 mod habits;
+mod numbers;
 mod proposals;
 mod text_answers;
 mod text_causes;

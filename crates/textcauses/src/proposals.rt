@@ -279,6 +279,8 @@ fn with_sign(
         with.extend_from_slice(spot.rest())?;
         with.push(b')')?;
         to = spot.line_to;
+    } else if spot.at >= spot.text.len() {
+        to = from;
     } else {
         with.extend_from_slice(spot.part(from, spot.at))?;
     }
@@ -329,7 +331,7 @@ fn without(
     possible: &Possible,
 ) -> Result<Option<Proposal>, AllocError> {
     let is_needed = possible.has(Group::Outer) || is_end_word(spot.found());
-    if spot.found().is_empty() || is_needed {
+    if spot.found().is_empty() || is_needed || is_inside(spot) {
         return Ok(None);
     }
     let found = shown(alloc, spot.found())?;
@@ -340,8 +342,37 @@ fn without(
     }))
 }
 
+/// Whether what was found is part of something longer: characters of a word, or of a number, stand
+/// on both sides of it, or before it where it is such characters too, or digits behind a sign of
+/// numbers.
+pub(crate) fn is_inside(spot: &Spot) -> bool {
+    let is_behind = is_letter_at(spot.part(spot.found_to(), spot.line_to));
+    let is_before = match spot.front() {
+        [.., last] => is_letter(*last),
+        [] => false,
+    };
+    match spot.found() {
+        [b',' | b'.', ..] => is_behind,
+        [first, ..] if is_letter(*first) => is_before || is_behind,
+        _ => is_before && is_behind,
+    }
+}
+
+/// Whether a character of a word or of a number stands first.
+fn is_letter_at(bytes: &[u8]) -> bool {
+    match bytes {
+        [first, ..] => is_letter(*first),
+        [] => false,
+    }
+}
+
+/// Whether a byte is part of a word or of a number.
+fn is_letter(byte: u8) -> bool {
+    byte.is_ascii_alphanumeric() || byte == b'_' || byte == b'#'
+}
+
 /// Whether a word ends something, or begins a block of variables.
-fn is_bracket(found: &[u8]) -> bool {
+pub(crate) fn is_bracket(found: &[u8]) -> bool {
     is_end_word(found)
         || matches!(
             reserved(found),

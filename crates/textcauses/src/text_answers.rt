@@ -1,8 +1,12 @@
 //! What is said of a fault of a text.
 
+use crate::equals::answer_equals;
 use crate::fixes::{edit_of, left_out};
-use crate::habits::habit_at;
-use crate::text_causes::{BYTE_ORDER_MARK, EQUALS, advice_of, number_advice};
+use crate::habit_rows::UNNAMED;
+use crate::habits::{habit_at, is_unnamed};
+use crate::numbers::answer_number;
+use crate::proposals::is_inside;
+use crate::text_causes::{BYTE_ORDER_MARK, advice_of, number_advice};
 use crate::unexpected::{Standing, answer_unexpected, is_cure};
 use curing::{Answer, Asked, Edit, Example, Outcome, Spot, Surroundings, shown};
 use iltext::TextCause;
@@ -22,7 +26,7 @@ pub fn answer_text(
     };
     match cause {
         TextCause::Unexpected | TextCause::NotNested => habitual(alloc, &standing, cause),
-        TextCause::BadToken => match assigned(alloc, &standing)? {
+        TextCause::BadToken => match answer_equals(alloc, &standing)? {
             Some(answer) => Ok(answer),
             None => habitual(alloc, &standing, cause),
         },
@@ -35,7 +39,13 @@ pub fn answer_text(
 
 /// What is said of what people write, or else of what cannot stand there.
 fn habitual(alloc: Global, standing: &Standing, cause: TextCause) -> Result<Answer, AllocError> {
+    if is_unnamed(&standing.spot, &standing.around) {
+        return Answer::of(alloc, UNNAMED);
+    }
     let Some(habit) = habit_at(&standing.spot, &standing.around) else {
+        if let Some(answer) = answer_number(alloc, standing)? {
+            return Ok(answer);
+        }
         return match cause {
             TextCause::BadToken => bad_token(alloc, standing),
             _ => answer_unexpected(alloc, standing),
@@ -51,20 +61,6 @@ fn habitual(alloc: Global, standing: &Standing, cause: TextCause) -> Result<Answ
     }
 }
 
-/// What is said of `=` where `:=` may stand.
-fn assigned(alloc: Global, standing: &Standing) -> Result<Option<Answer>, AllocError> {
-    let spot = &standing.spot;
-    if spot.found() != b"=".as_slice() {
-        return Ok(None);
-    }
-    let edit = Edit::new(alloc, spot.at, spot.found_to(), b":=")?;
-    if !is_cure(alloc, standing, &edit)? {
-        return Ok(None);
-    }
-    let answer = Answer::of(alloc, EQUALS)?;
-    Ok(Some(answer.with_tried(alloc, standing.asked.text, &edit)?))
-}
-
 /// What is said of a character that begins nothing.
 fn bad_token(alloc: Global, standing: &Standing) -> Result<Answer, AllocError> {
     let advice = advice_of(TextCause::BadToken);
@@ -75,7 +71,16 @@ fn bad_token(alloc: Global, standing: &Standing) -> Result<Answer, AllocError> {
         cure: String::from_str(alloc, advice.cure)?,
         example: Example::Other(String::from_str(alloc, advice.line)?),
     };
+    if is_inside(&standing.spot) || has_digit_beside(&standing.spot) {
+        return Ok(answer);
+    }
     with_edit(alloc, standing, answer, &left_out(alloc, &standing.spot)?)
+}
+
+/// Whether a digit stands right before what was found, or right behind it.
+fn has_digit_beside(spot: &Spot) -> bool {
+    let behind = spot.part(spot.found_to(), spot.line_to);
+    matches!(spot.front(), [.., b'0'..=b'9']) || matches!(behind, [b'0'..=b'9', ..])
 }
 
 /// What is said of a byte that is not ASCII.
