@@ -93,8 +93,41 @@ pub(crate) fn answer_declaration(
                 return of_declaration(alloc, asked, source, spot, found);
             }
         }
+        let advice = of_type_or_function(element, spot.at);
+        if advice.is_some() {
+            return of_advice(alloc, advice);
+        }
     }
     Ok(None)
+}
+
+/// What is said of a type of the text, or of a function's result, inputs and variables, where the
+/// name stands at a place.
+fn of_type_or_function(element: &Element, at: usize) -> Option<Advice> {
+    match element {
+        Element::DerivedType(one) if one.name.from == at => {
+            of_variable(one.specification, one.initial)
+        }
+        Element::Function(function) if function.name().from == at => match function.inputs() {
+            // What is at fault there is that the function has no input.
+            [] => None,
+            _ => of_variable(function.result_type(), None),
+        },
+        Element::Function(function) => {
+            let found = declaration_at(function.inputs(), at);
+            match found
+                .or(declaration_at(function.variables(), at))?
+                .declared()
+            {
+                Declared::Variables {
+                    specification,
+                    initial,
+                } => of_variable(specification, initial),
+                _ => None,
+            }
+        }
+        _ => None,
+    }
 }
 
 /// What advice says, where there is one.

@@ -75,6 +75,13 @@ const STRUCTURED: Advice = Advice {
     line: "LD lamp\nEQ 0\nJMPCN below",
 };
 
+const LOOP: Advice = Advice {
+    what: "a statement of Structured Text",
+    cure: "there are no loops: jumps lead forward alone, and what is to be done again is\n\
+        done in the next scan",
+    line: "LD count\nADD 1\nST count",
+};
+
 const SELECT: Advice = Advice {
     what: "there is no such function",
     cure: "load one value or the other behind a jump",
@@ -84,6 +91,13 @@ const SELECT: Advice = Advice {
 const SHIFT: Advice = Advice {
     what: "there are no shifts of bits",
     cure: "one bit to the left is MUL 2, one to the right is DIV 2",
+    line: "LD n\nMUL 2",
+};
+
+const ROTATION: Advice = Advice {
+    what: "there are neither shifts nor rotations of bits",
+    cure: "nothing stands for a rotation; for a shift alone, one bit to the left is MUL 2,\n\
+        one to the right is DIV 2",
     line: "LD n\nMUL 2",
 };
 
@@ -124,6 +138,13 @@ const NAMES: &[NameHabit] = &[
     ("elsif", "", STRUCTURED),
     ("case", "", STRUCTURED),
     ("end_case", "", STRUCTURED),
+    ("for", "", LOOP),
+    ("end_for", "", LOOP),
+    ("while", "", LOOP),
+    ("end_while", "", LOOP),
+    ("repeat", "", LOOP),
+    ("until", "", LOOP),
+    ("end_repeat", "", LOOP),
     ("goto", "JMP", INSTRUCTION),
     ("jump", "JMP", INSTRUCTION),
     ("return", "RET", INSTRUCTION),
@@ -136,8 +157,8 @@ const NAMES: &[NameHabit] = &[
     ("mux", "", SELECT),
     ("shl", "", SHIFT),
     ("shr", "", SHIFT),
-    ("rol", "", SHIFT),
-    ("ror", "", SHIFT),
+    ("rol", "", ROTATION),
+    ("ror", "", ROTATION),
 ];
 
 /// What is said of a name that is not declared, where other languages have it.
