@@ -92,7 +92,7 @@ const WRITES_INPUT: Advice = Advice {
 const NO_TASK: Advice = Advice {
     what: "a program instance without a task",
     cure: "write WITH and a task",
-    line: "PROGRAM i WITH t : p;",
+    line: "TASK clock (INTERVAL := T#100ms, PRIORITY := 1);\nPROGRAM hall WITH clock : light;",
 };
 
 /// What is said of what is too much for one task.
