@@ -12,8 +12,8 @@ use ilsource::{Source, Symbol, Use};
 use std::alloc::{AllocError, Global};
 use wordlines::Binding;
 
-/// The faults of names of a text in its order, each once. Left out are those of what is too much
-/// (cause 11), and such as only follow from another one.
+/// The faults of names of a text in its order, one at a place. Left out are those of what is too
+/// much (cause 11), and such as only follow from another one.
 pub(crate) fn all_faults(
     alloc: Global,
     source: &Source,

@@ -38,14 +38,14 @@ impl Faults {
         Ok(())
     }
 
-    /// Each of them once, in the order of the text.
+    /// The least at each place, in the order of the text: others there mostly follow from it.
     pub(crate) fn in_order(self, alloc: Global) -> Result<Vec<Found>, AllocError> {
         let mut all = self.found;
         all.sort_by_key(|fault| (fault.at, fault.cause.number()))?;
         let mut each: Vec<Found> = Vec::new(alloc);
         for fault in &all {
             let is_known = match each.last() {
-                Some(last) => last.at == fault.at && last.cause == fault.cause,
+                Some(last) => last.at == fault.at,
                 None => false,
             };
             if !is_known {
