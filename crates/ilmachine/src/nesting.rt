@@ -11,34 +11,39 @@ use arrayvec::ArrayVec;
 use std::marker::Model;
 
 /// The calls that are open, and the operators that wait for their parenthesis in any body that
-/// runs, of both the innermost last, and the place where the innermost body ends. There is room for
-/// 8 calls and, in each of 9 bodies, 32 operators.
+/// runs, of both the innermost last, and the place where the innermost body ends. In each body 32
+/// operators may wait, so there is room for 288 of them where 8 calls may be open, and for 32 where
+/// the code has no functions: room is filled at each scan.
 #[derive(Drop)]
-pub(crate) struct Nesting {
-    waiting: ArrayVec<Waiting, 288>,
+pub(crate) struct Nesting<const ROOM: usize> {
+    waiting: ArrayVec<Waiting, ROOM>,
     calls: ArrayVec<OpenFunction, 8>,
     end: usize,
 }
 
-impl Model for Nesting {
-    ghost use Rattle.std.specs.Prelude.{reverse};
+impl<const ROOM: usize> Model for Nesting<ROOM> {
+    ghost use Rattle.std.specs.Prelude.{reverse, length, ◌≤◌, ◌+◌, ◌*◌};
+    ghost use Rattle.limits.specs.Limits.{most_nesting};
     ghost use Rattle.ilmachine.specs.Nestings.{Nested, nested_of, AreMarks};
 
     ghost Value = { Nested };
 
     ghost view = { λ n. nested_of n.waiting.items (reverse n.calls.items) n.end };
 
-    ghost invariant = { λ n. AreMarks n.waiting.items (reverse n.calls.items) };
+    ghost invariant = { λ n. AreMarks n.waiting.items (reverse n.calls.items)
+        × (most_nesting * (length n.calls.items + 1) ≤ ROOM) × (ROOM ≤ 288) };
 }
 
-impl Nesting {
-    ghost use Rattle.std.specs.Prelude.{◌≡◌, ◌<◌, [], ◌∷◌, IfNone, IfSome, length};
+impl<const ROOM: usize> Nesting<ROOM> {
+    ghost use Rattle.std.specs.Prelude.{◌≡◌, ◌<◌, ◌≤◌, ◌+◌, ◌*◌, [], ◌∷◌, IfNone, IfSome, length};
     ghost use Rattle.limits.specs.Limits.{most_nesting, most_calls};
     ghost use Rattle.ilcode.specs.Steps.{open_call};
     ghost use Rattle.ilmachine.specs.Nestings.{nested, IsOpenIn};
 
     /// Nothing is open, in the programs of a code, which end there.
-    pub(crate) fn new(end: usize) -> Nesting
+    pub(crate) fn new(end: usize) -> Nesting<ROOM>
+        requires least { most_nesting ≤ ROOM }
+        requires most { ROOM ≤ 288 }
         ensures { result ≡ nested [] [] end }
     {
         Nesting {
@@ -81,7 +86,8 @@ impl Nesting {
     /// Opens a call of a function whose body ends at `end`, and whose caller goes on at `back`.
     #[inline(always)]
     pub(crate) fn enter(&mut self, function: u32, back: usize, end: usize)
-        requires { length self.old.calls < most_calls }
+        requires few { length self.old.calls < most_calls }
+        requires room { most_nesting * (length self.old.calls + 2) ≤ ROOM }
         ensures { self.new
             ≡ nested [] (open_call function back self.old.nesting ∷ self.old.calls) end }
     {
