@@ -1,7 +1,8 @@
 //! The process image: a value for each global variable of a plant, and for each task the values of
 //! its own variables and its block instances.
 //!
-//! What crosses the boundary: an [`Image`] is made of [`TaskImage`]s. [`Image::take`] gives the
+//! What crosses the boundary: an [`Image`] is made of [`TaskImage`]s. Each keeps the task's verified
+//! code as the machine reads it ([`PreparedCode`]). [`Image::take`] gives the
 //! [`Snapshot`] that a scan of a task starts from, and [`Image::commit`] writes what the scan left:
 //! the globals that the task stores ([`StoredSlot`]), its own variables and its block instances.
 //! [`Image::take_with`] is for an event task: by [`Override`]s its snapshot has the trigger TRUE,
@@ -23,6 +24,7 @@ mod image;
 mod index;
 mod law;
 mod overriding;
+mod prepared;
 mod row_writes;
 mod scan_writes;
 mod slots;
@@ -34,6 +36,7 @@ pub use external::External;
 pub use image::Image;
 pub use law::variables_and_blocks_are_the_image;
 pub use overriding::Override;
+pub use prepared::PreparedCode;
 pub use slots::StoredSlot;
 pub use snapshot::Snapshot;
 pub use task::TaskImage;

@@ -1,6 +1,7 @@
 //! Snapshots.
 
 use crate::code_rows::{first_blocks, row_of};
+use crate::prepared::PreparedCode;
 use ilblocks::BlockState;
 use ilrows::ValueRow;
 use iltypes::Value;
@@ -13,7 +14,7 @@ use std::sync::Arc;
 /// what each of its block instances keeps, and a moment in milliseconds. The slots of functions are
 /// none of these.
 pub struct Snapshot {
-    verified: Arc<Verified, Global>,
+    prepared: Arc<PreparedCode, Global>,
     row: ValueRow,
     blocks: Vec<BlockState>,
     moment: u64,
@@ -23,7 +24,7 @@ pub struct Snapshot {
 impl Drop for Snapshot {
     fn drop(self) {
         let Self {
-            verified: _,
+            prepared: _,
             row: _,
             blocks: _,
             moment: _,
@@ -37,10 +38,10 @@ impl Model for Snapshot {
 
     ghost Value = { ScanStart };
 
-    ghost view = { λ s. start_of (arc_value s.verified)
+    ghost view = { λ s. start_of (arc_value s.prepared)
         (record { slots = s.row; blocks = s.blocks.items }) s.moment };
 
-    ghost invariant = { λ s. IsLastingOf (arc_value s.verified).code
+    ghost invariant = { λ s. IsLastingOf (arc_value s.prepared).code
         (record { slots = s.row; blocks = s.blocks.items }) };
 }
 
@@ -69,8 +70,9 @@ impl Snapshot {
     {
         let row = row_of(alloc, verified.code(), values)?;
         let blocks = first_blocks(alloc, verified.code().kinds())?;
+        let prepared = PreparedCode::shared(alloc, verified)?;
         Ok(Snapshot {
-            verified,
+            prepared,
             row,
             blocks,
             moment,
@@ -80,19 +82,19 @@ impl Snapshot {
     /// The snapshot of these values, one in its type for each slot of the programs, and block
     /// instances of the code's kinds.
     pub(crate) fn of(
-        verified: Arc<Verified, Global>,
+        prepared: Arc<PreparedCode, Global>,
         row: ValueRow,
         blocks: Vec<BlockState>,
         moment: u64,
     ) -> Snapshot
-        requires values { AreOf row (lasting_types (arc_value verified).code) }
-        requires blocks { AllZip (IsBlockOf (arc_value verified).code.buses) blocks.items
-            (arc_value verified).code.kinds }
-        ensures { result ≡ start_of (arc_value verified)
+        requires values { AreOf row (lasting_types (arc_value prepared).code) }
+        requires blocks { AllZip (IsBlockOf (arc_value prepared).code.buses) blocks.items
+            (arc_value prepared).code.kinds }
+        ensures { result ≡ start_of (arc_value prepared)
             (record { slots = row; blocks = blocks.items }) moment }
     {
         Snapshot {
-            verified,
+            prepared,
             row,
             blocks,
             moment,
@@ -109,13 +111,13 @@ impl Snapshot {
             (record { slots = row; blocks = blocks.items }) moment }
     {
         let Self {
-            verified,
+            prepared,
             row: _,
             blocks: _,
             moment: _,
         } = self;
         Snapshot {
-            verified,
+            prepared,
             row,
             blocks,
             moment,
@@ -146,7 +148,14 @@ impl Snapshot {
     pub fn verified(&self) -> &Verified
         ensures value { result.now ≡ self.now.verified }
     {
-        &self.verified
+        self.prepared.verified()
+    }
+
+    /// The verified code as the machine reads it.
+    pub fn prepared(&self) -> &PreparedCode
+        ensures value { result.now ≡ self.now.verified }
+    {
+        &self.prepared
     }
 
     /// A value for each slot of the programs.

@@ -5,6 +5,7 @@ ghost use Rattle.ilimage.specs.ImageSteps.{global_value};
 
 use crate::code_rows::first_blocks;
 use crate::external::External;
+use crate::prepared::PreparedCode;
 use ilblocks::BlockState;
 use iltypes::Value;
 use ilverify::Verified;
@@ -17,7 +18,7 @@ use std::sync::Arc;
 /// instances.
 #[derive(Drop)]
 pub struct TaskImage {
-    verified: Arc<Verified, Global>,
+    prepared: Arc<PreparedCode, Global>,
     externals: Vec<External>,
     values: Vec<Value>,
     blocks: Vec<BlockState>,
@@ -30,10 +31,10 @@ impl Model for TaskImage {
 
     ghost Value = { TaskImage };
 
-    ghost view = { λ t. task_of (arc_value t.verified) t.externals.items t.values.items
+    ghost view = { λ t. task_of (arc_value t.prepared) t.externals.items t.values.items
         t.blocks.items };
 
-    ghost invariant = { λ t. IsTaskImage (task_of (arc_value t.verified) t.externals.items
+    ghost invariant = { λ t. IsTaskImage (task_of (arc_value t.prepared) t.externals.items
         t.values.items t.blocks.items) };
 }
 
@@ -62,8 +63,9 @@ impl TaskImage {
             made ≡ first_task (arc_value verified) externals.items values.items) }
     {
         let blocks = first_blocks(alloc, verified.code().kinds())?;
+        let prepared = PreparedCode::shared(alloc, verified)?;
         Ok(TaskImage {
-            verified,
+            prepared,
             externals,
             values,
             blocks,
@@ -72,7 +74,7 @@ impl TaskImage {
 
     /// The verified code.
     pub fn verified(&self) -> &Arc<Verified, Global>
-        ensures value { arc_value result.now ≡ self.now.layout.verified }
+        ensures value { arc_value result.now ≡ self.now.layout.prepared }
     {
         &self.verified
     }
@@ -95,8 +97,8 @@ impl TaskImage {
     /// What each block instance of the task keeps.
     pub fn blocks(&self) -> &[BlockState]
         ensures value { result.now ≡ self.now.own.blocks }
-        ensures in_types { AllZip (IsBlockOf self.now.layout.verified.code.buses)
-            self.now.own.blocks self.now.layout.verified.code.kinds }
+        ensures in_types { AllZip (IsBlockOf self.now.layout.prepared.code.buses)
+            self.now.own.blocks self.now.layout.prepared.code.kinds }
     {
         &self.blocks
     }

@@ -7,13 +7,13 @@ ghost use Rattle.ilimage.specs.Images.{stored_slots};
 
 use crate::code_rows::row_of;
 use crate::external::External;
+use crate::prepared::PreparedCode;
 use crate::slots::StoredSlot;
 use crate::snapshot::Snapshot;
 use crate::task::TaskImage;
 use ilblocks::BlockState;
 use ilrows::ValueRow;
 use iltypes::Value;
-use ilverify::Verified;
 use std::alloc::{AllocError, Global};
 use std::marker::Model;
 use std::sync::Arc;
@@ -22,7 +22,7 @@ use std::sync::Arc;
 /// variables. From the slots of `stores` a scan stores to those.
 #[derive(Drop)]
 pub(crate) struct TaskRow {
-    verified: Arc<Verified, Global>,
+    prepared: Arc<PreparedCode, Global>,
     externals: Vec<External>,
     stores: Vec<StoredSlot>,
     row: ValueRow,
@@ -37,10 +37,10 @@ impl Model for TaskRow {
 
     ghost Value = { TaskRow };
 
-    ghost view = { λ t. task_row_of (arc_value t.verified) t.externals.items t.row t.blocks.items };
+    ghost view = { λ t. task_row_of (arc_value t.prepared) t.externals.items t.row t.blocks.items };
 
     ghost invariant = { λ t.
-        IsTaskRow (task_row_of (arc_value t.verified) t.externals.items t.row t.blocks.items)
+        IsTaskRow (task_row_of (arc_value t.prepared) t.externals.items t.row t.blocks.items)
         × (t.stores.items ≡ stored_slots t.externals.items) };
 }
 
@@ -68,13 +68,13 @@ impl TaskRow {
         let _own = task.values();
         let _kinds = task.blocks();
         let values = task.slot_values(alloc, globals)?;
-        let verified = task.verified().clone()?;
-        let row = row_of(alloc, verified.code(), &values)?;
+        let prepared = task.prepared().clone()?;
+        let row = row_of(alloc, prepared.verified().code(), &values)?;
         let externals = Vec::from_slice(alloc, task.externals())?;
         let stores = stores_of(alloc, &externals)?;
         let blocks = task.copy_blocks()?;
         Ok(TaskRow {
-            verified,
+            prepared,
             externals,
             stores,
             row,
@@ -114,18 +114,18 @@ impl TaskRow {
     /// What a scan of the task starts from at this moment with these values, one in its type for
     /// each slot of the programs.
     pub(crate) fn begin(&self, row: ValueRow, moment: u64) -> Result<Snapshot, AllocError>
-        requires { AreOf row (lasting_types self.now.layout.verified.code) }
-        ensures { IfOk result (λ snapshot. snapshot ≡ start_of self.now.layout.verified
+        requires { AreOf row (lasting_types self.now.layout.prepared.code) }
+        ensures { IfOk result (λ snapshot. snapshot ≡ start_of self.now.layout.prepared
             (record { slots = row; blocks = self.now.blocks }) moment) }
     {
         let blocks = self.copy_blocks()?;
-        let verified = self.verified.clone()?;
-        Ok(Snapshot::of(verified, row, blocks, moment))
+        let prepared = self.prepared.clone()?;
+        Ok(Snapshot::of(prepared, row, blocks, moment))
     }
 
     /// Gives a slot another value of its type.
     pub(crate) fn put(&mut self, slot: usize, value: Value)
-        requires { MayHave (lasting_types self.old.layout.verified.code) slot value }
+        requires { MayHave (lasting_types self.old.layout.prepared.code) slot value }
         ensures { self.new ≡ record self.old { row = slice_set self.old.row slot value } }
     {
         self.row.set(slot, value);
@@ -134,10 +134,10 @@ impl TaskRow {
     /// Keeps what a scan left: of the values of the programs' slots those of the task's own
     /// variables, and the block instances. It takes no memory.
     pub(crate) fn keep(&mut self, row: &ValueRow, blocks: Vec<BlockState>)
-        requires values { AreOf row.now (lasting_types self.old.layout.verified.code) }
+        requires values { AreOf row.now (lasting_types self.old.layout.prepared.code) }
         requires externals { length self.old.layout.externals ≤ length row.now }
-        requires blocks { AllZip (IsBlockOf self.old.layout.verified.code.buses) blocks.items
-            self.old.layout.verified.code.kinds }
+        requires blocks { AllZip (IsBlockOf self.old.layout.prepared.code.buses) blocks.items
+            self.old.layout.prepared.code.kinds }
         ensures { self.new ≡ kept_task self.old row.now blocks.items }
     {
         self.row.copy_end(row, self.externals.len());

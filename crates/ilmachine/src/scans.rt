@@ -187,7 +187,7 @@ pub fn scan_into(work: Work) -> ScanResult
         mut state,
         room,
     } = work;
-    let steps = run(snapshot.verified(), &mut state);
+    let steps = run(snapshot.prepared(), &mut state);
     let left = state.end(snapshot.verified().code(), room);
     ScanResult {
         number,

@@ -6,4 +6,3 @@ pub mod RowEnds
 pub mod RowStarts
 pub mod RowWrites
 pub mod Rows
-pub mod SlotPlaces

@@ -9,6 +9,7 @@ use Rattle.ilblocks.specs.Stores.{blocks_at_first}
 use Rattle.ilblocks.proofs.Stores.{at_first_are}
 use Rattle.ilcode.specs.Listings.{Listing, lasting_types}
 use Rattle.ilverify.specs.Verdicts.{Accepted}
+use Rattle.ilimage.specs.Snapshots.{IsLastingOf}
 use Rattle.ilimage.proofs.snapshot.Snapshot.new.Goals as goal
 
 pub row_of-requires : goal.row_of-requires
@@ -23,8 +24,10 @@ invariant_of-result c =
     c.kinds.ensures.value ∙ ap (λ (l : Listing). l.kinds) c.code-2.ensures.value
     ∙ ap (λ (v : Accepted). v.code.kinds) c.deref-2.ensures in
     let blocks = c.in_ok-blocks.ensures ∙ ap (λ (ks : List BlockKind). blocks_at_first ks) kinds in
-    record {
+    subst (λ (v : Accepted). IsLastingOf v.code (record { slots = c.in_ok-row.row; blocks = c.in_ok-blocks.blocks.items }))
+    (sym c.in_ok-prepared.ensures)
+    (record {
       values = subst (λ (vs : List Value). AreOf vs (lasting_types code)) (sym c.in_ok-row.ensures) c.requires;
       blocks = subst (λ (bs : List Block). AllZip (IsBlockOf code.buses) bs code.kinds) (sym blocks)
           (at_first_are code.buses code.kinds);
-    }
+    })

@@ -12,12 +12,12 @@ set-requires c =
     let f = c.self.inside in
     let may = subst (λ (s : ScanStart). MayHave (lasting_types s.verified.code) c.args.slot c.args.value)
     (sym c.self.view_is) c.requires in
-    may_set f.row (lasting_types (arc_value f.verified).code) c.args.slot c.args.value c.self.invariant.values may
+    may_set f.row (lasting_types (arc_value f.prepared).code) c.args.slot c.args.value c.self.invariant.values may
 
 pub invariant_of-self : goal.invariant_of-self
 invariant_of-self c =
     let f = c.self.inside in
-    let slots = lasting_types (arc_value f.verified).code in
+    let slots = lasting_types (arc_value f.prepared).code in
     let may = subst (λ (s : ScanStart). MayHave (lasting_types s.verified.code) c.args.slot c.args.value)
     (sym c.self.view_is) c.requires in
     record {

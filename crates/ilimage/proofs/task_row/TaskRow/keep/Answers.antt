@@ -15,7 +15,7 @@ pub copy_end-requires : goal.copy_end-requires
 copy_end-requires c =
     let f = c.self.inside in
     let row = c.args.row.now in
-    let slots = lasting_types (arc_value f.verified).code in
+    let slots = lasting_types (arc_value f.prepared).code in
     let typed = subst (λ (t : TaskRow). AreOf row (lasting_types t.layout.verified.code)) (sym c.self.view_is)
     c.requires.values in
     let old = as_long f.row slots c.self.invariant.0.values in
@@ -31,7 +31,7 @@ pub invariant_of-self : goal.invariant_of-self
 invariant_of-self c =
     let f = c.self.inside in
     let row = c.args.row.now in
-    let slots = lasting_types (arc_value f.verified).code in
+    let slots = lasting_types (arc_value f.prepared).code in
     let typed = subst (λ (t : TaskRow). AreOf row (lasting_types t.layout.verified.code)) (sym c.self.view_is)
     c.requires.values in (
       record {
@@ -49,6 +49,6 @@ returns c =
     let row = c.args.row.now in
     let blocks = c.args.blocks.items in
     let n : c.len.result ≡ length f.externals.items = omega (arith, c.len.ensures, f.externals.ok.0) in
-    ap (λ (r : List Value). task_row_of (arc_value f.verified) f.externals.items r blocks)
+    ap (λ (r : List Value). task_row_of (arc_value f.prepared) f.externals.items r blocks)
     (c.copy_end.ensures ∙ ap (λ (k : ℕ). take k f.row ++ drop k row) n)
     ∙ ap (λ (t : TaskRow). kept_task t row blocks) c.self.view_is

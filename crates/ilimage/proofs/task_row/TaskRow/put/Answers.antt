@@ -13,12 +13,12 @@ set-requires c =
     let f = c.self.inside in
     let may = subst (λ (t : TaskRow). MayHave (lasting_types t.layout.verified.code) c.args.slot c.args.value)
     (sym c.self.view_is) c.requires in
-    may_set f.row (lasting_types (arc_value f.verified).code) c.args.slot c.args.value c.self.invariant.0.values may
+    may_set f.row (lasting_types (arc_value f.prepared).code) c.args.slot c.args.value c.self.invariant.0.values may
 
 pub invariant_of-self : goal.invariant_of-self
 invariant_of-self c =
     let f = c.self.inside in
-    let slots = lasting_types (arc_value f.verified).code in
+    let slots = lasting_types (arc_value f.prepared).code in
     let may = subst (λ (t : TaskRow). MayHave (lasting_types t.layout.verified.code) c.args.slot c.args.value)
     (sym c.self.view_is) c.requires in (
       record {
