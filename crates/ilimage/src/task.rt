@@ -72,11 +72,11 @@ impl TaskImage {
         })
     }
 
-    /// The verified code.
-    pub fn verified(&self) -> &Arc<Verified, Global>
-        ensures value { arc_value result.now ≡ self.now.layout.prepared }
+    /// The verified code, prepared for the machine.
+    pub(crate) fn prepared(&self) -> &Arc<PreparedCode, Global>
+        ensures value { arc_value result.now ≡ self.now.layout.verified }
     {
-        &self.verified
+        &self.prepared
     }
 
     /// The global variables in the first slots of the code.
@@ -97,8 +97,8 @@ impl TaskImage {
     /// What each block instance of the task keeps.
     pub fn blocks(&self) -> &[BlockState]
         ensures value { result.now ≡ self.now.own.blocks }
-        ensures in_types { AllZip (IsBlockOf self.now.layout.prepared.code.buses)
-            self.now.own.blocks self.now.layout.prepared.code.kinds }
+        ensures in_types { AllZip (IsBlockOf self.now.layout.verified.code.buses)
+            self.now.own.blocks self.now.layout.verified.code.kinds }
     {
         &self.blocks
     }

@@ -114,8 +114,8 @@ impl TaskRow {
     /// What a scan of the task starts from at this moment with these values, one in its type for
     /// each slot of the programs.
     pub(crate) fn begin(&self, row: ValueRow, moment: u64) -> Result<Snapshot, AllocError>
-        requires { AreOf row (lasting_types self.now.layout.prepared.code) }
-        ensures { IfOk result (λ snapshot. snapshot ≡ start_of self.now.layout.prepared
+        requires { AreOf row (lasting_types self.now.layout.verified.code) }
+        ensures { IfOk result (λ snapshot. snapshot ≡ start_of self.now.layout.verified
             (record { slots = row; blocks = self.now.blocks }) moment) }
     {
         let blocks = self.copy_blocks()?;
@@ -125,7 +125,7 @@ impl TaskRow {
 
     /// Gives a slot another value of its type.
     pub(crate) fn put(&mut self, slot: usize, value: Value)
-        requires { MayHave (lasting_types self.old.layout.prepared.code) slot value }
+        requires { MayHave (lasting_types self.old.layout.verified.code) slot value }
         ensures { self.new ≡ record self.old { row = slice_set self.old.row slot value } }
     {
         self.row.set(slot, value);
@@ -134,10 +134,10 @@ impl TaskRow {
     /// Keeps what a scan left: of the values of the programs' slots those of the task's own
     /// variables, and the block instances. It takes no memory.
     pub(crate) fn keep(&mut self, row: &ValueRow, blocks: Vec<BlockState>)
-        requires values { AreOf row.now (lasting_types self.old.layout.prepared.code) }
+        requires values { AreOf row.now (lasting_types self.old.layout.verified.code) }
         requires externals { length self.old.layout.externals ≤ length row.now }
-        requires blocks { AllZip (IsBlockOf self.old.layout.prepared.code.buses) blocks.items
-            self.old.layout.prepared.code.kinds }
+        requires blocks { AllZip (IsBlockOf self.old.layout.verified.code.buses) blocks.items
+            self.old.layout.verified.code.kinds }
         ensures { self.new ≡ kept_task self.old row.now blocks.items }
     {
         self.row.copy_end(row, self.externals.len());

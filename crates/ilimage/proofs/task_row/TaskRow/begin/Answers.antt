@@ -12,7 +12,7 @@ pub of-requires : goal.of-requires
 of-requires c =
     let t = c.args.self.now in
     let whole = subst IsTaskRow c.self.view_is c.self.invariant.0 in
-    let code = c.in_ok-verified.ensures.cases ∙ ap (λ (t : TaskRow). t.layout.verified) c.self.view_is in
+    let code = c.in_ok-prepared.ensures.cases ∙ ap (λ (t : TaskRow). t.layout.verified) c.self.view_is in
     let blocks = c.in_ok-blocks.blocks.items in
     record {
       values = subst (λ (v : Accepted). AreOf c.args.row (lasting_types v.code)) (sym code) c.requires;
@@ -24,7 +24,7 @@ of-requires c =
 pub returns : goal.returns
 returns c =
     let t = c.args.self.now in
-    let code = c.in_ok-verified.ensures.cases ∙ ap (λ (t : TaskRow). t.layout.verified) c.self.view_is in
+    let code = c.in_ok-prepared.ensures.cases ∙ ap (λ (t : TaskRow). t.layout.verified) c.self.view_is in
     c.of.ensures
     ∙ ap (λ (v : Accepted). start_of v (record {
       slots = c.args.row;
