@@ -31,7 +31,8 @@ row_of-requires c =
     let typed = slots_typed r.types slots globals t.layout.externals t.own.slots r.typed r.values
     c.values-own.ensures.in_types in
     let code = c.code.ensures.value
-    ∙ ap (λ (v : Accepted). v.code) (c.deref.ensures ∙ c.in_ok-prepared.ensures.cases ∙ c.prepared.ensures.value) in
+    ∙ ap (λ (v : Accepted). v.code) (c.verified.ensures ∙ c.deref.ensures ∙ c.in_ok-prepared.ensures.cases
+    ∙ c.prepared.ensures.value) in
     subst (λ (vs : List Value). AreOf vs (lasting_types c.code.result.now))
     (sym (c.deref-2.ensures.value ∙ c.in_ok-values.ensures))
     (subst (λ (l : Listing). AreOf (slot_values globals t) (lasting_types l)) (sym code) typed)
