@@ -25,11 +25,11 @@ reads : (op kind a b : ℕ) → op < 64 → kind < 4 → a < 4096
     → meaning (number_of (fields op kind a b)) ≡ meant op kind a b
 reads op kind a b o k h =
     let n : ℕ = (op + 64 * kind) + 256 * a + 1048576 * b in
-    let of_op : n % 256 % 64 ≡ op = omega arith in
-    let of_kind : n % 256 / 64 ≡ kind = omega arith in
+    let of_op : n % 64 ≡ op = omega arith in
+    let of_kind : n / 64 % 4 ≡ kind = omega arith in
     let of_a : n / 256 % 4096 ≡ a = omega arith in
     let of_b : n / 1048576 ≡ b = omega arith in
-    ap (λ (x : ℕ). meant x (n % 256 / 64) (n / 256 % 4096) (n / 1048576)) of_op
+    ap (λ (x : ℕ). meant x (n / 64 % 4) (n / 256 % 4096) (n / 1048576)) of_op
     ∙ ap (λ (x : ℕ). meant op x (n / 256 % 4096) (n / 1048576)) of_kind
     ∙ ap (λ (x : ℕ). meant op kind x (n / 1048576)) of_a
     ∙ ap (meant op kind a) of_b
@@ -65,19 +65,7 @@ small (operators.Or false) = lit< tt
 small (operators.Or true) = lit< tt
 small (operators.Xor false) = lit< tt
 small (operators.Xor true) = lit< tt
-small operators.Add = lit< tt
-small operators.Sub = lit< tt
-small operators.Mul = lit< tt
-small operators.Div = lit< tt
-small operators.Mod = lit< tt
-small operators.Gt = lit< tt
-small operators.Ge = lit< tt
-small operators.Eq = lit< tt
-small operators.Ne = lit< tt
-small operators.Le = lit< tt
-small operators.Lt = lit< tt
-small operators.Min = lit< tt
-small operators.Max = lit< tt
+small operator = lit< tt
 
 applies : (operator : Operator) (kind a : ℕ)
     → meant (operator_number operator) kind a 0 ≡ words.Apply operator (operand_of kind a)
@@ -87,19 +75,7 @@ applies (operators.Or false) kind a = refl
 applies (operators.Or true) kind a = refl
 applies (operators.Xor false) kind a = refl
 applies (operators.Xor true) kind a = refl
-applies operators.Add kind a = refl
-applies operators.Sub kind a = refl
-applies operators.Mul kind a = refl
-applies operators.Div kind a = refl
-applies operators.Mod kind a = refl
-applies operators.Gt kind a = refl
-applies operators.Ge kind a = refl
-applies operators.Eq kind a = refl
-applies operators.Ne kind a = refl
-applies operators.Le kind a = refl
-applies operators.Lt kind a = refl
-applies operators.Min kind a = refl
-applies operators.Max kind a = refl
+applies operator kind a = refl
 
 numbered : (operator : Operator) → operator_of (operator_number operator) ≡ operator
 numbered (operators.And false) = refl
@@ -108,19 +84,7 @@ numbered (operators.Or false) = refl
 numbered (operators.Or true) = refl
 numbered (operators.Xor false) = refl
 numbered (operators.Xor true) = refl
-numbered operators.Add = refl
-numbered operators.Sub = refl
-numbered operators.Mul = refl
-numbered operators.Div = refl
-numbered operators.Mod = refl
-numbered operators.Gt = refl
-numbered operators.Ge = refl
-numbered operators.Eq = refl
-numbered operators.Ne = refl
-numbered operators.Le = refl
-numbered operators.Lt = refl
-numbered operators.Min = refl
-numbered operators.Max = refl
+numbered operator = refl
 
 converts : (target : IntegerType)
     → meaning (spelling (words.Transform (Convert target))) ≡ words.Transform (Convert target)

@@ -2,7 +2,6 @@ pub mod BlockRows
 pub mod FunctionRows
 pub mod Lasting
 pub mod Listings
-pub mod LowBytes
 pub mod Paths
 pub mod Reading
 pub mod Rows

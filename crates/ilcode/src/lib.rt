@@ -35,5 +35,6 @@ pub use code::Code;
 pub use function::FunctionBody;
 pub use nesting::Opened;
 pub use packed::{PackedWord, pack};
-pub use reading::{operator_of, type_of};
+pub use reading::type_of;
+pub use spelling::type_number;
 pub use word::{Target, Word, WordOperand};

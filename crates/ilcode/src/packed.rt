@@ -35,11 +35,9 @@ impl Model for PackedWord {
 }
 
 impl PackedWord {
-    ghost use Rattle.std.specs.Prelude.{◌≡◌, ◌≢◌, ◌<◌, IfSome, IfNone, IsTrue};
+    ghost use Rattle.std.specs.Prelude.{◌≡◌, ◌≢◌, IfSome, IfNone};
     ghost use Rattle.ilcode.specs.declared.word.Word.{Word as AnyWord};
     ghost use Rattle.ilcode.specs.Words.{spelling, HasWord};
-    ghost use Rattle.ilcode.specs.Reading.{meant_by};
-    ghost use Rattle.ilcode.specs.LowBytes.{is_low_byte};
 
     /// A word that the format can hold.
     pub fn of(word: &Word) -> PackedWord
@@ -70,23 +68,10 @@ impl PackedWord {
         self.bits
     }
 
-    /// The low byte, which says which of the 87 kinds of words it is, and the numbers a and b.
-    #[inline(always)]
-    pub fn fields(self) -> (u32, u16, u16)
-        ensures value { meant_by result.0 result.1 result.2 ≡ self }
-        ensures known { IsTrue (is_low_byte result.0) }
-        ensures a { result.1 < 4096 }
-        ensures b { result.2 < 4096 }
-    {
-        let low = self.bits % 256;
-        let a = self.bits / 256 % 4096;
-        let b = self.bits / 1_048_576;
-        (low, a as u16, b as u16)
-    }
-
     /// The word, unpacked.
     pub fn word(self) -> Word
-        ensures { result ≡ self }
+        ensures value { result ≡ self }
+        ensures held { HasWord result }
     {
         meaning(self.bits)
     }

@@ -10,9 +10,8 @@ use iltypes::{Condition, Function, IntegerType, Operator};
 pub(crate) fn meaning(bits: u32) -> Word
     ensures { result ≡ meaning bits }
 {
-    let low = bits % 256;
-    let op = low % 64;
-    let kind = low / 64;
+    let op = bits % 64;
+    let kind = bits / 64 % 4;
     let a = bits / 256 % 4096;
     let b = bits / 1_048_576;
     match op {
@@ -111,8 +110,7 @@ pub fn type_of(a: u32) -> IntegerType
 }
 
 /// The operator of an operation, by its number in the word.
-#[inline(always)]
-pub fn operator_of(op: u32) -> Operator
+fn operator_of(op: u32) -> Operator
     ensures { result ≡ operator_of op }
 {
     match op {

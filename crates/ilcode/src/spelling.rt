@@ -154,8 +154,8 @@ fn jump_number(condition: Condition) -> u32
     }
 }
 
-/// The number of a type that a conversion is to.
-fn type_number(target: IntegerType) -> u32
+/// The number of a type that a conversion is to, in the word.
+pub fn type_number(target: IntegerType) -> u32
     ensures value { result ≡ type_number target }
     ensures small { result < 64 }
 {
