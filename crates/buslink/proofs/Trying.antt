@@ -15,7 +15,7 @@ use Rattle.gearcmd.specs.FrameLists.{FrameList}
 use Rattle.transact.specs.Attempts.{Attempt, IsAttempt, IsReport, ReportParts, Spells, marks_of}
 use Rattle.transact.specs.Attempts.{all_marks, sent_with, all_sent, last_mark}
 use Rattle.buslink.specs.declared.faults.Fault.{Fault}
-use Rattle.buslink.specs.BusLog.{BusLog, mark_of_send, after_send, with_spare}
+use Rattle.buslink.specs.BusLog.{BusLog, mark_of_send, after_send}
 use Rattle.buslink.specs.Performing.{failures_after, after_report}
 use Rattle.buslink.specs.PerformingSteps.{failures_with, after_frames, IsTriedOnce, IsTried}
 
@@ -272,33 +272,29 @@ reported list most marks r start new one t s =
           }) failures;
     }
 
-pub performed : (list : FrameList) (most : ℕ) (marks : List Mark) (r : ReportParts) (old start new : BusLog)
-    (spare : ℕ)
-    → SpellOne list most marks
-    → start ≡ with_spare spare old → IsTried list (most - 1) [] marks start new → Spells list most marks r
+pub performed : (list : FrameList) (most : ℕ) (marks : List Mark) (r : ReportParts) (old new : BusLog)
+    → SpellOne list most marks → IsTried list (most - 1) [] marks old new → Spells list most marks r
     → new ≡ after_report r new.spare old
-performed list most marks r old start new spare one roomed t s =
-    let told : new ≡ record start {
-      sent = start.sent ++ r.attempts;
-      spare = start.spare - length r.attempts;
+performed list most marks r old new one t s =
+    let told : new ≡ record old {
+      sent = old.sent ++ r.attempts;
+      spare = old.spare - length r.attempts;
       failures =
-          failures_after r.outcome start.failures;
-    } = (reported list most marks r start new one t s).bus in
-    let left : start.spare - length r.attempts ≡ new.spare = sym (ap (λ (log : BusLog). log.spare) told) in
-    told ∙ ap (λ (n : ℕ). record start {
-      sent = start.sent ++ r.attempts;
+          failures_after r.outcome old.failures;
+    } = (reported list most marks r old new one t s).bus in
+    let left : old.spare - length r.attempts ≡ new.spare = sym (ap (λ (log : BusLog). log.spare) told) in
+    told ∙ ap (λ (n : ℕ). record old {
+      sent = old.sent ++ r.attempts;
       spare = n;
       failures =
-          failures_after r.outcome start.failures;
+          failures_after r.outcome old.failures;
     }) left
-    ∙ ap (λ (log : BusLog). after_report r new.spare log) roomed
 
 -- a spare place is taken by a frame of the report alone
-pub spare_kept : (places : ℕ) (list : FrameList) (most : ℕ) (marks : List Mark) (r : ReportParts) (start new : BusLog)
-    → SpellOne list most marks
-    → places ≤ start.spare → IsTried list (most - 1) [] marks start new → Spells list most marks r
-    → places ≤ new.spare + length r.attempts
-spare_kept places list most marks r start new one fits t s =
-    let left : new.spare ≡ start.spare - length r.attempts =
-    ap (λ (log : BusLog). log.spare) (reported list most marks r start new one t s).bus in
+pub spare_kept : (list : FrameList) (most : ℕ) (marks : List Mark) (r : ReportParts) (old new : BusLog)
+    → SpellOne list most marks → IsTried list (most - 1) [] marks old new → Spells list most marks r
+    → old.spare ≤ new.spare + length r.attempts
+spare_kept list most marks r old new one t s =
+    let left : new.spare ≡ old.spare - length r.attempts =
+    ap (λ (log : BusLog). log.spare) (reported list most marks r old new one t s).bus in
     omega arith

@@ -6,7 +6,8 @@
 //! (IEC 62386-101 for frames and priorities, profile for retries).
 //!
 //! ```text
-//! let report = perform(&mut bus, &transaction, 3)?; // its attempts, at most three
+//! bus.room(MOST_SENT)?; // for the frames of the most attempts
+//! let report = perform(&mut bus, &transaction, 3); // its attempts, at most three
 //! ```
 #![tactic(auto)]
 

@@ -1,58 +1,43 @@
 //! Transactions on a bus.
-ghost use Rattle.std.specs.Prelude.{◌≡◌, ◌+◌, ◌*◌, ◌<◌, ◌≤◌, length, All, IfOk, IfErr, IsOk};
+ghost use Rattle.std.specs.Prelude.{◌≡◌, ◌+◌, ◌*◌, ◌<◌, ◌≤◌, length, All};
 ghost use Rattle.arrayvec.specs.ArrayVec.{array_vec_len};
 ghost use Rattle.gearcmd.specs.FrameLists.{most_frames};
 ghost use Rattle.limits.specs.Limits.{AreTries};
 ghost use Rattle.transact.specs.Attempts.{IsReportParts, most_sent};
-ghost use Rattle.buslink.specs.BusLog.{one_more_failure, with_spare};
+ghost use Rattle.buslink.specs.BusLog.{one_more_failure};
 ghost use Rattle.buslink.specs.Performing.{after_report};
 ghost use Rattle.buslink.specs.PerformingSteps.{IsSent, IsTriedOnce, IsTried};
 
 use crate::{Bus, Fault};
 use arrayvec::ArrayVec;
 use daliframe::Frame;
-use std::alloc::AllocError;
 use transact::{MOST_SENT, Mark, Report, Transaction};
 
 /// Sends the frames of a transaction, and all of them again where one is lost, in at most `tries`
-/// attempts, 1 to 5. A fault of the bus interface ends it at once, with the outcome `Failed`.
-///
-/// # Errors
-///
-/// The bus had no room for the frames of the most attempts that a bus may be given, and got none.
-/// Then nothing was sent.
-pub fn perform<B: Bus>(
-    bus: &mut B,
-    transaction: &Transaction,
-    tries: u8,
-) -> Result<Report, AllocError>
-    requires { AreTries tries }
-    ensures report { IfOk result (λ r. (r.transaction ≡ transaction.now) × IsReportParts r) }
-    ensures tries { IfOk result (λ r. r.tries ≡ tries) }
-    ensures bus { IfOk result
-        (λ r. B.log bus.new ≡ after_report r (B.log bus.new).spare (B.log bus.old)) }
-    ensures spare { IfOk result (λ r. most_sent ≤ (B.log bus.new).spare + length r.attempts) }
+/// attempts, 1 to 5. A fault of the bus interface ends it at once, with the outcome `Failed`. The
+/// bus has room for the frames of the most attempts that a bus may be given, which
+/// `bus.room(MOST_SENT)` makes.
+pub fn perform<B: Bus>(bus: &mut B, transaction: &Transaction, tries: u8) -> Report
+    requires tries { AreTries tries }
+    requires room { most_sent ≤ (B.log bus.old).spare }
+    ensures report { (result.transaction ≡ transaction.now) × IsReportParts result }
+    ensures tries { result.tries ≡ tries }
+    ensures bus { B.log bus.new ≡ after_report result (B.log bus.new).spare (B.log bus.old) }
 
-    // No spare place is lost: the frames that were sent take one each at most, and a refusal takes
-    // none.
-    ensures spare_kept { IfOk result
-        (λ r. (B.log bus.old).spare ≤ (B.log bus.new).spare + length r.attempts) }
-    ensures spare_kept_refused { IfErr result (λ _. (B.log bus.old).spare ≤ (B.log bus.new).spare) }
-    ensures failed { IfOk result (λ r. All
+    // No spare place is lost: the frames that were sent take one each at most.
+    ensures spare_kept { (B.log bus.old).spare
+        ≤ (B.log bus.new).spare + length result.attempts }
+    ensures failed { All
         (λ frame. frame.mark ≡ Mark.Failed
         → (B.log bus.new).failures ≡ one_more_failure (B.log bus.old).failures)
-        r.attempts) }
-    ensures refused { IfErr result
-        (λ _. B.log bus.new ≡ with_spare (B.log bus.new).spare (B.log bus.old)) }
-    ensures enough { most_sent ≤ (B.log bus.old).spare → IsOk result }
+        result.attempts }
 {
-    bus.room(MOST_SENT)?;
     let mut marks = ArrayVec::new();
     try_again(bus, transaction, tries - 1, &mut marks);
-    match Report::of(transaction, tries, marks.as_slice()) {
-        Some(report) => Ok(report),
-        None => unreachable!(),
-    }
+    let Some(report) = Report::of(transaction, tries, marks.as_slice()) else {
+        unreachable!()
+    };
+    report
 }
 
 /// Tries the transaction, and again after each loss while retries are left. The marks go behind

@@ -1,5 +1,5 @@
-//! Transactions on a bus of another kind than the simulated one, in a box and without room, and the
-//! moments of a clock in a box. What is sent is printed nowhere with its priority, so it is
+//! Transactions on a bus of another kind than the simulated one, in a box, and the moments of a
+//! clock in a box. What is sent is printed nowhere with its priority, so it is
 //! compared here.
 ghost use Rattle.std.specs.Prelude.{◌≡◌, ◌+◌, ◌≤◌, [], None};
 ghost use Rattle.arrayvec.specs.ArrayVec.{array_vec_len};
@@ -11,7 +11,7 @@ use gearcmd::{Command, GearSetCommand, Request, TaskKind};
 use simbus::{ScriptedClock, parse};
 use std::alloc::AllocError;
 use std::test::Fail;
-use transact::{Mark, Outcome, Reply, Report, Sent, Transaction};
+use transact::{MOST_SENT, Mark, Outcome, Reply, Report, Sent, Transaction};
 
 /// What becomes of the frames of a bus.
 #[derive(Clone, Copy)]
@@ -209,23 +209,13 @@ fn performed_in_a_box_as_scripted(rt: HostRuntime) -> Result<(), Fail> {
     ];
     for (script, tries, rows, outcome) in cases {
         let mut bus: Box<dyn Bus + Send> = Box::new(rt.alloc(), ScriptedBus::new(script))?;
-        let report = perform(&mut bus, &transaction, tries)?;
+        bus.room(MOST_SENT)?;
+        let report = perform(&mut bus, &transaction, tries);
         assert!(rt; is_report(&report, rows, outcome));
         bus.room(1)?;
         let heard = bus.hear();
         assert!(rt; heard == Ok(None));
     }
-    Ok(())
-}
-
-#[test]
-fn nothing_is_sent_without_room(rt: HostRuntime) -> Result<(), Fail> {
-    let transaction = scene().ok_or("a request")?;
-    let mut bus = ScriptedBus::new(Script::Quiet);
-    let report = perform(&mut bus, &transaction, 3)?;
-    assert!(rt; is_report(&report, &QUIETLY, Outcome::Done(Reply::Quiet)));
-    let is_full = perform(&mut bus, &transaction, 3).is_err();
-    assert!(rt; is_full && bus.sent.len() == 3);
     Ok(())
 }
 

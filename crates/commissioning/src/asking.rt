@@ -10,7 +10,7 @@ use gearcmd::{Command, Request, TaskKind};
 use limits::USUAL_TRIES;
 use std::alloc::AllocError;
 use std::fmt;
-use transact::{Outcome, Report, Transaction};
+use transact::{MOST_SENT, Outcome, Report, Transaction};
 
 /// Why a command was not answered.
 #[derive(Clone, Copy, PartialEq, Eq, Debug)]
@@ -76,7 +76,8 @@ pub fn ask<B: Bus>(bus: &mut B, command: Command) -> Result<Report, AskFault>
         command,
     };
     let transaction = Transaction::of(&request, TaskKind::Event);
-    let report = perform(bus, &transaction, USUAL_TRIES)?;
+    bus.room(MOST_SENT)?;
+    let report = perform(bus, &transaction, USUAL_TRIES);
     if report.outcome() == Outcome::Failed {
         return Err(AskFault::Failed);
     }

@@ -85,9 +85,7 @@ pub fn send_next<B: Bus, O: Observer<B>>(
     };
     let told = observer.handed(handed.number, bus, handed.origin, &handed.transaction);
     let tries = plant.tries(bus);
-    let Ok(report) = perform(line, &handed.transaction, tries) else {
-        unreachable!()
-    };
+    let report = perform(line, &handed.transaction, tries);
     let noted = report.clone().unwrap();
     note_report(plant, bus, handed.number, noted);
     tell_report(

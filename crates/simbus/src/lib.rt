@@ -9,7 +9,8 @@
 //!
 //! ```text
 //! let mut bus = SimBus::new(alloc, BusSetup::of(alloc, &scenario, number)?)?;
-//! let report = perform(&mut bus, &transaction, 3)?;
+//! bus.room(MOST_SENT)?;
+//! let report = perform(&mut bus, &transaction, 3);
 //! ```
 #![tactic(auto)]
 

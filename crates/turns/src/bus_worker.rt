@@ -127,9 +127,7 @@ fn send_once<'a, B: Bus, J: LockStart + Links, T: Tally, K: Tallies<T>, O: Obser
     let handed = shared.hand(rt, &mut served.share, bus)?;
     let told = tell_handed::<B, O>(observer, bus, &handed);
     let tries = shared.tries(rt, &mut served.share, bus);
-    let Ok(report) = perform(&mut served.line, &handed.transaction, tries) else {
-        unreachable!()
-    };
+    let report = perform(&mut served.line, &handed.transaction, tries);
     let outcome = report.outcome();
     let noted = report.clone().unwrap();
     let Ok(()) = shared.done(rt, &mut served.share, bus, handed.number, noted) else {

@@ -1,5 +1,5 @@
 use Rattle.std.proofs.Common.{◌-◌, []}
-use Rattle.transact.specs.Attempts.{most_sent, Spells}
+use Rattle.transact.specs.Attempts.{Spells}
 use Rattle.buslink.specs.PerformingSteps.{IsTried}
 use Rattle.buslink.proofs.Trying.{SpellOne, performed, spare_kept}
 use Rattle.buslink.proofs.Failures.{failed_where_risen}
@@ -10,39 +10,24 @@ returns-clause-bus g c =
     let spells : Spells c.args.transaction.now c.args.tries c.try_again.new.marks.items c.in-Some.report =
     rw c.as_slice.ensures.value at c.in-Some.ensures.report in
     let tried : IsTried c.args.transaction.now (c.args.tries - 1) [] c.try_again.new.marks.items
-    (g.B.Bus.log c.room.new.self) (g.B.Bus.log c.try_again.new.bus) =
+    (g.B.Bus.log c.args.bus.now) (g.B.Bus.log c.try_again.new.bus) =
     rw c.new-marks.ensures at c.try_again.ensures in
     let one : SpellOne c.args.transaction.now c.args.tries c.try_again.new.marks.items =
     rw c.as_slice.ensures.value at c.in-Some.ensures.one in
     performed c.args.transaction.now c.args.tries c.try_again.new.marks.items c.in-Some.report
-    (g.B.Bus.log c.args.bus.now) (g.B.Bus.log c.room.new.self) (g.B.Bus.log c.try_again.new.bus)
-    (g.B.Bus.log c.room.new.self).spare one c.room.ensures.same tried spells
-
-pub returns-clause-spare : goal.returns-clause-spare
-returns-clause-spare g c =
-    let spells : Spells c.args.transaction.now c.args.tries c.try_again.new.marks.items c.in-Some.report =
-    rw c.as_slice.ensures.value at c.in-Some.ensures.report in
-    let tried : IsTried c.args.transaction.now (c.args.tries - 1) [] c.try_again.new.marks.items
-    (g.B.Bus.log c.room.new.self) (g.B.Bus.log c.try_again.new.bus) =
-    rw c.new-marks.ensures at c.try_again.ensures in
-    let one : SpellOne c.args.transaction.now c.args.tries c.try_again.new.marks.items =
-    rw c.as_slice.ensures.value at c.in-Some.ensures.one in
-    spare_kept most_sent c.args.transaction.now c.args.tries c.try_again.new.marks.items c.in-Some.report
-    (g.B.Bus.log c.room.new.self) (g.B.Bus.log c.try_again.new.bus)
-    one c.in_ok-room.ensures.made tried spells
+    (g.B.Bus.log c.args.bus.now) (g.B.Bus.log c.try_again.new.bus) one tried spells
 
 pub returns-clause-spare_kept : goal.returns-clause-spare_kept
 returns-clause-spare_kept g c =
     let spells : Spells c.args.transaction.now c.args.tries c.try_again.new.marks.items c.in-Some.report =
     rw c.as_slice.ensures.value at c.in-Some.ensures.report in
     let tried : IsTried c.args.transaction.now (c.args.tries - 1) [] c.try_again.new.marks.items
-    (g.B.Bus.log c.room.new.self) (g.B.Bus.log c.try_again.new.bus) =
+    (g.B.Bus.log c.args.bus.now) (g.B.Bus.log c.try_again.new.bus) =
     rw c.new-marks.ensures at c.try_again.ensures in
     let one : SpellOne c.args.transaction.now c.args.tries c.try_again.new.marks.items =
     rw c.as_slice.ensures.value at c.in-Some.ensures.one in
-    spare_kept (g.B.Bus.log c.args.bus.now).spare c.args.transaction.now c.args.tries c.try_again.new.marks.items
-    c.in-Some.report (g.B.Bus.log c.room.new.self) (g.B.Bus.log c.try_again.new.bus)
-    one c.room.ensures.keeps tried spells
+    spare_kept c.args.transaction.now c.args.tries c.try_again.new.marks.items c.in-Some.report
+    (g.B.Bus.log c.args.bus.now) (g.B.Bus.log c.try_again.new.bus) one tried spells
 
 pub returns-clause-failed : goal.returns-clause-failed
 returns-clause-failed g c =
