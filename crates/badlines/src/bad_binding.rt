@@ -5,7 +5,7 @@ use crate::bad_lines::{
     without_return, words_of,
 };
 use crate::forms::{BINDING, in_small_letters, place_in};
-use curing::{Answer, Example, shown};
+use curing::{Example, FaultAnswer, shown_text};
 use std::alloc::{AllocError, Global};
 use wordlines::{BindFault, Binding, LineCause, LineFault, Words, is_skipped, number_of};
 
@@ -50,11 +50,11 @@ fn with_meant(
     if is_cure(alloc, bytes, number, &meant)? {
         return Ok(BadLine {
             col: reason.col,
-            answer: Answer {
+            answer: FaultAnswer {
                 what: reason.what,
                 facts: String::new(alloc),
                 cure: reason.cure,
-                example: Example::Tried(shown(alloc, &meant)?),
+                example: Example::Tried(shown_text(alloc, &meant)?),
             },
         });
     }

@@ -1,7 +1,7 @@
 //! Why a line of a binding or of a scenario is bad, where its words alone say it.
 
 use crate::forms::{Form, check_words};
-use curing::{Answer, Example, is_near, line_of, shown};
+use curing::{Example, FaultAnswer, is_near, line_of, shown_text};
 use std::alloc::{AllocError, Global};
 use wordlines::{Words, is_skipped};
 
@@ -9,7 +9,7 @@ use wordlines::{Words, is_skipped};
 #[derive(Drop)]
 pub struct BadLine {
     pub col: usize,
-    pub answer: Answer,
+    pub answer: FaultAnswer,
 }
 
 /// Why a line is bad.
@@ -43,7 +43,7 @@ impl Reason {
     pub(crate) fn answer(self, alloc: Global, line: &str) -> Result<BadLine, AllocError> {
         Ok(BadLine {
             col: self.col,
-            answer: Answer {
+            answer: FaultAnswer {
                 what: self.what,
                 facts: String::new(alloc),
                 cure: self.cure,
@@ -190,7 +190,7 @@ fn unknown(
     first: Placed<'_>,
     forms: &[Form],
 ) -> Result<Reason, AllocError> {
-    let found = shown(alloc, first.word)?;
+    let found = shown_text(alloc, first.word)?;
     let is_meant = |form: &&Form| {
         first.word.eq_ignore_ascii_case(form.word.as_bytes())
             || is_near(first.word, form.word.as_bytes())

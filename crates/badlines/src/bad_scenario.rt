@@ -5,7 +5,7 @@ use crate::bad_lines::{
     without_return, words_of,
 };
 use crate::forms::{SCENARIO, in_small_letters};
-use curing::{Answer, Example, shown};
+use curing::{Example, FaultAnswer, shown_text};
 use std::alloc::{AllocError, Global};
 use wordlines::{LineCause, LineFault, ScenarioFault, Words, is_skipped, parse};
 
@@ -44,11 +44,11 @@ fn with_meant(
     if is_cure(alloc, bytes, number, &meant)? {
         return Ok(BadLine {
             col: reason.col,
-            answer: Answer {
+            answer: FaultAnswer {
                 what: reason.what,
                 facts: String::new(alloc),
                 cure: reason.cure,
-                example: Example::Tried(shown(alloc, &meant)?),
+                example: Example::Tried(shown_text(alloc, &meant)?),
             },
         });
     }
@@ -115,7 +115,7 @@ fn bad_order(
         return falls(alloc, bytes, number, numbers.first);
     }
     if let Some(first) = first_happening(bytes, number) {
-        let word = shown(alloc, word)?;
+        let word = shown_text(alloc, word)?;
         let what = format!(in alloc; "{word} behind the first tick or event, in line {first}")?;
         let cure = "say what is on the buses, and what becomes of frames, before that";
         return Reason::new(alloc, 1, what, cure);

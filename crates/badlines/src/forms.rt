@@ -1,7 +1,7 @@
 //! The forms of lines of bindings and scenarios, word by word.
 
 use crate::bad_lines::{Placed, Reason, replaced};
-use curing::shown;
+use curing::shown_text;
 use std::alloc::{AllocError, Global};
 use wordlines::{hex_of, number_of, parts_around_dot};
 
@@ -283,7 +283,7 @@ fn unmet(
     found: Placed<'_>,
     scheme: &[u8],
 ) -> Result<Reason, AllocError> {
-    let word = shown(alloc, found.word)?;
+    let word = shown_text(alloc, found.word)?;
     let name = field.name(scheme);
     let what = match field.range(scheme) {
         Some((least, most)) if most == u64::MAX && is_number(found.word) => {
@@ -310,7 +310,7 @@ fn is_number(word: &[u8]) -> bool {
 
 /// A word too many.
 fn too_many(alloc: Global, more: Placed<'_>) -> Result<Reason, AllocError> {
-    let word = shown(alloc, more.word)?;
+    let word = shown_text(alloc, more.word)?;
     let cure = if more.word.starts_with(b"#") {
         "give a comment a line of its own"
     } else {

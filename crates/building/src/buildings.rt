@@ -13,7 +13,7 @@ ghost use Rattle.plantlive.specs.Lives.{HasLived};
 use crate::lineup::{check_lines, line_for};
 use crate::site::{Site, SiteFault};
 use crate::stops::LiveStop;
-use crate::watch::{End, Watch, Watched};
+use crate::watch::{DownWatch, End, WatchedGate};
 use buslink::{Bus, Clock};
 use daliframe::BusNumber;
 use ilcompile::Setup;
@@ -41,7 +41,7 @@ pub struct Building<B: Bus, C: Clock> {
     /// The milliseconds from one tick to the next.
     pub period: NonZeroU64,
     /// Ends the clock where a bus goes down, unless the building stays.
-    pub watch: Arc<Watch>,
+    pub watch: Arc<DownWatch>,
 }
 
 /// Opens the line of each bus of a setup and greets its interface, in the order of the buses, and
@@ -70,7 +70,7 @@ pub fn open<'a, S: Site>(
     }
     let opened = open_lines(alloc, site, lines, buses)?;
     let period = period_in(options, &setup);
-    let Ok(watch) = Arc::new(alloc, Watch::new(options.stay)) else {
+    let Ok(watch) = Arc::new(alloc, DownWatch::new(options.stay)) else {
         return Err(LiveStop::Start(StartFault::Memory));
     };
     let clock = clock_of(alloc, site, period, options, &watch)?;
@@ -99,7 +99,7 @@ fn clock_of<S: Site>(
     site: &S,
     period: NonZeroU64,
     options: &LiveOptions,
-    watch: &Arc<Watch>,
+    watch: &Arc<DownWatch>,
 ) -> Result<S::Clock, LiveStop<'static>>
     ensures new { IfOk result (λ clock. IsNewClock (S.Clock.log clock)) }
     ensures stop { IfErr result (λ stop. (stop ≡ NoClock) ⊎ (stop ≡ Start Memory)) }
@@ -199,7 +199,7 @@ impl<B: Bus + Send, C: Clock + Send> Building<B, C> {
             limit: u64::from(size.limit),
         };
         let workers = size.workers as usize;
-        let watched = Watched {
+        let watched = WatchedGate {
             watch: &*watch,
             gate,
         };

@@ -4,7 +4,7 @@
 //! opens the lines and makes the clock. [`open`] judges the words, opens and greets each line in the
 //! order of the buses, and hands out a [`Building`]; nothing was sent then. A [`Departure`] shows
 //! what is about to run. [`Building::go`] runs it and hands out what is left. [`HostSite`] is the
-//! machine's devices and its clock, and a [`Watch`] ends that clock where a
+//! machine's devices and its clock, and a [`DownWatch`] ends that clock where a
 //! bus goes down. The
 //! definitions to read first are `AreLinesOf` (specs/Lineups.antt), which words name the line of each
 //! bus, and `HasBeenRun` (specs/Buildings.antt), what a building comes to.
@@ -30,4 +30,4 @@ pub use host::HostSite;
 pub use lineup::LineupFault;
 pub use site::{Site, SiteFault};
 pub use stops::LiveStop;
-pub use watch::{End, StopAt, Watch, Watched};
+pub use watch::{DownWatch, End, StopAt, WatchedGate};

@@ -1,6 +1,6 @@
 //! What ends a building.
 
-use liveclock::Stop;
+use liveclock::StopCondition;
 use std::fs;
 use std::rt::Files;
 use std::sync::Arc;
@@ -9,16 +9,16 @@ use turns::{Gate, Happened};
 
 /// Whether a bus went down at which the building is to end.
 #[derive(Drop)]
-pub struct Watch {
+pub struct DownWatch {
     /// Whether the building stays where a bus goes down.
     stays: bool,
     is_over: AtomicBool,
 }
 
-impl Watch {
+impl DownWatch {
     /// No bus went down yet.
-    pub fn new(stays: bool) -> Watch {
-        Watch {
+    pub fn new(stays: bool) -> DownWatch {
+        DownWatch {
             stays,
             is_over: AtomicBool::new(false),
         }
@@ -39,12 +39,12 @@ impl Watch {
 
 /// Whoever tells a watch of each bus that went down, and another gate of each event.
 #[derive(Drop)]
-pub struct Watched<'w, G: Gate> {
-    pub watch: &'w Watch,
+pub struct WatchedGate<'w, G: Gate> {
+    pub watch: &'w DownWatch,
     pub gate: &'w G,
 }
 
-impl<G: Gate> Gate for Watched<'_, G> {
+impl<G: Gate> Gate for WatchedGate<'_, G> {
     fn before_scan(&self, worker: usize, task: usize) {
         self.gate.before_scan(worker, task);
     }
@@ -69,7 +69,7 @@ pub struct End<'a> {
     /// As soon as there is a file at this path.
     pub stop: Option<&'a str>,
     /// As soon as a bus went down, unless the building stays.
-    pub watch: Arc<Watch>,
+    pub watch: Arc<DownWatch>,
 }
 
 /// The end is wanted where there is a file at this path, if there is a path, and where a bus went
@@ -78,10 +78,10 @@ pub struct End<'a> {
 pub struct StopAt<'r, R> {
     pub rt: &'r R,
     pub path: Option<String>,
-    pub watch: Arc<Watch>,
+    pub watch: Arc<DownWatch>,
 }
 
-impl<R: Files> Stop for StopAt<'_, R> {
+impl<R: Files> StopCondition for StopAt<'_, R> {
     fn is_wanted(&self) -> bool {
         match &self.path {
             Some(path) if fs::exists(self.rt, path.as_str()).unwrap_or(false) => true,

@@ -56,7 +56,7 @@ impl ClassQueue {
     }
 
     /// How many were dropped.
-    pub(crate) fn dropped(&self) -> u64
+    pub(crate) fn drop_count(&self) -> u64
         ensures value { result ≡ self.now.dropped }
     {
         self.dropped

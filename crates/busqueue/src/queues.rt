@@ -137,14 +137,14 @@ impl Queues {
     }
 
     /// How many requests of a class were dropped.
-    pub fn dropped(&self, class: Class) -> u64
+    pub fn drop_count(&self, class: Class) -> u64
         ensures value { result ≡ (queue_of self.now class).dropped }
     {
         match class {
-            Class::UserAction => self.user_action.dropped(),
-            Class::Configuration => self.configuration.dropped(),
-            Class::AutomaticAction => self.automatic_action.dropped(),
-            Class::Query => self.query.dropped(),
+            Class::UserAction => self.user_action.drop_count(),
+            Class::Configuration => self.configuration.drop_count(),
+            Class::AutomaticAction => self.automatic_action.drop_count(),
+            Class::Query => self.query.drop_count(),
         }
     }
 }

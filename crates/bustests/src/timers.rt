@@ -2,7 +2,7 @@
 //! sleeps, and when it ends.
 
 use buslink::Clock;
-use liveclock::{LiveClock, NoStop, Stop, StopFile};
+use liveclock::{LiveClock, NoStop, StopCondition, StopFile};
 use std::cell::Cell;
 use std::io;
 use std::num::NonZeroU64;
@@ -43,7 +43,7 @@ impl Timer for FakeTimer {
 #[derive(Clone, Copy)]
 struct StopFlag<'a>(&'a Cell<bool>);
 
-impl Stop for StopFlag<'_> {
+impl StopCondition for StopFlag<'_> {
     fn is_wanted(&self) -> bool {
         self.0.get()
     }

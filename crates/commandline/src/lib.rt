@@ -22,8 +22,8 @@ mod tables;
 mod words;
 
 pub use invocations::{
-    Beside, ExpectedWord, ExpectedWords, Files, FrameWords, Inquiry, Invocation, LineWord,
-    LineWords, ListenEnd, LiveFiles, LiveOptions, LookOptions, PlayFiles, PlayShows, Question,
-    RequestWords, RunSize, Tool, WatchedNames,
+    Beside, ExpectedWord, ExpectedWords, Files, GivenFrames, GivenListenEnd, GivenRequest, Inquiry,
+    Invocation, LineWord, LineWords, LiveFiles, LiveOptions, LookOptions, PlayFiles, PlayShows,
+    Question, RunSize, Tool, WatchedNames,
 };
 pub use options::read;

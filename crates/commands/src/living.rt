@@ -15,7 +15,7 @@ use buslink::{Bus, Clock};
 use commandline::{LineWord, LiveFiles, LiveOptions};
 use driving::has_down;
 use exits::ExitStatus;
-use observing::{NotOpened, Observer, Storage};
+use observing::{BuildingObserver, NotOpened, Storage};
 use plantlive::Lived;
 use plantload::{kept_scans_are_as_meant, scans_are_as_meant};
 use plantrun::write_run;
@@ -306,7 +306,7 @@ fn observer_of<'o, 'a, S: Storage, R: Wait>(
     storage: &'o S,
     pages: &'o LivePages,
     options: &LiveOptions<'a>,
-) -> Result<Observer<'o, 'a, S, R>, Halted<'a>>
+) -> Result<BuildingObserver<'o, 'a, S, R>, Halted<'a>>
     ensures { IfErr result (IsUnobserved pages.now.binding pages.now.text pages.now.file) }
 {
     let begun = begun_of(alloc, pages)?;
@@ -315,7 +315,7 @@ fn observer_of<'o, 'a, S: Storage, R: Wait>(
     }
     let workers = options.size.workers as usize;
     let text = &pages.text;
-    match Observer::open(
+    match BuildingObserver::open(
         rt,
         alloc,
         storage,

@@ -51,7 +51,7 @@ pub fn status_of_run(end: &RunEnd) -> ExitStatus
     ensures { result ≡ status_of_run_end end.now }
 {
     match end {
-        Ok(left) => ExitStatus::of_run(left.ended(), has_down(left.plant())),
+        Ok(left) => ExitStatus::of_run(left.ending(), has_down(left.plant())),
         Err(stop) => stop.status(),
     }
 }
@@ -75,7 +75,7 @@ fn print<W: Write + Drop, R: Threads + Wait + Timer + Sync>(
 /// Writes what the run came to, or what stands against it.
 fn report<W: Write>(out: &mut W, end: &RunEnd) -> io::Result<()> {
     match end {
-        Ok(left) => write_run(out, left.ended(), left.plant()),
+        Ok(left) => write_run(out, left.ending(), left.plant()),
         Err(stop) => writeln!(out, "{stop}"),
     }
 }

@@ -6,12 +6,12 @@ use crate::serving::Unserved;
 use crate::shell::{HostNotice, not_printed, not_served};
 use crate::tools::{ToolEnd, ask_once, blink, listen, probe, status_of_tool};
 use building::Site;
-use commandline::{LineWord, ListenEnd as EndWords, LiveFiles, RequestWords};
+use commandline::{GivenListenEnd, GivenRequest, LineWord, LiveFiles};
 use commissioning::ListenEnd;
 use daliframe::ShortAddress;
 use exits::ExitStatus;
 use framewords::request_of;
-use liveclock::Stop;
+use liveclock::StopCondition;
 use observing::Storage;
 use std::io::Write;
 use std::rt::Files;
@@ -71,7 +71,7 @@ struct StopPath<'a, R> {
     path: Option<&'a str>,
 }
 
-impl<R: Files> Stop for StopPath<'_, R> {
+impl<R: Files> StopCondition for StopPath<'_, R> {
     fn is_wanted(&self) -> bool {
         match self.path {
             Some(path) => fs::exists(self.rt, path).unwrap_or(false),
@@ -114,7 +114,7 @@ pub(crate) fn run_listen<'f, R, T, S>(
     line: LineWord,
     binding: Option<&str>,
     record: Option<&'f str>,
-    words: EndWords,
+    words: GivenListenEnd,
 ) -> ExitStatus
 where
     R: Files + Print + Eprint + AllocGlobal,
@@ -183,12 +183,12 @@ where
 }
 
 /// `ask`
-pub(crate) fn run_ask<R, S>(rt: &R, site: &S, line: LineWord, words: RequestWords) -> ExitStatus
+pub(crate) fn run_ask<R, S>(rt: &R, site: &S, line: LineWord, words: GivenRequest) -> ExitStatus
 where
     R: Files + Print + Eprint + AllocGlobal,
     S: Site,
 {
-    let RequestWords {
+    let GivenRequest {
         request,
         address,
         value,

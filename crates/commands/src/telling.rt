@@ -5,7 +5,7 @@ use crate::serving::{Unserved, binding_at, bytes_at};
 use answers::{AskedName, Stop, binding_of, check};
 use commandline::{Files, Question};
 use exits::{ExitStatus, PlayStop};
-use explaining::{Asked, explain_binding, explain_load, explain_scenario};
+use explaining::{AskedText, explain_binding, explain_load, explain_scenario};
 use ilcompile::Setup;
 use iltext::parse;
 use listing::{Played, write_load, write_notes, write_played_notes, write_task};
@@ -185,8 +185,8 @@ fn asked<'a>(
     sheets: &'a Sheets,
     binding: &'a Binding,
     is_bound: bool,
-) -> Asked<'a> {
-    Asked {
+) -> AskedText<'a> {
+    AskedText {
         path: files.text,
         text: &sheets.text,
         binding,
@@ -198,7 +198,7 @@ fn asked<'a>(
 fn explain_text<W: Write>(
     alloc: Global,
     out: &mut W,
-    asked: &Asked,
+    asked: &AskedText,
     scenario: Option<&str>,
     sheets: &Sheets,
 ) -> io::Result<ExitStatus> {

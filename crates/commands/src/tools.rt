@@ -9,13 +9,13 @@ use answers::binding_of;
 use building::{LineupFault, LiveStop, Site, SiteFault};
 use commandline::{LineWord, LiveFiles};
 use commissioning::{
-    Declared, ListenEnd, Served, serve_ask, serve_blink, serve_listen, serve_probe,
+    DeclaredBus, ListenEnd, Served, serve_ask, serve_blink, serve_listen, serve_probe,
 };
 use daliframe::{BusNumber, ShortAddress};
 use exits::ExitStatus;
 use gearcmd::Command;
 use ilcompile::Setup;
-use liveclock::Stop;
+use liveclock::StopCondition;
 use plantplay::StartFault;
 use std::alloc::Global;
 use std::io::Write;
@@ -89,7 +89,7 @@ pub fn probe<'a, D: Disk, S: Site, W: Write, P: Write>(
         Err(stop) => return Ok(Err(Halted::Building(stop))),
     };
     let against = match &setup {
-        Some(setup) => Some(Declared {
+        Some(setup) => Some(DeclaredBus {
             plan: setup.plan(),
             bus: line.bus,
         }),
@@ -121,7 +121,7 @@ fn setup_at<'a, D: Disk>(
 /// # Errors
 ///
 /// The binding isn't read, or the writer's error.
-pub fn listen<'a, D: Disk, S: Site, W: Write, P: Write, R: Timer, E: Stop>(
+pub fn listen<'a, D: Disk, S: Site, W: Write, P: Write, R: Timer, E: StopCondition>(
     alloc: Global,
     disk: &D,
     site: &S,

@@ -3,7 +3,7 @@
 use crate::reading::Disk;
 use crate::serving::{Unserved, bytes_at};
 use answers::{Stop, binding_of};
-use commandline::FrameWords;
+use commandline::GivenFrames;
 use daliframe::{Frame, Frame16, Frame24};
 use exits::ExitStatus;
 use framewords::frame_of_event;
@@ -23,7 +23,7 @@ pub(crate) fn serve_frames<'a, W: Write + Drop, E: Write>(
     alloc: Global,
     to: W,
     complaints: &mut E,
-    given: FrameWords<'a>,
+    given: GivenFrames<'a>,
 ) -> Result<(W, ExitStatus), Unserved<'a>> {
     Ok(print_frames(alloc, to, complaints, given)?)
 }
@@ -33,7 +33,7 @@ fn print_frames<W: Write + Drop, E: Write>(
     alloc: Global,
     to: W,
     complaints: &mut E,
-    given: FrameWords,
+    given: GivenFrames,
 ) -> io::Result<(W, ExitStatus)> {
     let words = words_of(alloc, given)?;
     if !words.iter().all(|word| frame_of(word).is_some()) {
@@ -46,7 +46,7 @@ fn print_frames<W: Write + Drop, E: Write>(
 }
 
 /// The words that are given for frames.
-fn words_of<'a>(alloc: Global, given: FrameWords<'a>) -> Result<Vec<&'a str>, AllocError> {
+fn words_of<'a>(alloc: Global, given: GivenFrames<'a>) -> Result<Vec<&'a str>, AllocError> {
     let mut words = Vec::new(alloc);
     words.push(given.first)?;
     for other in given.others {

@@ -12,7 +12,7 @@ use std::io::Write;
 
 /// A bus of the plan of a text.
 #[derive(Clone, Copy)]
-pub struct Declared<'a> {
+pub struct DeclaredBus<'a> {
     pub plan: &'a Plan,
     /// The number of the bus.
     pub bus: u8,
@@ -27,7 +27,7 @@ pub struct Declared<'a> {
 pub fn write_differences<W: Write>(
     to: &mut W,
     survey: &Survey,
-    declared: Declared,
+    declared: DeclaredBus,
 ) -> io::Result<()> {
     for number in 0..64 {
         if let Some(address) = ShortAddress::new(number) {
@@ -46,7 +46,7 @@ pub fn write_differences<W: Write>(
 fn compare_gear<W: Write>(
     to: &mut W,
     survey: &Survey,
-    declared: Declared,
+    declared: DeclaredBus,
     address: ShortAddress,
 ) -> io::Result<()> {
     let number = address.number();
@@ -65,7 +65,7 @@ fn compare_gear<W: Write>(
 fn compare_level<W: Write>(
     to: &mut W,
     survey: &Survey,
-    declared: Declared,
+    declared: DeclaredBus,
     address: ShortAddress,
 ) -> io::Result<()> {
     let number = address.number();
@@ -85,7 +85,7 @@ fn compare_level<W: Write>(
 fn compare_device<W: Write>(
     to: &mut W,
     survey: &Survey,
-    declared: Declared,
+    declared: DeclaredBus,
     address: ShortAddress,
 ) -> io::Result<()> {
     let number = address.number();
@@ -102,7 +102,7 @@ fn compare_device<W: Write>(
 fn compare_instances<W: Write>(
     to: &mut W,
     survey: &Survey,
-    declared: Declared,
+    declared: DeclaredBus,
     address: ShortAddress,
 ) -> io::Result<()> {
     let device = address.number();
@@ -130,7 +130,7 @@ fn has_instance(survey: &Survey, address: ShortAddress, instance: u8) -> bool {
     }
 }
 
-impl Declared<'_> {
+impl DeclaredBus<'_> {
     /// Whether a variable is located at the level or the answer of this gear.
     fn has_gear(self, address: u8) -> bool {
         for number in 0..self.plan.globals() {

@@ -25,7 +25,7 @@ mod tables;
 
 pub use asking::{AskFault, Asked, ask};
 pub use blinking::{Blinked, blink};
-pub use comparing::{Declared, write_differences};
+pub use comparing::{DeclaredBus, write_differences};
 pub use listening::{ListenEnd, Silenced, listen};
 pub use serving::{Served, serve_ask, serve_blink, serve_listen, serve_probe};
 pub use surveys::{Survey, probe};

@@ -9,7 +9,7 @@ use buslink::{Bus, Fault};
 use dalievent::{EventSource, Heard, decode};
 use daliframe::Frame24;
 use framewords::{HeardWords, SchemeWords};
-use liveclock::Stop;
+use liveclock::StopCondition;
 use std::io::Write;
 use std::time::{Clock as Timer, Duration, Instant};
 use std::{io, thread};
@@ -20,7 +20,7 @@ const PAUSE: u64 = 20;
 
 /// When listening ends.
 #[derive(Drop)]
-pub struct ListenEnd<S: Stop> {
+pub struct ListenEnd<S: StopCondition> {
     /// After so many milliseconds.
     pub millis: Option<u64>,
     /// As soon as this is wanted.
@@ -45,7 +45,7 @@ pub enum Silenced {
 /// # Errors
 ///
 /// One of the writers failed.
-pub fn listen<B: Bus, W: Write, P: Write, R: Timer, S: Stop>(
+pub fn listen<B: Bus, W: Write, P: Write, R: Timer, S: StopCondition>(
     bus: &mut B,
     number: u8,
     binding: Option<&Binding>,
@@ -117,7 +117,7 @@ fn millis_since<R: Timer>(timer: &R, start: Instant) -> Option<u64> {
 }
 
 /// Whether the end has come.
-fn is_over<S: Stop>(end: &ListenEnd<S>, moment: u64) -> bool {
+fn is_over<S: StopCondition>(end: &ListenEnd<S>, moment: u64) -> bool {
     end.stop.is_wanted() || end.millis.is_some_and(|millis| moment >= millis)
 }
 

@@ -5,7 +5,7 @@ ghost use Rattle.commissioning.specs.Listening.{SendsNothing};
 
 use crate::asking::{AskFault, ask};
 use crate::blinking::{Blinked, blink};
-use crate::comparing::{Declared, write_differences};
+use crate::comparing::{DeclaredBus, write_differences};
 use crate::listening::{ListenEnd, Silenced, listen};
 use crate::surveys::{Survey, probe};
 use bitflags::Flags;
@@ -13,7 +13,7 @@ use buslink::Bus;
 use daliframe::{BusNumber, Frame, ShortAddress};
 use framewords::{FrameWords, OutcomeWords, RequestWords, StatusWords};
 use gearcmd::{Command, Request, Status};
-use liveclock::Stop;
+use liveclock::StopCondition;
 use std::alloc::Global;
 use std::io;
 use std::io::Write;
@@ -53,7 +53,7 @@ pub fn serve_probe<B: Bus, W: Write, P: Write>(
     bus: &mut B,
     to: &mut W,
     progress: &mut P,
-    declared: Option<Declared>,
+    declared: Option<DeclaredBus>,
 ) -> io::Result<Served>
     ensures { AreSomeAsked (B.log bus.old) (B.log bus.new) }
 {
@@ -65,7 +65,7 @@ pub fn serve_probe<B: Bus, W: Write, P: Write>(
 fn write_survey<W: Write>(
     to: &mut W,
     surveyed: &Result<Survey, AskFault>,
-    declared: Option<Declared>,
+    declared: Option<DeclaredBus>,
 ) -> io::Result<Served> {
     match surveyed {
         Ok(survey) => {
@@ -90,7 +90,7 @@ fn write_fault<W: Write>(to: &mut W, fault: AskFault) -> io::Result<Served> {
 /// # Errors
 ///
 /// One of the writers failed.
-pub fn serve_listen<B: Bus, W: Write, P: Write, R: Timer, S: Stop>(
+pub fn serve_listen<B: Bus, W: Write, P: Write, R: Timer, S: StopCondition>(
     bus: &mut B,
     number: u8,
     binding: Option<&Binding>,

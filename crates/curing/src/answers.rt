@@ -8,7 +8,7 @@ use std::io::Write;
 
 /// What is said of a fault.
 #[derive(Drop)]
-pub struct Answer {
+pub struct FaultAnswer {
     /// What is wrong.
     pub what: String,
     /// What is known of it, in lines; none where it is empty.
@@ -27,10 +27,10 @@ pub enum Example {
     Other(String),
 }
 
-impl Answer {
+impl FaultAnswer {
     /// What advice says, of which the line is one of another text.
-    pub fn of(alloc: Global, advice: Advice) -> Result<Answer, AllocError> {
-        Ok(Answer {
+    pub fn of(alloc: Global, advice: Advice) -> Result<FaultAnswer, AllocError> {
+        Ok(FaultAnswer {
             what: String::from_str(alloc, advice.what)?,
             facts: String::new(alloc),
             cure: String::from_str(alloc, advice.cure)?,
@@ -39,8 +39,13 @@ impl Answer {
     }
 
     /// The same, with lines that were tried.
-    pub fn with_tried(self, alloc: Global, text: &[u8], edit: &Edit) -> Result<Answer, AllocError> {
-        Ok(Answer {
+    pub fn with_tried(
+        self,
+        alloc: Global,
+        text: &[u8],
+        edit: &Edit,
+    ) -> Result<FaultAnswer, AllocError> {
+        Ok(FaultAnswer {
             what: self.what,
             facts: self.facts,
             cure: self.cure,
@@ -49,8 +54,8 @@ impl Answer {
     }
 
     /// The same, with more that is known.
-    pub fn with_facts(self, facts: String) -> Answer {
-        Answer {
+    pub fn with_facts(self, facts: String) -> FaultAnswer {
+        FaultAnswer {
             what: self.what,
             facts,
             cure: self.cure,
@@ -60,7 +65,7 @@ impl Answer {
 }
 
 /// Writes what is known, what helps, and the lines.
-pub fn write_answer<W: Write>(out: &mut W, answer: &Answer) -> io::Result<()> {
+pub fn write_answer<W: Write>(out: &mut W, answer: &FaultAnswer) -> io::Result<()> {
     write!(out, "{}", answer.facts.as_str())?;
     write_cure(out, answer.cure.as_str())?;
     match &answer.example {

@@ -4,7 +4,7 @@ use wordlines::Binding;
 
 /// A text that is asked about, with the binding that it is loaded with.
 #[derive(Clone, Copy)]
-pub struct Asked<'a> {
+pub struct AskedText<'a> {
     /// The path of the text, as it was given.
     pub path: &'a str,
     pub text: &'a [u8],

@@ -1,7 +1,7 @@
 //! Changes of a text that may cure it, and trying them.
 
-use crate::asked::Asked;
-use crate::marking::shown;
+use crate::asked::AskedText;
+use crate::marking::shown_text;
 use crate::spots::{Spot, part, place_of};
 use ilscope::NameFault;
 use iltext::{TextFault, parse};
@@ -45,7 +45,7 @@ impl Edit {
         let first = Spot::of(text, self.from);
         let last = Spot::of(text, self.to);
         let bytes = self.apply(alloc, text, first.line_from, last.line_to)?;
-        shown(alloc, &bytes)
+        shown_text(alloc, &bytes)
     }
 
     /// Whether the text reads with the change up to the end of its last line, and of that of a place,
@@ -73,22 +73,22 @@ impl Edit {
     }
 
     /// What stands against the whole text with the change.
-    pub fn outcome(&self, alloc: Global, asked: &Asked) -> Result<Outcome, AllocError> {
+    pub fn outcome(&self, alloc: Global, asked: &AskedText) -> Result<EditOutcome, AllocError> {
         let bytes = self.apply(alloc, asked.text, 0, asked.text.len())?;
         let first = Spot::of(&bytes, self.from);
         let last = Spot::of(&bytes, self.from.saturating_add(self.with.len()));
         match load(alloc, &bytes, asked.binding) {
-            Ok(_) => Ok(Outcome::Accepted),
+            Ok(_) => Ok(EditOutcome::Accepted),
             Err(LoadFault::Memory) => Err(AllocError),
-            Err(LoadFault::Text(_)) => Ok(Outcome::Text),
+            Err(LoadFault::Text(_)) => Ok(EditOutcome::Text),
             Err(LoadFault::Name(fault)) => {
                 let at = place_in(&bytes, &fault);
-                Ok(Outcome::Name {
+                Ok(EditOutcome::Name {
                     is_there: at >= first.line_from && at <= last.line_to,
                     is_later: at > last.line_to,
                 })
             }
-            Err(LoadFault::Code(refused)) => Ok(Outcome::Code {
+            Err(LoadFault::Code(refused)) => Ok(EditOutcome::Code {
                 task: refused.task(),
                 word: refused.refusal().word,
             }),
@@ -98,7 +98,7 @@ impl Edit {
 
 /// What stands against a text with a change.
 #[derive(Clone, Copy, PartialEq, Eq)]
-pub enum Outcome {
+pub enum EditOutcome {
     Accepted,
     Text,
     /// A fault of names: on the lines of the change, or behind them.

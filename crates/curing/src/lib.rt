@@ -2,9 +2,9 @@
 //!
 //! What crosses the boundary: a [`Spot`], what stands at a place and around it; [`Surroundings`],
 //! what is open there; [`Possible`], what could stand there, for which the parser is asked; an
-//! [`Edit`], a change, with its [`Outcome`] where it is tried; and an [`Answer`], what is said of a
-//! fault, whose lines were tried or are of another text. What is printed is fixed by worked rows
-//! (crates/rows); of the code it is proved that it is safe and ends.
+//! [`Edit`], a change, with its [`EditOutcome`] where it is tried; and a [`FaultAnswer`], what is
+//! said of a fault, whose lines were tried or are of another text. What is printed is fixed by
+//! worked rows (crates/rows); of the code it is proved that it is safe and ends.
 //!
 //! ```text
 //! let spot = Spot::of(text, at);
@@ -25,14 +25,14 @@ mod surroundings;
 mod words;
 
 pub use advice::Advice;
-pub use answers::{Answer, Example, write_answer};
-pub use asked::Asked;
-pub use edits::{Edit, Outcome};
+pub use answers::{Example, FaultAnswer, write_answer};
+pub use asked::AskedText;
+pub use edits::{Edit, EditOutcome};
 pub use marking::{
-    first_column, line_number, line_of, shown, write_found, write_line, write_place,
+    first_column, line_number, line_of, shown_text, write_found, write_line, write_place,
 };
 pub use nearest::{is_near, near_word};
-pub use possible::{Possible, listed};
+pub use possible::{Possible, list_words};
 pub use spots::{Spot, part, place_of};
-pub use surroundings::{Opened, Surroundings};
+pub use surroundings::{OpenConstruct, Surroundings};
 pub use words::{Group, SIGNS, sign_name};

@@ -69,7 +69,7 @@ fn letter(byte: u8) -> char {
 }
 
 /// Bytes as they are shown.
-pub fn shown(alloc: Global, bytes: &[u8]) -> Result<String, AllocError> {
+pub fn shown_text(alloc: Global, bytes: &[u8]) -> Result<String, AllocError> {
     let mut text = String::new(alloc);
     for byte in bytes {
         if *byte != b'\r' {
@@ -100,7 +100,7 @@ fn write_mark<W: Write>(out: &mut W, line: &[u8], col: usize) -> io::Result<()> 
 /// Writes what stands at a column of a line: a word, a number, a sign, or an end.
 pub fn write_found<W: Write>(out: &mut W, bytes: &[u8], line: usize, col: usize) -> io::Result<()> {
     let spot = Spot::of(bytes, place_of(bytes, line, col));
-    let found = spot.found();
+    let found = spot.token();
     if spot.at >= bytes.len() {
         return writeln!(out, "found: the end of the text");
     }

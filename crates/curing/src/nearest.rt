@@ -1,7 +1,7 @@
 //! Words that differ from another one by a letter.
 
 use crate::words::SPELLED;
-use iltokens::reserved;
+use iltokens::keyword_of;
 
 /// Whether two words differ by one letter that was added, left out or changed, or by two beside each
 /// other that were exchanged; letter case aside. Words of one letter are near to none.
@@ -53,7 +53,7 @@ fn common(one: &[u8], other: &[u8]) -> usize {
 
 /// The first reserved word that is near to another word, which is none.
 pub fn near_word(found: &[u8]) -> Option<&'static str> {
-    if reserved(found).is_some() {
+    if keyword_of(found).is_some() {
         return None;
     }
     let mut nearest = None;

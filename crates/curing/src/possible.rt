@@ -1,7 +1,7 @@
 //! What could stand at a place of a text: the parser is asked for each word.
 
 use crate::spots::{part, place_of};
-use crate::words::{ASKED, Group, Words, sign_name};
+use crate::words::{ASKED, Group, GroupWords, sign_name};
 use iltext::{TextFault, parse};
 use std::alloc::{AllocError, Global};
 
@@ -79,7 +79,7 @@ impl Possible {
     }
 
     /// What could stand there, in words; the end of the line where that says something.
-    pub fn told(&self, alloc: Global, with_end: bool) -> Result<Vec<&'static str>, AllocError> {
+    pub fn words(&self, alloc: Global, with_end: bool) -> Result<Vec<&'static str>, AllocError> {
         let mut told: Vec<&'static str> = Vec::new(alloc);
         for words in ASKED {
             self.push_told(&mut told, words)?;
@@ -94,7 +94,11 @@ impl Possible {
     }
 
     /// Adds what is told of a group.
-    fn push_told(&self, told: &mut Vec<&'static str>, words: &Words) -> Result<(), AllocError> {
+    fn push_told(
+        &self,
+        told: &mut Vec<&'static str>,
+        words: &GroupWords,
+    ) -> Result<(), AllocError> {
         let is_all = self.count(words.group) == words.spelled.len();
         if let Some(name) = group_name(words.group, is_all, self.has(Group::Outer)) {
             if self.has(words.group) {
@@ -135,7 +139,7 @@ fn group_name(group: Group, is_all: bool, has_outer: bool) -> Option<&'static st
 fn push_possible(
     alloc: Global,
     bytes: &mut Vec<u8>,
-    words: &Words,
+    words: &GroupWords,
     found: &mut Vec<Candidate>,
 ) -> Result<(), AllocError> {
     for spelled in words.spelled {
@@ -163,7 +167,7 @@ fn can_stand(alloc: Global, bytes: &mut Vec<u8>, word: &[u8]) -> Result<bool, Al
 }
 
 /// Writes words one after another, at most so many, with `or` before the last.
-pub fn listed(alloc: Global, words: &[&'static str]) -> Result<String, AllocError> {
+pub fn list_words(alloc: Global, words: &[&'static str]) -> Result<String, AllocError> {
     let mut text = String::new(alloc);
     let last = words.len().saturating_sub(1);
     for (index, word) in words.iter().enumerate() {

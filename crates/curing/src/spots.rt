@@ -45,14 +45,14 @@ impl<'a> Spot<'a> {
     }
 
     /// The word, number, address or sign at the place; nothing at the end of the line.
-    pub fn found(&self) -> &'a [u8] {
+    pub fn token(&self) -> &'a [u8] {
         let rest = self.rest();
         part(rest, 0, token_len(rest).max(sign_len(rest)))
     }
 
     /// Where what is found ends.
     pub fn found_to(&self) -> usize {
-        self.at.saturating_add(self.found().len())
+        self.at.saturating_add(self.token().len())
     }
 
     /// Where the letters, digits, dots and signs of numbers begin that stand around the place.

@@ -5,7 +5,7 @@ use iltokens::{Delimiter, Keyword, Lexed, What, token};
 
 /// Something that was begun and not ended.
 #[derive(Clone, Copy)]
-pub struct Opened {
+pub struct OpenConstruct {
     /// The word that begins it.
     pub word: Keyword,
     /// Where that stands.
@@ -20,10 +20,10 @@ pub struct Surroundings {
     /// Where what stands after the last program, function or block of types begins.
     pub from: usize,
     /// A type block, a function, a program or a configuration.
-    pub unit: Option<Opened>,
-    pub resource: Option<Opened>,
+    pub unit: Option<OpenConstruct>,
+    pub resource: Option<OpenConstruct>,
     /// A block of variables.
-    pub block: Option<Opened>,
+    pub block: Option<OpenConstruct>,
     /// The places of the first parenthesis that is open, and how many are.
     pub parenthesis: Option<usize>,
     pub open: usize,
@@ -89,7 +89,7 @@ impl Surroundings {
 
     /// After a reserved word.
     fn after_word(self, word: Keyword, from: usize, to: usize) -> Surroundings {
-        let opened = Some(Opened {
+        let opened = Some(OpenConstruct {
             word,
             at: from,
             name: None,
@@ -158,7 +158,7 @@ impl Surroundings {
     }
 
     /// What was begun last and is not ended, parentheses aside.
-    pub fn innermost(&self) -> Option<Opened> {
+    pub fn innermost(&self) -> Option<OpenConstruct> {
         self.block.or(self.resource).or(self.unit)
     }
 
@@ -182,10 +182,10 @@ impl Surroundings {
     }
 }
 
-impl Opened {
+impl OpenConstruct {
     /// The same, with its name.
-    fn called(self, name: Option<(usize, usize)>) -> Opened {
-        Opened {
+    fn called(self, name: Option<(usize, usize)>) -> OpenConstruct {
+        OpenConstruct {
             word: self.word,
             at: self.at,
             name,

@@ -25,58 +25,58 @@ pub enum Group {
 
 /// Words of one group.
 #[derive(Clone, Copy)]
-pub struct Words {
+pub struct GroupWords {
     pub group: Group,
     pub spelled: &'static [&'static str],
 }
 
 /// What is asked of the parser, in the order in which it is told.
-pub const ASKED: &[Words] = &[
-    Words {
+pub const ASKED: &[GroupWords] = &[
+    GroupWords {
         group: Group::Name,
         spelled: &["a"],
     },
-    Words {
+    GroupWords {
         group: Group::Number,
         spelled: &["1"],
     },
-    Words {
+    GroupWords {
         group: Group::Time,
         spelled: &["T#1s"],
     },
-    Words {
+    GroupWords {
         group: Group::Address,
         spelled: &["%QB0.0"],
     },
-    Words {
+    GroupWords {
         group: Group::Truth,
         spelled: &["TRUE", "FALSE"],
     },
-    Words {
+    GroupWords {
         group: Group::Operator,
         spelled: OPERATORS,
     },
-    Words {
+    GroupWords {
         group: Group::Outer,
         spelled: OUTER,
     },
-    Words {
+    GroupWords {
         group: Group::OtherType,
         spelled: &["BOOL", "TIME"],
     },
-    Words {
+    GroupWords {
         group: Group::Integer,
         spelled: INTEGERS,
     },
-    Words {
+    GroupWords {
         group: Group::Block,
         spelled: BLOCKS,
     },
-    Words {
+    GroupWords {
         group: Group::Word,
         spelled: WORDS,
     },
-    Words {
+    GroupWords {
         group: Group::Sign,
         spelled: SIGNS,
     },

@@ -62,7 +62,7 @@ impl IdlePlant {
     {
         let place = self.plant.len();
         self.plant.tick(moment)?;
-        observer.ticked(place, moment)?;
+        observer.note_tick(place, moment)?;
         Ok(())
     }
 

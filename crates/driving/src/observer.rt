@@ -17,7 +17,7 @@ pub trait Observer<B> {
     /// # Errors
     ///
     /// What was told is not kept.
-    fn ticked(&mut self, _place: u64, _moment: u64) -> io::Result<()> {
+    fn note_tick(&mut self, _place: u64, _moment: u64) -> io::Result<()> {
         Ok(())
     }
 
@@ -26,7 +26,7 @@ pub trait Observer<B> {
     /// # Errors
     ///
     /// What was told is not kept.
-    fn heard(&mut self, _place: u64, _bus: u8, _frame: Frame24) -> io::Result<()> {
+    fn note_frame(&mut self, _place: u64, _bus: u8, _frame: Frame24) -> io::Result<()> {
         Ok(())
     }
 
@@ -35,7 +35,7 @@ pub trait Observer<B> {
     /// # Errors
     ///
     /// What was told is not kept.
-    fn took(&mut self, _place: u64, _worker: usize, _task: usize) -> io::Result<()> {
+    fn note_take(&mut self, _place: u64, _worker: usize, _task: usize) -> io::Result<()> {
         Ok(())
     }
 
@@ -44,7 +44,7 @@ pub trait Observer<B> {
     /// # Errors
     ///
     /// What was told is not kept.
-    fn committed(
+    fn note_commit(
         &mut self,
         _place: u64,
         _worker: usize,
@@ -59,7 +59,7 @@ pub trait Observer<B> {
     /// # Errors
     ///
     /// What was told is not kept.
-    fn handed(
+    fn note_handout(
         &mut self,
         _place: u64,
         _bus: u8,
@@ -74,7 +74,13 @@ pub trait Observer<B> {
     /// # Errors
     ///
     /// What was told is not kept.
-    fn reported(&mut self, _place: u64, _bus: u8, _report: &Report, _line: &B) -> io::Result<()> {
+    fn note_report(
+        &mut self,
+        _place: u64,
+        _bus: u8,
+        _report: &Report,
+        _line: &B,
+    ) -> io::Result<()> {
         Ok(())
     }
 
@@ -83,7 +89,7 @@ pub trait Observer<B> {
     /// # Errors
     ///
     /// What was told is not kept.
-    fn went_down(&mut self, _place: u64, _bus: u8) -> io::Result<()> {
+    fn note_down(&mut self, _place: u64, _bus: u8) -> io::Result<()> {
         Ok(())
     }
 }

@@ -26,7 +26,7 @@ fn tell_scan<B, O: Observer<B>>(
     ensures { IsTold result }
 {
     took?;
-    observer.committed(place, WORKER, task, steps)?;
+    observer.note_commit(place, WORKER, task, steps)?;
     Ok(true)
 }
 
@@ -48,7 +48,7 @@ pub(crate) fn scan_next<B, O: Observer<B>>(
         Err(error) => return Err(Halt::from(error)),
     };
     let (place, task) = (order.number, order.task);
-    let took = observer.took(place, WORKER, task);
+    let took = observer.note_take(place, WORKER, task);
     let made = scan_into(order.work);
     let steps = made.steps();
     let Ok(()) = plant.commit(WORKER, made) else {

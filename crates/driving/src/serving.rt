@@ -30,7 +30,7 @@ fn note_report(plant: &mut Plant, bus: u8, number: u64, report: Report)
         → plant.new ≡ grown (grown plant.old (Done bus number report)) (Down bus) }
 {
     let has_failed = matches!(report.outcome(), Outcome::Failed);
-    let Ok(()) = plant.done(bus, number, report) else {
+    let Ok(()) = plant.note_report(bus, number, report) else {
         unreachable!()
     };
     if has_failed {
@@ -51,9 +51,9 @@ fn tell_report<B, O: Observer<B>>(
     line: &B,
 ) -> io::Result<()> {
     handed?;
-    observer.reported(place, bus, report, line)?;
+    observer.note_report(place, bus, report, line)?;
     match report.outcome() {
-        Outcome::Failed => observer.went_down(place.saturating_add(1), bus),
+        Outcome::Failed => observer.note_down(place.saturating_add(1), bus),
         Outcome::Done(_) | Outcome::GaveUp => Ok(()),
     }
 }
@@ -83,7 +83,7 @@ pub fn send_next<B: Bus, O: Observer<B>>(
     let Ok(handed) = plant.hand(bus) else {
         unreachable!()
     };
-    let told = observer.handed(handed.number, bus, handed.origin, &handed.transaction);
+    let told = observer.note_handout(handed.number, bus, handed.origin, &handed.transaction);
     let tries = plant.tries(bus);
     let report = perform(line, &handed.transaction, tries);
     let noted = report.clone().unwrap();
@@ -184,17 +184,17 @@ fn hear_next<B: Bus, O: Observer<B>>(
     let place = plant.len();
     match line.hear() {
         Ok(Some(frame)) => {
-            let Ok(()) = plant.heard(bus, frame) else {
+            let Ok(()) = plant.note_frame(bus, frame) else {
                 unreachable!()
             };
-            as_done(observer.heard(place, bus, frame))
+            as_done(observer.note_frame(place, bus, frame))
         }
         Ok(None) => Ok(false),
         Err(_) => {
             let Ok(()) = plant.down(bus) else {
                 unreachable!()
             };
-            as_done(observer.went_down(place, bus))
+            as_done(observer.note_down(place, bus))
         }
     }
 }

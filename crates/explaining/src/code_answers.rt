@@ -2,7 +2,9 @@
 
 use crate::block_commands::commands_of;
 use crate::code_causes::{OTHER_TYPE, UNFIT_INPUT, UNFIT_OPERAND, advice_of};
-use curing::{Answer, Asked, Edit, Example, Outcome, Spot, part, place_of, shown};
+use curing::{
+    AskedText, Edit, EditOutcome, Example, FaultAnswer, Spot, part, place_of, shown_text,
+};
 use ilcode::Word;
 use ilranges::Cause;
 use iltypes::Range;
@@ -13,7 +15,7 @@ use std::alloc::{AllocError, Global};
 /// A refused word with what it is asked about.
 #[derive(Clone, Copy)]
 pub(crate) struct Refused<'q, 'n> {
-    pub asked: &'q Asked<'q>,
+    pub asked: &'q AskedText<'q>,
     pub names: &'n TaskNames<'n>,
     pub task: usize,
     pub word: usize,
@@ -24,7 +26,7 @@ pub(crate) struct Refused<'q, 'n> {
 impl<'q, 'n> Refused<'q, 'n> {
     /// A task that is refused, with what its words name.
     pub(crate) fn of(
-        asked: &'q Asked<'q>,
+        asked: &'q AskedText<'q>,
         names: &'n TaskNames<'n>,
         refused: &RefusedTask,
     ) -> Refused<'q, 'n> {
@@ -41,7 +43,7 @@ impl<'q, 'n> Refused<'q, 'n> {
 }
 
 /// What is said of a refused word.
-pub(crate) fn answer_code(alloc: Global, refused: &Refused) -> Result<Answer, AllocError> {
+pub(crate) fn answer_code(alloc: Global, refused: &Refused) -> Result<FaultAnswer, AllocError> {
     match refused.cause {
         Cause::OutOfRange { found, allowed } => unfit(alloc, refused, found, allowed),
         Cause::WrongType => wrong_type(alloc, refused),
@@ -50,18 +52,18 @@ pub(crate) fn answer_code(alloc: Global, refused: &Refused) -> Result<Answer, Al
             refused,
             &["MIN 1000000\nMAX -1000000", "MIN 1000\nMAX -1000"],
         ),
-        cause => Answer::of(alloc, advice_of(cause)),
+        cause => FaultAnswer::of(alloc, advice_of(cause)),
     }
 }
 
 /// What is said of a value of the wrong type: a number that is compared first, or a truth value.
-fn wrong_type(alloc: Global, refused: &Refused) -> Result<Answer, AllocError> {
+fn wrong_type(alloc: Global, refused: &Refused) -> Result<FaultAnswer, AllocError> {
     let edit = inserted(alloc, refused, "NE 0")?;
     if is_cure(alloc, refused, &edit, "NE 0")? {
-        let answer = Answer::of(alloc, advice_of(refused.cause))?;
+        let answer = FaultAnswer::of(alloc, advice_of(refused.cause))?;
         return answer.with_tried(alloc, refused.asked.text, &edit);
     }
-    Answer::of(alloc, OTHER_TYPE)
+    FaultAnswer::of(alloc, OTHER_TYPE)
 }
 
 /// What is said of a number that may not fit.
@@ -70,12 +72,12 @@ fn unfit(
     refused: &Refused,
     found: Range,
     allowed: Range,
-) -> Result<Answer, AllocError> {
+) -> Result<FaultAnswer, AllocError> {
     let ranges = ranges_told(alloc, found, allowed)?;
     let limits = limits_of(alloc, found, allowed)?;
     match refused.names.code.get(refused.word) {
         Some(Word::Give { .. }) => {
-            let mut answer = Answer::of(alloc, UNFIT_OPERAND)?.with_facts(ranges);
+            let mut answer = FaultAnswer::of(alloc, UNFIT_OPERAND)?.with_facts(ranges);
             answer.example = Example::Other(format!(in alloc; "{limits}\nST limited")?);
             Ok(answer)
         }
@@ -90,8 +92,8 @@ fn unfit(
             )
         }
         _ => {
-            let mut answer = Answer::of(alloc, advice_of(refused.cause))?.with_facts(ranges);
-            let line = shown(alloc, trimmed(refused))?;
+            let mut answer = FaultAnswer::of(alloc, advice_of(refused.cause))?.with_facts(ranges);
+            let line = shown_text(alloc, trimmed(refused))?;
             answer.example = Example::Other(format!(in alloc; "{limits}\n{line}")?);
             with_inserted(alloc, refused, answer, limits.as_str())
         }
@@ -106,16 +108,16 @@ fn unfit_input(
     ranges: String,
     block: usize,
     port: usize,
-) -> Result<Answer, AllocError> {
+) -> Result<FaultAnswer, AllocError> {
     let mut facts = ranges;
-    let mut answer = Answer::of(alloc, UNFIT_INPUT)?;
+    let mut answer = FaultAnswer::of(alloc, UNFIT_INPUT)?;
     let Some(kind) = refused.names.code.kinds().get(block) else {
         return Ok(answer.with_facts(facts));
     };
     let Some(found) = kind.ports().get(port) else {
         return Ok(answer.with_facts(facts));
     };
-    let name = shown(alloc, found.name.spelling())?;
+    let name = shown_text(alloc, found.name.spelling())?;
     if name.as_bytes() == b"CMD".as_slice() {
         facts.push_str(commands_of(*kind))?;
     }
@@ -161,8 +163,8 @@ fn trimmed<'q>(refused: &Refused<'q, '_>) -> &'q [u8] {
 }
 
 /// What is said of a cause, with the first of these lines before the refused one that helps.
-fn with_lines(alloc: Global, refused: &Refused, tried: &[&str]) -> Result<Answer, AllocError> {
-    let answer = Answer::of(alloc, advice_of(refused.cause))?;
+fn with_lines(alloc: Global, refused: &Refused, tried: &[&str]) -> Result<FaultAnswer, AllocError> {
+    let answer = FaultAnswer::of(alloc, advice_of(refused.cause))?;
     for lines in tried {
         let edit = inserted(alloc, refused, lines)?;
         if is_cure(alloc, refused, &edit, lines)? {
@@ -176,9 +178,9 @@ fn with_lines(alloc: Global, refused: &Refused, tried: &[&str]) -> Result<Answer
 fn with_inserted(
     alloc: Global,
     refused: &Refused,
-    answer: Answer,
+    answer: FaultAnswer,
     lines: &str,
-) -> Result<Answer, AllocError> {
+) -> Result<FaultAnswer, AllocError> {
     let edit = inserted(alloc, refused, lines)?;
     if is_cure(alloc, refused, &edit, lines)? {
         answer.with_tried(alloc, refused.asked.text, &edit)
@@ -206,8 +208,8 @@ fn inserted(alloc: Global, refused: &Refused, lines: &str) -> Result<Edit, Alloc
 fn is_cure(alloc: Global, refused: &Refused, edit: &Edit, lines: &str) -> Result<bool, AllocError> {
     let more = lines.split('\n').count();
     Ok(match edit.outcome(alloc, refused.asked)? {
-        Outcome::Accepted => true,
-        Outcome::Code { task, word } => {
+        EditOutcome::Accepted => true,
+        EditOutcome::Code { task, word } => {
             task > refused.task || task == refused.task && word > refused.word.saturating_add(more)
         }
         _ => false,

@@ -5,7 +5,8 @@ use crate::requests::write_requests;
 use crate::ways::write_way;
 use badlines::{BadLine, binding_fault, scenario_fault};
 use curing::{
-    Answer, Asked, first_column, place_of, write_answer, write_found, write_line, write_place,
+    AskedText, FaultAnswer, first_column, place_of, write_answer, write_found, write_line,
+    write_place,
 };
 use ilcompile::compile;
 use ilranges::Cause;
@@ -28,7 +29,7 @@ use wordlines::{BindFault, LineFault, ScenarioFault};
 pub fn explain_load<W: Write>(
     alloc: Global,
     out: &mut W,
-    asked: &Asked,
+    asked: &AskedText,
     fault: &LoadFault,
 ) -> io::Result<()> {
     match fault {
@@ -48,7 +49,7 @@ fn write_memory<W: Write>(out: &mut W) -> io::Result<()> {
 fn explain_text<W: Write>(
     alloc: Global,
     out: &mut W,
-    asked: &Asked,
+    asked: &AskedText,
     fault: &TextFault,
 ) -> io::Result<()> {
     match fault {
@@ -67,7 +68,7 @@ fn explain_text<W: Write>(
 fn explain_name<W: Write>(
     alloc: Global,
     out: &mut W,
-    asked: &Asked,
+    asked: &AskedText,
     fault: &NameFault,
 ) -> io::Result<()> {
     match fault {
@@ -88,7 +89,7 @@ fn explain_name<W: Write>(
 }
 
 /// Writes the other faults of names, a line each, and how many more there are.
-fn write_others<W: Write>(out: &mut W, asked: &Asked, others: &OtherFaults) -> io::Result<()> {
+fn write_others<W: Write>(out: &mut W, asked: &AskedText, others: &OtherFaults) -> io::Result<()> {
     if others.named.is_empty() {
         return Ok(());
     }
@@ -108,10 +109,10 @@ fn write_others<W: Write>(out: &mut W, asked: &Asked, others: &OtherFaults) -> i
 /// Writes what is wrong at a place of a text, and what helps.
 fn write_at<W: Write>(
     out: &mut W,
-    asked: &Asked,
+    asked: &AskedText,
     line: usize,
     col: usize,
-    answer: &Answer,
+    answer: &FaultAnswer,
 ) -> io::Result<()> {
     writeln!(out, "{}", answer.what.as_str())?;
     write_line(out, asked.text, line, Some(col))?;
@@ -124,7 +125,7 @@ fn write_at<W: Write>(
 fn explain_code<'q, W: Write>(
     alloc: Global,
     out: &mut W,
-    asked: &'q Asked<'q>,
+    asked: &'q AskedText<'q>,
     refused: &RefusedTask,
 ) -> io::Result<()> {
     let code = compile(alloc, refused.plan(), refused.task())?;
@@ -143,9 +144,9 @@ fn explain_code<'q, W: Write>(
 /// Writes the first line of a refused task, the line of the text, and what helps.
 fn write_refused<W: Write>(
     out: &mut W,
-    asked: &Asked,
+    asked: &AskedText,
     refused: &RefusedTask,
-    answer: &Answer,
+    answer: &FaultAnswer,
 ) -> io::Result<()> {
     let refusal = refused.refusal();
     let col = first_column(asked.text, refusal.line);
@@ -166,7 +167,7 @@ fn write_refused<W: Write>(
 fn write_calls<W: Write>(
     alloc: Global,
     out: &mut W,
-    asked: &Asked,
+    asked: &AskedText,
     names: &TaskNames,
     refused: &RefusedTask,
 ) -> io::Result<()> {

@@ -2,8 +2,8 @@
 //! could stand there, and the cure; of a refused word also what is known there, and a way that
 //! leads there.
 //!
-//! What crosses the boundary: the bytes of a file with its fault ([`Asked`] for a text), and lines
-//! on a writer. Lines that are proposed as they could read were tried: with them the text is
+//! What crosses the boundary: the bytes of a file with its fault ([`AskedText`] for a text), and
+//! lines on a writer. Lines that are proposed as they could read were tried: with them the text is
 //! accepted, or its fault is gone. What is printed is fixed by worked rows (crates/rows); of the
 //! code it is proved that it is safe and ends.
 //!
@@ -20,5 +20,5 @@ mod requests;
 mod taken;
 mod ways;
 
-pub use curing::Asked;
+pub use curing::AskedText;
 pub use files::{explain_binding, explain_load, explain_scenario};

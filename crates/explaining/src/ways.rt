@@ -1,7 +1,7 @@
 //! A way that leads to a word, with what is known on it.
 
 use crate::taken::{Ways, jumps_to, place_before, ways_up_to};
-use curing::{Spot, part, place_of, shown};
+use curing::{Spot, part, place_of, shown_text};
 use ilcode::{Code, Word};
 use ilranges::Entry;
 use iltokens::{Keyword, Lexed, What, token};
@@ -90,7 +90,7 @@ fn spelled(
 ) -> Result<String, AllocError> {
     if matches!(word, Word::Jump { .. }) {
         if let Some(written) = jump_on(text, line) {
-            return shown(alloc, written);
+            return shown_text(alloc, written);
         }
     }
     let word = WordText { names, word };

@@ -82,7 +82,7 @@ fn lasting(alloc: Global, code: &Code) -> Result<Vec<IlType>, AllocError>
 /// Whether the scan stayed within the bound of its code and left each slot of its programs a value
 /// of its type.
 fn is_good(scan: &ScanResult) -> bool {
-    let code = scan.snapshot().verified();
+    let code = scan.snapshot().verified_code();
     scan.steps() <= code.bound()
         && scan.row().len() == code.code().slots_end(0)
         && is_row_of(scan.row(), code.code().slots())

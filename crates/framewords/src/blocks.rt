@@ -77,7 +77,7 @@ impl Block {
     }
 
     /// The block of this name, in any letter case.
-    pub fn named(name: &str) -> Option<Self>
+    pub fn of_name(name: &str) -> Option<Self>
         ensures { MatchOption result ((block : Named) → ¬ IsNamed block name.now)
             (λ block. IsNamed block name.now) }
     {

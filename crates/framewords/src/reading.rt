@@ -33,7 +33,7 @@ pub fn request_of(
         → IsWritten block.now address first second a → IsWritten block.now address first second b
         → a ≡ b }
 {
-    command_of(Block::named(block)?, address, first, second)
+    command_of(Block::of_name(block)?, address, first, second)
 }
 
 /// What the block asks for with these ports.

@@ -151,7 +151,7 @@ impl Request {
     }
 
     /// Whose answer the request brings, where it is a query or a memory read.
-    pub fn asked(&self) -> Option<Answerer>
+    pub fn answerer(&self) -> Option<Answerer>
         ensures { result ≡ answerer_of self.now.command }
     {
         match self.command {

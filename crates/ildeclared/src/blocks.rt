@@ -14,7 +14,7 @@ pub fn blocks_of(alloc: Global, program: &Program) -> Result<Vec<DeclaredBlock>,
 {
     let mut blocks = Vec::new(alloc);
     for declaration in program.declarations() {
-        if let Declared::Blocks(kind) = declaration.declared() {
+        if let Declared::Blocks(kind) = declaration.declared_kind() {
             add_blocks(&mut blocks, kind, declaration.names())?;
         }
     }

@@ -25,7 +25,12 @@ pub fn fault_of_all(
 {
     let mut least = None;
     for declaration in declarations {
-        let fault = fault_of(lower, types, declaration.names(), declaration.declared());
+        let fault = fault_of(
+            lower,
+            types,
+            declaration.names(),
+            declaration.declared_kind(),
+        );
         least = lesser_of(least, fault);
     }
     least

@@ -22,7 +22,7 @@ pub fn externals_of(
 {
     let mut externals = Vec::new(alloc);
     for declaration in program.declarations() {
-        if let Declared::External(specification) = declaration.declared() {
+        if let Declared::External(specification) = declaration.declared_kind() {
             let value_type = values_of(lower, types, specification);
             add_externals(&mut externals, value_type, declaration.names())?;
         }

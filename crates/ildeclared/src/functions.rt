@@ -14,7 +14,7 @@ use crate::found::{Found, found_where, lesser_of};
 use crate::types::DeclaredTypes;
 use crate::variable::DeclaredVariable;
 use crate::variables::{add_declared, meant_type, variable_of};
-use ilsource::{Declaration, Declared, Function, Name};
+use ilsource::{Declaration, Declared, Name, SourceFunction};
 use std::alloc::{AllocError, Global};
 
 /// A function's inputs below these types, in declared order. `lower` is the text in lower case.
@@ -22,7 +22,7 @@ pub fn inputs_of(
     alloc: Global,
     lower: &[u8],
     types: &DeclaredTypes,
-    function: &Function,
+    function: &SourceFunction,
 ) -> Result<Vec<DeclaredVariable>, AllocError>
     ensures { IfOk result (λ v. v.items ≡ inputs_of (types_in lower.now types.now) function.now) }
 {
@@ -37,7 +37,7 @@ pub fn own_variables_of(
     alloc: Global,
     lower: &[u8],
     types: &DeclaredTypes,
-    function: &Function,
+    function: &SourceFunction,
 ) -> Result<Vec<DeclaredVariable>, AllocError>
     ensures { IfOk result (λ v.
         v.items ≡ own_variables_of (types_in lower.now types.now) function.now) }
@@ -49,7 +49,11 @@ pub fn own_variables_of(
 }
 
 /// The variable with the function's name.
-fn result_variable(lower: &[u8], types: &DeclaredTypes, function: &Function) -> DeclaredVariable
+fn result_variable(
+    lower: &[u8],
+    types: &DeclaredTypes,
+    function: &SourceFunction,
+) -> DeclaredVariable
     ensures { result ≡ result_variable (types_in lower.now types.now) function.now }
 {
     let declared = meant_type(lower, types, function.result_type(), None);
@@ -58,7 +62,7 @@ fn result_variable(lower: &[u8], types: &DeclaredTypes, function: &Function) -> 
 
 /// The names that a function declares, in the order of the text: its own, those of its inputs and
 /// those of its VAR.
-pub fn function_names(alloc: Global, function: &Function) -> Result<Vec<Name>, AllocError>
+pub fn function_names(alloc: Global, function: &SourceFunction) -> Result<Vec<Name>, AllocError>
     ensures { IfOk result (λ v. v.items ≡ function_names function.now) }
 {
     let mut names = Vec::new(alloc);
@@ -81,7 +85,11 @@ fn add_names(names: &mut Vec<Name>, declarations: &[Declaration]) -> Result<(), 
 
 /// The least fault of what is said of a function's result below these types. `lower` is the text in
 /// lower case.
-pub fn fault_of_result(lower: &[u8], types: &DeclaredTypes, function: &Function) -> Option<Found>
+pub fn fault_of_result(
+    lower: &[u8],
+    types: &DeclaredTypes,
+    function: &SourceFunction,
+) -> Option<Found>
     ensures { IsLeastOf (IsFaultIn (types_in lower.now types.now)
         (result_declaration function.now)) result }
 {
@@ -111,7 +119,7 @@ fn blocks_at(declaration: &Declaration) -> Option<Found>
 {
     let name = declaration.names().first()?;
     found_where(
-        are_blocks(declaration.declared()),
+        are_blocks(declaration.declared_kind()),
         name.from,
         NameCause::BadDeclaration,
     )

@@ -40,7 +40,7 @@ pub(crate) fn add_declared(
         if let Declared::Variables {
             specification,
             initial,
-        } = declaration.declared()
+        } = declaration.declared_kind()
         {
             let declared = meant_type(lower, types, specification, initial);
             add_variables(variables, declared, declaration.names())?;

@@ -145,14 +145,14 @@ impl Snapshot {
     }
 
     /// The verified code.
-    pub fn verified(&self) -> &Verified
+    pub fn verified_code(&self) -> &Verified
         ensures value { result.now ≡ self.now.verified }
     {
-        self.prepared.verified()
+        self.prepared.verified_code()
     }
 
     /// The verified code as the machine reads it.
-    pub fn prepared(&self) -> &PreparedCode
+    pub fn prepared_code(&self) -> &PreparedCode
         ensures value { result.now ≡ self.now.verified }
     {
         &self.prepared

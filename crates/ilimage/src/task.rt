@@ -73,7 +73,7 @@ impl TaskImage {
     }
 
     /// The verified code, prepared for the machine.
-    pub(crate) fn prepared(&self) -> &Arc<PreparedCode, Global>
+    pub(crate) fn prepared_code(&self) -> &Arc<PreparedCode, Global>
         ensures value { arc_value result.now ≡ self.now.layout.verified }
     {
         &self.prepared

@@ -68,8 +68,8 @@ impl TaskRow {
         let _own = task.values();
         let _kinds = task.blocks();
         let values = task.slot_values(alloc, globals)?;
-        let prepared = task.prepared().clone()?;
-        let row = row_of(alloc, prepared.verified().code(), &values)?;
+        let prepared = task.prepared_code().clone()?;
+        let row = row_of(alloc, prepared.verified_code().code(), &values)?;
         let externals = Vec::from_slice(alloc, task.externals())?;
         let stores = stores_of(alloc, &externals)?;
         let blocks = task.copy_blocks()?;

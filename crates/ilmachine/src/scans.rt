@@ -187,8 +187,8 @@ pub fn scan_into(work: Work) -> ScanResult
         mut state,
         room,
     } = work;
-    let steps = run(snapshot.prepared(), &mut state);
-    let left = state.end(snapshot.verified().code(), room);
+    let steps = run(snapshot.prepared_code(), &mut state);
+    let left = state.end(snapshot.verified_code().code(), room);
     ScanResult {
         number,
         snapshot,

@@ -24,7 +24,7 @@ fn pass(range: Range, comparison: Operator, limit: i64, outcome: bool) -> Option
     if outcome {
         keep(range, comparison, limit)
     } else {
-        keep(range, comparison.turned(), limit)
+        keep(range, comparison.opposite(), limit)
     }
 }
 

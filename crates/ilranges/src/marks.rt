@@ -72,7 +72,7 @@ pub(crate) fn mark_of_function(mark: Option<ResultMark>, function: Function) -> 
             Function::Not,
         ) => Some(ResultMark::Test {
             slot,
-            comparison: comparison.turned(),
+            comparison: comparison.opposite(),
             limit,
         }),
         _ => None,

@@ -1,12 +1,12 @@
 //! Functions with what they declare.
 
 use ildeclared::DeclaredVariable;
-use ilsource::Function;
+use ilsource::SourceFunction;
 use std::marker::Model;
 
 /// A function with its variables.
 pub struct FunctionScope<'a> {
-    function: &'a Function,
+    function: &'a SourceFunction,
     inputs: Vec<DeclaredVariable>,
     variables: Vec<DeclaredVariable>,
     functions: usize,
@@ -26,7 +26,7 @@ impl Drop for FunctionScope<'_> {
 
 impl<'a> Model for FunctionScope<'a> {
     ghost use Rattle.std.specs.Coded.{codes};
-    ghost use Rattle.ilsource.specs.contracts.function.Function as inner;
+    ghost use Rattle.ilsource.specs.contracts.function.SourceFunction as inner;
     ghost use Rattle.ilscope.specs.Declarations.{DeclaredFunction};
 
     ghost Value = { DeclaredFunction };
@@ -47,7 +47,7 @@ impl<'a> FunctionScope<'a> {
     /// The function, its inputs in the order in which they are declared, its other variables, its
     /// result first, and how many functions stand above it.
     pub(crate) fn new(
-        function: &'a Function,
+        function: &'a SourceFunction,
         inputs: Vec<DeclaredVariable>,
         variables: Vec<DeclaredVariable>,
         functions: usize,
@@ -66,7 +66,7 @@ impl<'a> FunctionScope<'a> {
     }
 
     /// The function.
-    pub fn function(&self) -> &'a Function
+    pub fn function(&self) -> &'a SourceFunction
         ensures value { result.now ≡ self.now.function }
     {
         self.function

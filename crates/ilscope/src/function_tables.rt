@@ -12,7 +12,7 @@ ghost use Rattle.ilscope.specs.Faults.{IsTwiceIn};
 use crate::function_scope::FunctionScope;
 use crate::numbers::{numbers_of, numbers_of_own};
 use ildeclared::{DeclaredTypes, Found, Names, function_names, inputs_of, own_variables_of};
-use ilsource::Function;
+use ilsource::SourceFunction;
 use std::alloc::{AllocError, Global};
 
 /// A function with what it declares, the numbers of its variables, and the least fault of a name of
@@ -34,7 +34,7 @@ impl<'a> FunctionTables<'a> {
         lower: &[u8],
         types: &DeclaredTypes,
         functions: usize,
-        function: &'a Function,
+        function: &'a SourceFunction,
     ) -> Result<FunctionTables<'a>, AllocError>
         ensures scope { IfOk result (λ tables.
             tables.scope ≡ with_inputs (types_in lower.now types.now) functions function.now) }
@@ -61,7 +61,7 @@ impl<'a> FunctionTables<'a> {
 fn own_name_given_twice(
     alloc: Global,
     lower: &[u8],
-    function: &Function,
+    function: &SourceFunction,
 ) -> Result<Option<Found>, AllocError>
     ensures { IfOk result
         (IsLeastOf (OfCause Twice (IsTwiceIn (text_of lower.now) (function_names function.now)))) }

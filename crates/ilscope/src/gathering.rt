@@ -15,7 +15,7 @@ use crate::program_tables::ProgramTables;
 use ildeclared::{
     DeclaredTypes, Found, Names, declared_type, fault_of, fault_of_all, fault_of_result, lesser_of,
 };
-use ilsource::{Declared, Element, Function, Name, Program, TypeDeclaration};
+use ilsource::{Declared, Element, Name, Program, SourceFunction, TypeDeclaration};
 use std::alloc::{AllocError, Global};
 
 /// What is gathered from the elements up to a place.
@@ -178,7 +178,7 @@ impl<'a> Gathering<'a> {
         &mut self,
         alloc: Global,
         lower: &[u8],
-        function: &'a Function,
+        function: &'a SourceFunction,
     ) -> Result<(), AllocError>
         ensures { OnOk result ((front : List Element)
             → IsGathered lower.now front
@@ -251,7 +251,11 @@ impl<'a> Gathering<'a> {
 
 /// The least fault of what a function declares below these types: of its result, its inputs or its
 /// VAR. `lower` is the text in lower case.
-fn fault_of_function(lower: &[u8], types: &DeclaredTypes, function: &Function) -> Option<Found>
+fn fault_of_function(
+    lower: &[u8],
+    types: &DeclaredTypes,
+    function: &SourceFunction,
+) -> Option<Found>
     ensures { IsLeastOf (λ place cause. SomeOf
         (λ d. IsFaultIn (types_in lower.now types.now) d place cause)
         (declarations_in (elements.Function function.now))) result }

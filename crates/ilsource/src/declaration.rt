@@ -92,7 +92,7 @@ impl Declaration {
     }
 
     /// What the names are.
-    pub fn declared(&self) -> Declared
+    pub fn declared_kind(&self) -> Declared
         ensures { result ≡ self.now.declared }
     {
         self.declared

@@ -9,7 +9,7 @@ use std::marker::Model;
 /// `FUNCTION name ":" specification VAR_INPUT .. END_VAR [VAR .. END_VAR] { line } END_FUNCTION`
 /// (IEC 61131-3, 2.5.1). What a program's lines are known to be, a function's are too.
 #[derive(Drop)]
-pub struct Function {
+pub struct SourceFunction {
     at: usize,
     name: Name,
     result_type: Specification,
@@ -18,7 +18,7 @@ pub struct Function {
     lines: Vec<Line<Symbol, Name>>,
 }
 
-impl Model for Function {
+impl Model for SourceFunction {
     ghost use Rattle.std.specs.Prelude.{List};
     ghost use Rattle.std.specs.Coded.{codes, code_by};
     ghost use Rattle.ilsource.specs.declared.nested.Piece.{Piece};
@@ -51,7 +51,7 @@ impl Model for Function {
         × AreSorted f.lines.items };
 }
 
-impl Function {
+impl SourceFunction {
     ghost use Rattle.std.specs.Prelude.{◌≡◌};
     ghost use Rattle.ilsource.specs.Words.{AreShallow};
     ghost use Rattle.ilsource.specs.Programs.{WrittenFunction, AreInputs, AreInFunction, AreSorted};
@@ -64,7 +64,7 @@ impl Function {
         inputs: Vec<Declaration>,
         variables: Vec<Declaration>,
         lines: Vec<Line<Symbol, Name>>,
-    ) -> Function
+    ) -> SourceFunction
         requires inputs { AreInputs inputs.items }
         requires variables { AreInFunction variables.items }
         requires shallow { AreShallow lines.items }
@@ -76,7 +76,7 @@ impl Function {
         ensures variables { result.variables ≡ variables.items }
         ensures lines { result.lines ≡ lines.items }
     {
-        Function {
+        SourceFunction {
             at,
             name,
             result_type,

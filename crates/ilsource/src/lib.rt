@@ -45,7 +45,7 @@ pub use address::DirectAddress;
 pub use arguments::{Argument, Arguments};
 pub use configuration::{Configuration, GlobalDeclaration, InstanceDeclaration, TaskDeclaration};
 pub use declaration::{Constant, Declaration, Declared, Specification, TypeDeclaration};
-pub use function::Function;
+pub use function::SourceFunction;
 pub use instruction::{Instruction, Line};
 pub use line_column::LineColumn;
 pub use line_counter::LineCounter;

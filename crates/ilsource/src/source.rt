@@ -2,7 +2,7 @@
 
 use crate::configuration::Configuration;
 use crate::declaration::TypeDeclaration;
-use crate::function::Function;
+use crate::function::SourceFunction;
 use crate::program::Program;
 use std::marker::Model;
 
@@ -10,7 +10,7 @@ use std::marker::Model;
 #[derive(Drop)]
 pub enum Element {
     DerivedType(TypeDeclaration),
-    Function(Function),
+    Function(SourceFunction),
     Program(Program),
 }
 

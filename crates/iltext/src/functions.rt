@@ -10,7 +10,7 @@ use crate::declarations::{begins_vars, names, specification, vars};
 use illines::{
     Token, TokenKind, begins_name, line_ends, lines, spaced_delimiter, spaced_name, spaced_word,
 };
-use ilsource::{Declaration, Declared, Function, Name, Specification};
+use ilsource::{Declaration, Declared, Name, SourceFunction, Specification};
 use iltokens::{Delimiter, Keyword, ReadError, What};
 use std::alloc::Global;
 
@@ -134,7 +134,7 @@ fn own_variables<'a>(
 pub(crate) fn function<'a>(
     alloc: Global,
     ts: &'a [Token],
-) -> Result<(Function, &'a [Token]), ReadError<'a, Token>>
+) -> Result<(SourceFunction, &'a [Token]), ReadError<'a, Token>>
     ensures { Gives (λ x. (x.0, x.1.now)) result (function.read ts.now) }
 {
     let (head, rest) = head(ts)?;
@@ -142,7 +142,7 @@ pub(crate) fn function<'a>(
     let (variables, rest) = own_variables(alloc, rest)?;
     let (lines, rest) = lines(alloc, rest)?;
     let rest = spaced_word(rest, Keyword::EndFunction)?;
-    let function = Function::new(
+    let function = SourceFunction::new(
         head.at,
         head.name,
         head.result_type,

@@ -7,7 +7,7 @@ ghost use Rattle.iltokens.specs.Views.{front_view, IsShorter};
 
 use crate::address::direct_address;
 use crate::digits::is_digit;
-use crate::keyword::reserved;
+use crate::keyword::keyword_of;
 use crate::lexed::{Delimiter, LexicalCause, What};
 use crate::number::{signed, unsigned};
 use crate::spelling::{after_name, is_letter};
@@ -39,7 +39,7 @@ fn number_at(negative: bool, magnitude: &[u8]) -> Front<'_>
 fn word_kind(word: &[u8]) -> What
     ensures { result ≡ word_kind word.now }
 {
-    match reserved(word) {
+    match keyword_of(word) {
         Some(keyword) => What::Keyword(keyword),
         None => What::Name,
     }

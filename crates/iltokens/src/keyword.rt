@@ -356,7 +356,7 @@ fn word_of(text: &[u8]) -> Option<Keyword>
 }
 
 /// The reserved word that a text is, in any letter case.
-pub fn reserved(text: &[u8]) -> Option<Keyword>
+pub fn keyword_of(text: &[u8]) -> Option<Keyword>
     ensures { MatchOption result
         ((word : Keyword) → ¬ IsSpelled text.now word)
         (λ word. IsSpelled text.now word) }

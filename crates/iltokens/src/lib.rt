@@ -5,7 +5,7 @@
 //! gives the longest token after them as a [`Lexed`], or the end, or the fault that stands there.
 //! What a token is, is a [`What`]: reserved words, names, numbers, durations, addresses, delimiters
 //! and line ends. Read `StandsNext` first (specs/Tokens.antt), then what each kind spells
-//! (specs/Spellings.antt) and each reserved word ([`reserved`], specs/Keywords.antt).
+//! (specs/Spellings.antt) and each reserved word ([`keyword_of`], specs/Keywords.antt).
 //!
 //! Of a grammar: the definition of an item (specs/Items.antt), built by `one`, `empty`, `map`,
 //! `seq`, `lead`, `select`, `opt`, `alt` and `many`, with what it spells, what is a front of it and
@@ -31,7 +31,7 @@ mod read_error;
 mod spelling;
 mod time;
 
-pub use keyword::{Keyword, reserved};
+pub use keyword::{Keyword, keyword_of};
 pub use lexed::{AddressKind, Delimiter, Lexed, LexicalCause, What};
 pub use lexer::token;
 pub use read_error::ReadError;

@@ -21,7 +21,7 @@ impl Operator {
 
     /// Of a comparison the one that holds of two numbers where the first does not; any other
     /// operator as it is.
-    pub fn turned(self) -> Operator
+    pub fn opposite(self) -> Operator
         ensures { result ≡ turned self }
     {
         match self {

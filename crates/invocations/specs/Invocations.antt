@@ -13,7 +13,7 @@ use Rattle.invocations.specs.declared.files.PlayFiles.{PlayFiles}
 use Rattle.invocations.specs.declared.inquiries.Inquiry.{Inquiry}
 use Rattle.invocations.specs.declared.inquiries.Inquiry.TheVariants.{Check, Step}
 use Rattle.invocations.specs.declared.invocations.Beside.{Beside}
-use Rattle.invocations.specs.declared.invocations.FrameWords.{FrameWords}
+use Rattle.invocations.specs.declared.invocations.GivenFrames.{GivenFrames}
 use Rattle.invocations.specs.declared.invocations.Invocation.{Invocation}
 use Rattle.invocations.specs.declared.invocations.Invocation.TheVariants as invocations
 use Rattle.invocations.specs.declared.invocations.Invocation.TheVariants.{Ask, CheckCode, Code, EventLine, Frame, Live}
@@ -27,8 +27,8 @@ use Rattle.invocations.specs.declared.line_words.LineWord.{LineWord}
 use Rattle.invocations.specs.declared.line_words.LineWordFault.{LineWordFault}
 use Rattle.invocations.specs.declared.questions.Question.{Question}
 use Rattle.invocations.specs.declared.questions.Question.TheVariants.{Faults, Notes, Words}
-use Rattle.invocations.specs.declared.tools.ListenEnd.{ListenEnd}
-use Rattle.invocations.specs.declared.tools.RequestWords.{RequestWords}
+use Rattle.invocations.specs.declared.tools.GivenListenEnd.{GivenListenEnd}
+use Rattle.invocations.specs.declared.tools.GivenRequest.{GivenRequest}
 use Rattle.invocations.specs.declared.tools.Tool.{Tool}
 use Rattle.invocations.specs.declared.tools.Tool.TheVariants.{Blink, Listen, Probe, Request}
 use Rattle.invocations.specs.declared.word_fault.WordFault.{WordFault}
@@ -198,18 +198,18 @@ AreAgainst found (Some files) =
     (first_of (codes "TEXT") found ≡ Some files.text.now) × (first_of (codes "BIND") found ≡ Some files.binding.now)
 
 -- when listening ends: the seconds and the path of the file that ends it, where they are given
-pub record IsListenEnd (found : List Row) (end : ListenEnd) : Type 0 where
+pub record IsListenEnd (found : List Row) (end : GivenListenEnd) : Type 0 where
   pub seconds : IsGivenNumber (one_of (codes "for") found) end.seconds
   pub stop : IsGivenPath (first_of (codes "stop") found) end.stop
 
 -- how a line is listened to: the path of the binding and that of the scenario, where they are given, and the end
-pub record IsListening (found : List Row) (binding scenario : Option (Bor Text)) (end : ListenEnd) : Type 0 where
+pub record IsListening (found : List Row) (binding scenario : Option (Bor Text)) (end : GivenListenEnd) : Type 0 where
   pub bound : IsGivenPath (first_of (codes "bind") found) binding
   pub recorded : IsGivenPath (first_of (codes "record") found) scenario
   pub ends : IsListenEnd found end
 
 -- the request that is asked for: its name, an address, and the values that are given
-pub record AreRequestWords (found : List Row) (words : RequestWords) : Type 0 where
+pub record AreRequestWords (found : List Row) (words : GivenRequest) : Type 0 where
   pub request : words.request.now ≡ given (first_of (codes "REQUEST") found)
   pub address : IsByte (one_of (codes "ADR") found) words.address
   pub value : IsGivenNumber (one_of (codes "VALUE") found) words.value
@@ -221,7 +221,7 @@ pub record AreCodeWords (found : List Row) (task to : Bor Text) : Type 0 where
   pub out : to.now ≡ given (first_of (codes "OUT") found)
 
 -- the words for frames, one that is always given and up to three more
-pub record AreFrameWords (found : List Row) (words : FrameWords) : Type 0 where
+pub record AreFrameWords (found : List Row) (words : GivenFrames) : Type 0 where
   pub first : words.first.now ≡ given (first_of (codes "HEX") found)
   pub others : map (option_map (λ word. word.now)) words.others
       ≡ first_of (codes "HEX2") found ∷ first_of (codes "HEX3") found ∷ first_of (codes "HEX4") found ∷ []

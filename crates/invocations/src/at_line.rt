@@ -11,7 +11,7 @@ use crate::files::LiveFiles;
 use crate::line_words::{LineWord, LineWordFault, paths_in};
 use crate::questions::word_in;
 use crate::readers::{given_number_in, text_in};
-use crate::tools::{ListenEnd, RequestWords, Tool};
+use crate::tools::{GivenListenEnd, GivenRequest, Tool};
 use clap::ArgMatches;
 
 /// What is done at one line by what was found under a command's name, where it is that of a command
@@ -115,20 +115,20 @@ fn against_in<'a>(found: &ArgMatches<'a>) -> Option<LiveFiles<'a>>
 }
 
 /// When listening ends.
-fn listen_end_in<'a>(found: &ArgMatches<'a>) -> ListenEnd<'a>
+fn listen_end_in<'a>(found: &ArgMatches<'a>) -> GivenListenEnd<'a>
     ensures { IsListenEnd (rows_of (found_of found.now)) result }
 {
-    ListenEnd {
+    GivenListenEnd {
         seconds: given_number_in(found, "for"),
         stop: word_in(found, "stop"),
     }
 }
 
 /// The request that is asked for.
-fn request_words_in<'a>(found: &ArgMatches<'a>) -> RequestWords<'a>
+fn request_words_in<'a>(found: &ArgMatches<'a>) -> GivenRequest<'a>
     ensures { AreRequestWords (rows_of (found_of found.now)) result }
 {
-    RequestWords {
+    GivenRequest {
         request: text_in(found, "REQUEST"),
         address: byte_in(found, "ADR"),
         value: given_number_in(found, "VALUE"),

@@ -59,7 +59,7 @@ pub enum Invocation<'a> {
     },
     /// `frame HEX [HEX2] [HEX3] [HEX4]`: what frames say.
     Frame {
-        words: FrameWords<'a>,
+        words: GivenFrames<'a>,
     },
     /// `event BIND B.K INFORMATION`: the scenario's line of an event.
     EventLine {
@@ -150,7 +150,7 @@ pub struct LookOptions<'a> {
 
 /// The words for frames, one to four.
 #[derive(Clone, Copy)]
-pub struct FrameWords<'a> {
+pub struct GivenFrames<'a> {
     /// The first, which is always given.
     pub first: &'a str,
     /// The others, of which those that are given come first.

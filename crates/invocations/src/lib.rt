@@ -33,11 +33,11 @@ pub use expected_words::{ExpectedFault, ExpectedWord, ExpectedWords, MOST_EXPECT
 pub use files::{Files, LiveFiles, PlayFiles};
 pub use inquiries::Inquiry;
 pub use invocations::{
-    Beside, FrameWords, Invocation, LiveOptions, LookOptions, PlayShows, RunSize,
+    Beside, GivenFrames, Invocation, LiveOptions, LookOptions, PlayShows, RunSize,
 };
 pub use line_words::{LineWord, LineWordFault, LineWords};
 pub use questions::{Question, word_in};
 pub use readers::invocation_of;
-pub use tools::{ListenEnd, RequestWords, Tool};
+pub use tools::{GivenListenEnd, GivenRequest, Tool};
 pub use watched_names::{MOST_WATCHED, WatchedFault, WatchedNames};
 pub use word_fault::WordFault;

@@ -11,7 +11,7 @@ ghost use Rattle.invocations.specs.WatchedNames.{AreWatched, IsSeventeenth};
 
 use crate::expected_words::{ExpectedFault, ExpectedWords, expected_of};
 use crate::files::PlayFiles;
-use crate::invocations::{FrameWords, Invocation, LookOptions, PlayShows};
+use crate::invocations::{GivenFrames, Invocation, LookOptions, PlayShows};
 use crate::questions::word_in;
 use crate::readers::{flag_in, given_number_in, number_in, play_files_in, text_in};
 use crate::watched_names::{WatchedFault, WatchedNames, watched_of};
@@ -102,10 +102,10 @@ fn look_options_in<'a>(found: &ArgMatches<'a>) -> LookOptions<'a>
 }
 
 /// The words for frames.
-pub(crate) fn frame_words_in<'a>(found: &ArgMatches<'a>) -> FrameWords<'a>
+pub(crate) fn frame_words_in<'a>(found: &ArgMatches<'a>) -> GivenFrames<'a>
     ensures { AreFrameWords (rows_of (found_of found.now)) result }
 {
-    FrameWords {
+    GivenFrames {
         first: text_in(found, "HEX"),
         others: [
             word_in(found, "HEX2"),

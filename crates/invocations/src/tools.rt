@@ -19,7 +19,7 @@ pub enum Tool<'a> {
         binding: Option<&'a str>,
         /// The path to which a scenario of what was heard goes, where one is given.
         record: Option<&'a str>,
-        end: ListenEnd<'a>,
+        end: GivenListenEnd<'a>,
     },
     /// `blink --line PATH ADR`: the short address, 0 to 63.
     Blink {
@@ -29,13 +29,13 @@ pub enum Tool<'a> {
     /// `ask --line PATH REQUEST ADR [VALUE] [VALUE2]`
     Request {
         line: LineWord<'a>,
-        words: RequestWords<'a>,
+        words: GivenRequest<'a>,
     },
 }
 
 /// When the listening at a line ends.
 #[derive(Clone, Copy)]
-pub struct ListenEnd<'a> {
+pub struct GivenListenEnd<'a> {
     /// The seconds after which it ends, where they are given.
     pub seconds: Option<u32>,
     /// The path of the file by which it is ended, where one is given.
@@ -45,7 +45,7 @@ pub struct ListenEnd<'a> {
 /// A request to what is on a bus, in words: the name of a function block, and the numbers of its
 /// ports after `REQ` and `BUS`.
 #[derive(Clone, Copy)]
-pub struct RequestWords<'a> {
+pub struct GivenRequest<'a> {
     /// The block's name.
     pub request: &'a str,
     /// The number of its port `ADR`, 0 to 80.

@@ -40,7 +40,7 @@ impl LeftOut {
     }
 
     /// The value.
-    pub fn kept(&self) -> &KeptValue
+    pub fn kept_value(&self) -> &KeptValue
         ensures value { result.now ≡ self.now }
     {
         &self.kept

@@ -5,7 +5,7 @@ ghost use Rattle.buslink.specs.ClockLog.{IsNotBefore, TellsEnd, after_now};
 ghost use Rattle.liveclock.specs.ClockStates.{fresh_clock, with_moment};
 
 use crate::moments::{millis_since, next_period, sleep_until};
-use crate::stops::Stop;
+use crate::stops::StopCondition;
 use buslink::Clock;
 use memo::Trace;
 use std::io;
@@ -15,7 +15,7 @@ use std::time::{Clock as Timer, Instant};
 
 /// A clock of milliseconds since it was made. What it gave has no bytes.
 #[derive(Drop)]
-pub struct LiveClock<T: Timer, S: Stop> {
+pub struct LiveClock<T: Timer, S: StopCondition> {
     timer: T,
     stop: S,
     start: Instant,
@@ -30,7 +30,7 @@ pub struct LiveClock<T: Timer, S: Stop> {
     gave_none: bool,
 }
 
-impl<T: Timer, S: Stop> Model for LiveClock<T, S> {
+impl<T: Timer, S: StopCondition> Model for LiveClock<T, S> {
     ghost use Rattle.std.specs.Prelude.{◌≤◌, All, None, reverse};
     ghost use Rattle.liveclock.specs.ClockStates.{ClockState};
 
@@ -49,7 +49,7 @@ impl<T: Timer, S: Stop> Model for LiveClock<T, S> {
     ghost invariant = { λ c. All (λ earlier. earlier ≤ c.latest) (reverse c.given.items) };
 }
 
-impl<T: Timer + Drop, S: Stop> LiveClock<T, S> {
+impl<T: Timer + Drop, S: StopCondition> LiveClock<T, S> {
     /// A clock that gives a moment in each period, the first at once, and none after `until`.
     ///
     /// # Errors
@@ -103,7 +103,7 @@ impl<T: Timer + Drop, S: Stop> LiveClock<T, S> {
     }
 }
 
-impl<T: Timer + Drop, S: Stop> Clock for LiveClock<T, S> {
+impl<T: Timer + Drop, S: StopCondition> Clock for LiveClock<T, S> {
     ghost log = { λ c. c.log };
 
     fn now(&mut self) -> Option<u64>

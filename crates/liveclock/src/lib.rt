@@ -1,6 +1,6 @@
 //! The clock of a building: milliseconds since it was made.
 //!
-//! What crosses the boundary: a timer of the machine, a period and a [`Stop`] go in. A
+//! What crosses the boundary: a timer of the machine, a period and a [`StopCondition`] go in. A
 //! [`Clock`](buslink::Clock) comes out, which sleeps until the next whole period before it gives a
 //! moment, so that a history has few ticks. It ends when it is asked to stop, when its time is up,
 //! or when the timer fails. It keeps no list, so it takes no memory and is never used up. The
@@ -18,4 +18,4 @@ mod moments;
 mod stops;
 
 pub use clocks::LiveClock;
-pub use stops::{NoStop, Stop, StopFile};
+pub use stops::{NoStop, StopCondition, StopFile};

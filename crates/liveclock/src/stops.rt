@@ -4,7 +4,7 @@ use std::fs;
 use std::rt::Files;
 
 /// What a clock asks before each moment: whether it is to end.
-pub trait Stop: Drop {
+pub trait StopCondition: Drop {
     /// Whether the end is wanted.
     fn is_wanted(&self) -> bool;
 }
@@ -13,7 +13,7 @@ pub trait Stop: Drop {
 #[derive(Clone, Copy)]
 pub struct NoStop;
 
-impl Stop for NoStop {
+impl StopCondition for NoStop {
     fn is_wanted(&self) -> bool {
         false
     }
@@ -26,7 +26,7 @@ pub struct StopFile<'a, R> {
     pub path: &'a str,
 }
 
-impl<R: Files> Stop for StopFile<'_, R> {
+impl<R: Files> StopCondition for StopFile<'_, R> {
     fn is_wanted(&self) -> bool {
         fs::exists(self.rt, self.path).unwrap_or(false)
     }

@@ -2,7 +2,7 @@
 
 use crate::name_causes::advice_of;
 use crate::said::Said;
-use curing::{Answer, Asked, Edit, Example, Spot};
+use curing::{AskedText, Edit, Example, FaultAnswer, Spot};
 use ilscope::NameCause;
 use iltokens::{AddressKind, Lexed, What, token};
 use std::alloc::{AllocError, Global};
@@ -60,7 +60,7 @@ impl Located {
 /// What is said of an address of something that is not there.
 pub(crate) fn answer_address(
     alloc: Global,
-    asked: &Asked,
+    asked: &AskedText,
     spot: &Spot,
 ) -> Result<Said, AllocError> {
     let Some(located) = located_at(spot) else {
@@ -93,8 +93,8 @@ fn located_at(spot: &Spot) -> Option<Located> {
 }
 
 /// What is said of SINGLE with a variable that is no trigger.
-fn no_trigger(alloc: Global) -> Result<Answer, AllocError> {
-    Ok(Answer {
+fn no_trigger(alloc: Global) -> Result<FaultAnswer, AllocError> {
+    Ok(FaultAnswer {
         what: String::from_str(alloc, "a variable that is no trigger")?,
         facts: String::new(alloc),
         cure: String::from_str(
@@ -111,11 +111,11 @@ fn no_trigger(alloc: Global) -> Result<Answer, AllocError> {
 }
 
 /// What is said of a bus that the binding lacks.
-fn no_bus(alloc: Global, asked: &Asked, located: Located) -> Result<Answer, AllocError> {
+fn no_bus(alloc: Global, asked: &AskedText, located: Located) -> Result<FaultAnswer, AllocError> {
     let bus = located.bus;
     let word = located.word();
     let place = located.place;
-    Ok(Answer {
+    Ok(FaultAnswer {
         what: format!(in alloc; "there is no bus {bus}")?,
         facts: buses_told(alloc, asked)?,
         cure: String::from_str(alloc, bus_cure(asked.is_bound))?,
@@ -133,7 +133,7 @@ fn bus_cure(is_bound: bool) -> &'static str {
 }
 
 /// How many buses there are, as a line.
-fn buses_told(alloc: Global, asked: &Asked) -> Result<String, AllocError> {
+fn buses_told(alloc: Global, asked: &AskedText) -> Result<String, AllocError> {
     if !asked.is_bound {
         return String::from_str(alloc, "without --bind there is one bus, which is bus 0\n");
     }
@@ -147,7 +147,7 @@ fn buses_told(alloc: Global, asked: &Asked) -> Result<String, AllocError> {
 }
 
 /// What is said of a number behind the dot that is too big.
-fn no_place(alloc: Global, located: Located) -> Result<Answer, AllocError> {
+fn no_place(alloc: Global, located: Located) -> Result<FaultAnswer, AllocError> {
     let word = located.word();
     let most = located.most();
     let bus = located.bus;
@@ -162,7 +162,7 @@ fn no_place(alloc: Global, located: Located) -> Result<Answer, AllocError> {
         }
         AddressKind::InputBit => "triggers are 0 to 63, as the sources of the binding",
     };
-    Ok(Answer {
+    Ok(FaultAnswer {
         what: format!(in alloc; "the number behind the dot of {word} is at most {most}")?,
         facts: String::new(alloc),
         cure: String::from_str(alloc, cure)?,
@@ -173,14 +173,14 @@ fn no_place(alloc: Global, located: Located) -> Result<Answer, AllocError> {
 /// What is said of a source that the binding lacks.
 fn no_source(
     alloc: Global,
-    asked: &Asked,
+    asked: &AskedText,
     spot: &Spot,
     located: Located,
     number: u64,
     added: u64,
 ) -> Result<Said, AllocError> {
     let bus = located.bus;
-    let answer = Answer {
+    let answer = FaultAnswer {
         what: format!(in alloc; "there is no source {bus}.{number}")?,
         facts: sources_told(alloc, asked)?,
         cure: String::from_str(alloc, source_cure(asked.is_bound))?,
@@ -199,7 +199,7 @@ fn source_cure(is_bound: bool) -> &'static str {
 }
 
 /// The sources that there are, as a line.
-fn sources_told(alloc: Global, asked: &Asked) -> Result<String, AllocError> {
+fn sources_told(alloc: Global, asked: &AskedText) -> Result<String, AllocError> {
     if !asked.is_bound {
         return String::from_str(alloc, "without --bind there is no source of events\n");
     }
@@ -226,7 +226,7 @@ fn sources_told(alloc: Global, asked: &Asked) -> Result<String, AllocError> {
 /// The addresses of sources of the binding in place of this one.
 fn source_edits(
     alloc: Global,
-    asked: &Asked,
+    asked: &AskedText,
     spot: &Spot,
     located: Located,
     added: u64,

@@ -1,7 +1,7 @@
 //! What is said of bad declarations.
 
 use crate::said::Said;
-use curing::{Advice, Answer, Asked, Edit, Spot, line_number, line_of, part, shown};
+use curing::{Advice, AskedText, Edit, FaultAnswer, Spot, line_number, line_of, part, shown_text};
 use ilsource::{
     Configuration, Constant, Declaration, Declared, Element, GlobalDeclaration, Name, Source,
     Specification, TaskDeclaration,
@@ -75,7 +75,7 @@ const LOCATED: Advice = Advice {
 /// What is said of a bad declaration at a place, where it is known.
 pub(crate) fn answer_declaration(
     alloc: Global,
-    asked: &Asked,
+    asked: &AskedText,
     source: &Source,
     spot: &Spot,
 ) -> Result<Option<Said>, AllocError> {
@@ -117,7 +117,7 @@ fn of_type_or_function(element: &Element, at: usize) -> Option<Advice> {
             let found = declaration_at(function.inputs(), at);
             match found
                 .or(declaration_at(function.variables(), at))?
-                .declared()
+                .declared_kind()
             {
                 Declared::Variables {
                     specification,
@@ -141,12 +141,12 @@ fn of_advice(alloc: Global, advice: Option<Advice>) -> Result<Option<Said>, Allo
 /// What is said of a declaration of a program.
 fn of_declaration(
     alloc: Global,
-    asked: &Asked,
+    asked: &AskedText,
     source: &Source,
     spot: &Spot,
     declaration: &Declaration,
 ) -> Result<Option<Said>, AllocError> {
-    match declaration.declared() {
+    match declaration.declared_kind() {
         Declared::External(_) => different(alloc, asked, source, spot),
         Declared::Variables {
             specification,
@@ -217,7 +217,7 @@ fn of_global(global: &GlobalDeclaration) -> Option<Advice> {
 /// and the type that it could have.
 fn different(
     alloc: Global,
-    asked: &Asked,
+    asked: &AskedText,
     source: &Source,
     spot: &Spot,
 ) -> Result<Option<Said>, AllocError> {
@@ -225,8 +225,8 @@ fn different(
         return Ok(None);
     };
     let line = line_number(asked.text, name.from);
-    let found = shown(alloc, line_of(asked.text, line))?;
-    let answer = Answer::of(alloc, DIFFERENT)?.with_facts(format!(in alloc;
+    let found = shown_text(alloc, line_of(asked.text, line))?;
+    let answer = FaultAnswer::of(alloc, DIFFERENT)?.with_facts(format!(in alloc;
         "in VAR_GLOBAL:\n{line:>6} | {found}\n"
     )?);
     let (from, to) = type_behind(asked.text, spot.at);
@@ -240,7 +240,7 @@ fn global_named(source: &Source, spot: &Spot) -> Option<Name> {
     let configuration = source.configuration()?;
     for global in configuration.globals() {
         for name in global.names() {
-            if name.text(spot.text).eq_ignore_ascii_case(spot.found()) {
+            if name.text(spot.text).eq_ignore_ascii_case(spot.token()) {
                 return Some(*name);
             }
         }

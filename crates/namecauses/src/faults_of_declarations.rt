@@ -5,7 +5,9 @@ use ildeclared::{
     DeclaredTypes, declared_type, fault_of, fault_of_result, function_names, names_of,
 };
 use ilscope::{NameCause, Names};
-use ilsource::{Declaration, Declared, Element, Function, Name, Program, Source, TypeDeclaration};
+use ilsource::{
+    Declaration, Declared, Element, Name, Program, Source, SourceFunction, TypeDeclaration,
+};
 use std::alloc::{AllocError, Global};
 
 /// Adds the faults of types, functions and programs; what each type of the text means. `lower` is
@@ -82,7 +84,7 @@ fn add_function(
     faults: &mut Faults,
     lower: &[u8],
     types: &DeclaredTypes,
-    function: &Function,
+    function: &SourceFunction,
 ) -> Result<(), AllocError> {
     let names = function_names(alloc, function)?;
     let has_no_input = function.inputs().is_empty();
@@ -119,7 +121,7 @@ fn add_declarations(
     declarations: &[Declaration],
 ) -> Result<(), AllocError> {
     for one in declarations {
-        faults.add_found(fault_of(lower, types, one.names(), one.declared()))?;
+        faults.add_found(fault_of(lower, types, one.names(), one.declared_kind()))?;
     }
     Ok(())
 }
@@ -128,7 +130,7 @@ fn add_declarations(
 fn add_blocks(faults: &mut Faults, declarations: &[Declaration]) -> Result<(), AllocError> {
     for one in declarations {
         if let Some(name) = one.names().first() {
-            let is_block = matches!(one.declared(), Declared::Blocks(_));
+            let is_block = matches!(one.declared_kind(), Declared::Blocks(_));
             faults.add_where(is_block, name.from, NameCause::BadDeclaration)?;
         }
     }

@@ -4,7 +4,8 @@ use crate::all_faults::lower_case;
 use crate::faults_of_lines::uses_of;
 use ilscope::Names;
 use ilsource::{
-    Declaration, Declared, Element, Function, Line, Name, Operand, Purpose, Source, Symbol, Use,
+    Declaration, Declared, Element, Line, Name, Operand, Purpose, Source, SourceFunction, Symbol,
+    Use,
 };
 use std::alloc::{AllocError, Global};
 
@@ -80,7 +81,7 @@ pub(crate) fn standing_of(
 fn standing_as_function(
     alloc: Global,
     source: &Source,
-    function: &Function,
+    function: &SourceFunction,
     number: usize,
 ) -> Result<Standing, AllocError> {
     let depths = depths(alloc, source)?;
@@ -106,7 +107,7 @@ fn shared(source: &Source, name: Name) -> Option<Standing> {
 /// What stands at a place behind a function's name, if it is one of its names.
 fn standing_in(
     alloc: Global,
-    function: &Function,
+    function: &SourceFunction,
     at: usize,
 ) -> Result<Option<Standing>, AllocError> {
     if let Some(number) = input_at(function, at) {
@@ -114,7 +115,7 @@ fn standing_in(
     }
     for declaration in function.variables() {
         if declaration.names().iter().any(|name| name.from == at) {
-            let is_block = matches!(declaration.declared(), Declared::Blocks(_));
+            let is_block = matches!(declaration.declared_kind(), Declared::Blocks(_));
             return Ok(Some(Standing::Variable { is_block }));
         }
     }
@@ -122,7 +123,7 @@ fn standing_in(
 }
 
 /// How many inputs a function has before the one at a place, where one is there.
-fn input_at(function: &Function, at: usize) -> Option<usize> {
+fn input_at(function: &SourceFunction, at: usize) -> Option<usize> {
     let mut number: usize = 0;
     for declaration in function.inputs() {
         for name in declaration.names() {
@@ -191,7 +192,7 @@ fn depths(alloc: Global, source: &Source) -> Result<Vec<usize>, AllocError> {
 fn deepest_called(
     alloc: Global,
     text: &[u8],
-    function: &Function,
+    function: &SourceFunction,
     numbers: &Names<usize>,
     depths: &[usize],
 ) -> Result<usize, AllocError> {

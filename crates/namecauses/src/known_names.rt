@@ -225,7 +225,7 @@ fn unsure_in(
 ) -> Result<Names<()>, AllocError> {
     let mut names = Names::new(alloc);
     for declaration in declarations {
-        if is_unsure(scope, types, declaration.declared()) {
+        if is_unsure(scope, types, declaration.declared_kind()) {
             add_each(alloc, scope, &mut names, declaration.names())?;
         }
     }

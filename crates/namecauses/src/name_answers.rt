@@ -8,7 +8,7 @@ use crate::name_habits::name_habit;
 use crate::occurrences::{label_line, lines_of_stores, other_line};
 use crate::said::Said;
 use crate::scopes::answer_scope;
-use curing::{Answer, Asked, Edit, Spot};
+use curing::{AskedText, Edit, FaultAnswer, Spot};
 use ilscope::NameCause;
 use ilsource::Source;
 use iltext::parse;
@@ -21,10 +21,10 @@ use std::alloc::{AllocError, Global};
 /// The allocator is out of memory.
 pub fn answer_name(
     alloc: Global,
-    asked: &Asked,
+    asked: &AskedText,
     at: usize,
     cause: NameCause,
-) -> Result<Answer, AllocError> {
+) -> Result<FaultAnswer, AllocError> {
     // The text was parsed before, so that memory alone is refused here.
     let Ok(source) = parse(alloc, asked.text) else {
         return Err(AllocError);
@@ -37,7 +37,7 @@ pub fn answer_name(
 /// What is wrong, of a cause at a place of a text.
 pub(crate) fn what_of(
     alloc: Global,
-    asked: &Asked,
+    asked: &AskedText,
     source: &Source,
     at: usize,
     cause: NameCause,
@@ -50,19 +50,19 @@ pub(crate) fn what_of(
 /// What is said of a cause, with changes that may cure it.
 fn said_of(
     alloc: Global,
-    asked: &Asked,
+    asked: &AskedText,
     source: &Source,
     spot: &Spot,
     cause: NameCause,
 ) -> Result<Said, AllocError> {
-    let plain = Answer::of(alloc, advice_of(cause))?;
+    let plain = FaultAnswer::of(alloc, advice_of(cause))?;
     match cause {
         NameCause::Unknown => unknown(alloc, source, spot),
         NameCause::UnknownLabel => Ok(Said::with_near(plain)),
         NameCause::BadAddress => answer_address(alloc, asked, spot),
         NameCause::Twice => {
-            let answer = if spot.found().starts_with(b"%") {
-                Answer::of(alloc, SHARED_ADDRESS)?
+            let answer = if spot.token().starts_with(b"%") {
+                FaultAnswer::of(alloc, SHARED_ADDRESS)?
             } else {
                 named(alloc, source, spot, cause)?
             };
@@ -93,16 +93,16 @@ fn named(
     source: &Source,
     spot: &Spot,
     cause: NameCause,
-) -> Result<Answer, AllocError> {
+) -> Result<FaultAnswer, AllocError> {
     match function_causes::advice_of(alloc, source, spot.at, cause)? {
-        Some(advice) => Answer::of(alloc, advice),
-        None => Answer::of(alloc, advice_of(cause)),
+        Some(advice) => FaultAnswer::of(alloc, advice),
+        None => FaultAnswer::of(alloc, advice_of(cause)),
     }
 }
 
 /// What is said of a name that is not declared.
 fn unknown(alloc: Global, source: &Source, spot: &Spot) -> Result<Said, AllocError> {
-    let Some((_, word, advice)) = name_habit(spot.found()) else {
+    let Some((_, word, advice)) = name_habit(spot.token()) else {
         return match answer_scope(alloc, source, spot)? {
             Some(said) => Ok(said),
             None => Ok(Said::with_near(named(alloc, source, spot, NameCause::Unknown)?)),
@@ -112,16 +112,16 @@ fn unknown(alloc: Global, source: &Source, spot: &Spot) -> Result<Said, AllocErr
         return Said::of(alloc, advice);
     }
     let edit = Edit::new(alloc, spot.at, spot.found_to(), word.as_bytes())?;
-    Said::with_edit(alloc, Answer::of(alloc, advice)?, edit)
+    Said::with_edit(alloc, FaultAnswer::of(alloc, advice)?, edit)
 }
 
 /// What is said of an instance without a task: it could have the first.
 fn with_task(
     alloc: Global,
-    asked: &Asked,
+    asked: &AskedText,
     source: &Source,
     spot: &Spot,
-    answer: Answer,
+    answer: FaultAnswer,
 ) -> Result<Said, AllocError> {
     let Some(configuration) = source.configuration() else {
         return Ok(Said::plain(alloc, answer));

@@ -1,7 +1,7 @@
 //! Names and words that are near to one that is not declared.
 
 use crate::said::is_cure;
-use curing::{Asked, Edit, Spot, is_near, near_word, part};
+use curing::{AskedText, Edit, Spot, is_near, near_word, part};
 use iltokens::{Lexed, What, token};
 use std::alloc::{AllocError, Global};
 
@@ -11,10 +11,10 @@ const MOST_TRIED: usize = 8;
 /// A reserved word, or a name of the text, that is near to what was found and helps in its place.
 pub(crate) fn near_edit(
     alloc: Global,
-    asked: &Asked,
+    asked: &AskedText,
     spot: &Spot,
 ) -> Result<Option<Edit>, AllocError> {
-    if let Some(word) = near_word(spot.found()) {
+    if let Some(word) = near_word(spot.token()) {
         let edit = Edit::new(alloc, spot.at, spot.found_to(), word.as_bytes())?;
         if is_cure(alloc, asked, &edit)? {
             return Ok(Some(edit));
@@ -43,7 +43,7 @@ fn near_names(alloc: Global, spot: &Spot) -> Result<Vec<(usize, usize)>, AllocEr
         };
         at = to;
         let name = spot.part(from, to);
-        if what == What::Name && is_near(name, spot.found()) && !is_known(&near, spot, name) {
+        if what == What::Name && is_near(name, spot.token()) && !is_known(&near, spot, name) {
             near.push((from, to))?;
         }
     }

@@ -134,7 +134,7 @@ fn next_of(text: &[u8], at: usize) -> Option<What> {
 /// Whether a token is the name or the address that was found.
 fn is_same(spot: &Spot, what: What, from: usize, to: usize) -> bool {
     match what {
-        What::Name => part(spot.text, from, to).eq_ignore_ascii_case(spot.found()),
+        What::Name => part(spot.text, from, to).eq_ignore_ascii_case(spot.token()),
         What::Address { .. } => next_of(spot.text, spot.at) == Some(what),
         _ => false,
     }

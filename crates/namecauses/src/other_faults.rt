@@ -2,7 +2,7 @@
 
 use crate::all_faults::all_faults;
 use crate::name_answers::what_of;
-use curing::{Asked, place_of};
+use curing::{AskedText, place_of};
 use ilscope::{Found, NameCause, NameFault, report_of};
 use ilsource::Source;
 use iltext::parse;
@@ -39,7 +39,7 @@ impl OtherFaults {
     /// The allocator is out of memory.
     pub fn of(
         alloc: Global,
-        asked: &Asked,
+        asked: &AskedText,
         line: usize,
         col: usize,
         cause: NameCause,
@@ -70,7 +70,7 @@ impl OtherFaults {
     fn add(
         &mut self,
         alloc: Global,
-        asked: &Asked,
+        asked: &AskedText,
         source: &Source,
         found: Found,
     ) -> Result<(), AllocError> {

@@ -1,13 +1,13 @@
 //! What is said of a fault of names, with changes that may cure it.
 
 use crate::near_names::near_edit;
-use curing::{Advice, Answer, Asked, Edit, Outcome, Spot};
+use curing::{Advice, AskedText, Edit, EditOutcome, FaultAnswer, Spot};
 use std::alloc::{AllocError, Global};
 
 /// What is said of a fault of names, with changes that may cure it.
 #[derive(Drop)]
 pub(crate) struct Said {
-    pub answer: Answer,
+    pub answer: FaultAnswer,
     changes: Changes,
 }
 
@@ -21,7 +21,7 @@ enum Changes {
 
 impl Said {
     /// An answer, with no change.
-    pub(crate) fn plain(alloc: Global, answer: Answer) -> Said {
+    pub(crate) fn plain(alloc: Global, answer: FaultAnswer) -> Said {
         Said {
             answer,
             changes: Changes::Edits(Vec::new(alloc)),
@@ -30,11 +30,11 @@ impl Said {
 
     /// What advice says, with no change.
     pub(crate) fn of(alloc: Global, advice: Advice) -> Result<Said, AllocError> {
-        Ok(Said::plain(alloc, Answer::of(alloc, advice)?))
+        Ok(Said::plain(alloc, FaultAnswer::of(alloc, advice)?))
     }
 
     /// An answer, with what is near to what was found.
-    pub(crate) fn with_near(answer: Answer) -> Said {
+    pub(crate) fn with_near(answer: FaultAnswer) -> Said {
         Said {
             answer,
             changes: Changes::Near,
@@ -42,14 +42,18 @@ impl Said {
     }
 
     /// An answer, with a change.
-    pub(crate) fn with_edit(alloc: Global, answer: Answer, edit: Edit) -> Result<Said, AllocError> {
+    pub(crate) fn with_edit(
+        alloc: Global,
+        answer: FaultAnswer,
+        edit: Edit,
+    ) -> Result<Said, AllocError> {
         let mut edits = Vec::new(alloc);
         edits.push(edit)?;
         Ok(Said::with_edits(answer, edits))
     }
 
     /// An answer, with changes.
-    pub(crate) fn with_edits(answer: Answer, edits: Vec<Edit>) -> Said {
+    pub(crate) fn with_edits(answer: FaultAnswer, edits: Vec<Edit>) -> Said {
         Said {
             answer,
             changes: Changes::Edits(edits),
@@ -60,9 +64,9 @@ impl Said {
     pub(crate) fn tried(
         self,
         alloc: Global,
-        asked: &Asked,
+        asked: &AskedText,
         spot: &Spot,
-    ) -> Result<Answer, AllocError> {
+    ) -> Result<FaultAnswer, AllocError> {
         let Said { answer, changes } = self;
         let found = match changes {
             Changes::Edits(edits) => first_cure(alloc, asked, edits)?,
@@ -76,7 +80,11 @@ impl Said {
 }
 
 /// The first of some changes that helps.
-fn first_cure(alloc: Global, asked: &Asked, edits: Vec<Edit>) -> Result<Option<Edit>, AllocError> {
+fn first_cure(
+    alloc: Global,
+    asked: &AskedText,
+    edits: Vec<Edit>,
+) -> Result<Option<Edit>, AllocError> {
     for edit in edits {
         if is_cure(alloc, asked, &edit)? {
             return Ok(Some(edit));
@@ -86,10 +94,10 @@ fn first_cure(alloc: Global, asked: &Asked, edits: Vec<Edit>) -> Result<Option<E
 }
 
 /// Whether the names of a text with a change have no fault up to the change.
-pub(crate) fn is_cure(alloc: Global, asked: &Asked, edit: &Edit) -> Result<bool, AllocError> {
+pub(crate) fn is_cure(alloc: Global, asked: &AskedText, edit: &Edit) -> Result<bool, AllocError> {
     Ok(match edit.outcome(alloc, asked)? {
-        Outcome::Accepted | Outcome::Code { .. } => true,
-        Outcome::Name { is_later, .. } => is_later,
-        Outcome::Text => false,
+        EditOutcome::Accepted | EditOutcome::Code { .. } => true,
+        EditOutcome::Name { is_later, .. } => is_later,
+        EditOutcome::Text => false,
     })
 }

@@ -2,7 +2,7 @@
 
 use crate::declarations::type_behind;
 use crate::said::Said;
-use curing::{Advice, Answer, Edit, Example, Spot, Surroundings, part, shown};
+use curing::{Advice, Edit, Example, FaultAnswer, Spot, Surroundings, part, shown_text};
 use ilblocks::BlockKind;
 use ilsource::{Declaration, Declared, Element, Name, Source};
 use iltokens::{Delimiter, Keyword, Lexed, What, token};
@@ -54,14 +54,14 @@ pub(crate) fn answer_scope(
     let around = Surroundings::of(spot.text, spot.at);
     let next = token_at(spot.text, spot.found_to());
     if around.is_in_configuration() && around.block.is_none() {
-        return Ok(Some(Said::with_near(Answer::of(alloc, IN_CONFIGURATION)?)));
+        return Ok(Some(Said::with_near(FaultAnswer::of(alloc, IN_CONFIGURATION)?)));
     }
     if around.block.is_some() && is_type(spot, &around) {
-        return Ok(Some(Said::with_near(Answer::of(alloc, NO_TYPE)?)));
+        return Ok(Some(Said::with_near(FaultAnswer::of(alloc, NO_TYPE)?)));
     }
     let declarations = declarations_at(source, spot.at);
     if next == Some(What::Delimiter(Delimiter::Dot)) {
-        if let Some(kind) = block_named(declarations, spot, spot.found()) {
+        if let Some(kind) = block_named(declarations, spot, spot.token()) {
             return Ok(Some(Said::plain(alloc, no_port(alloc, kind)?)));
         }
     }
@@ -81,8 +81,8 @@ fn of_variable(
     spot: &Spot,
     declarations: &[Declaration],
 ) -> Result<Option<Said>, AllocError> {
-    let is_first = spot.first_word() == spot.found();
-    if block_named(declarations, spot, spot.found()).is_some() {
+    let is_first = spot.first_word() == spot.token();
+    if block_named(declarations, spot, spot.token()).is_some() {
         return if is_first {
             with_word(alloc, spot, NO_CALL, "CAL ")
         } else {
@@ -110,7 +110,7 @@ fn with_word(
     word: &str,
 ) -> Result<Option<Said>, AllocError> {
     let edit = Edit::new(alloc, spot.at, spot.at, word.as_bytes())?;
-    let answer = Answer::of(alloc, advice)?;
+    let answer = FaultAnswer::of(alloc, advice)?;
     Ok(Some(Said::with_edit(alloc, answer, edit)?))
 }
 
@@ -138,7 +138,7 @@ fn declarations_at(source: &Source, at: usize) -> &[Declaration] {
 /// The kind of the block instance of a name.
 fn block_named(declarations: &[Declaration], spot: &Spot, name: &[u8]) -> Option<BlockKind> {
     for declaration in declarations {
-        if let Declared::Blocks(kind) = declaration.declared() {
+        if let Declared::Blocks(kind) = declaration.declared_kind() {
             if has_name(declaration.names(), spot, name) {
                 return Some(kind);
             }
@@ -151,7 +151,7 @@ fn block_named(declarations: &[Declaration], spot: &Spot, name: &[u8]) -> Option
 fn is_named(declarations: &[Declaration], spot: &Spot) -> bool {
     declarations
         .iter()
-        .any(|one| has_name(one.names(), spot, spot.found()))
+        .any(|one| has_name(one.names(), spot, spot.token()))
 }
 
 /// Whether one of the names is spelled so.
@@ -166,7 +166,7 @@ fn global_named(source: &Source, spot: &Spot) -> Option<Name> {
     let configuration = source.configuration()?;
     for global in configuration.globals() {
         for name in global.names() {
-            if name.text(spot.text).eq_ignore_ascii_case(spot.found()) {
+            if name.text(spot.text).eq_ignore_ascii_case(spot.token()) {
                 return Some(*name);
             }
         }
@@ -210,14 +210,14 @@ fn token_at(text: &[u8], at: usize) -> Option<What> {
 }
 
 /// What is said of a port that a block does not have.
-fn no_port(alloc: Global, kind: BlockKind) -> Result<Answer, AllocError> {
+fn no_port(alloc: Global, kind: BlockKind) -> Result<FaultAnswer, AllocError> {
     let mut facts = String::from_str(alloc, "its ports: ")?;
     for (index, port) in kind.ports().iter().enumerate() {
         facts.push_str(if index == 0 { "" } else { ", " })?;
-        facts.push_str(shown(alloc, port.name.spelling())?.as_str())?;
+        facts.push_str(shown_text(alloc, port.name.spelling())?.as_str())?;
     }
     facts.push_str("\n")?;
-    Ok(Answer {
+    Ok(FaultAnswer {
         what: String::from_str(alloc, "a port that the block does not have")?,
         facts,
         cure: String::from_str(alloc, "write one of its ports")?,
@@ -226,11 +226,11 @@ fn no_port(alloc: Global, kind: BlockKind) -> Result<Answer, AllocError> {
 }
 
 /// What is said of a global variable that the program does not name in VAR_EXTERNAL.
-fn no_external(alloc: Global, spot: &Spot, name: Name) -> Result<Answer, AllocError> {
+fn no_external(alloc: Global, spot: &Spot, name: Name) -> Result<FaultAnswer, AllocError> {
     let (from, to) = type_behind(spot.text, name.from);
-    let declared = shown(alloc, spot.part(from, to))?;
-    let found = shown(alloc, name.text(spot.text))?;
-    Ok(Answer {
+    let declared = shown_text(alloc, spot.part(from, to))?;
+    let found = shown_text(alloc, name.text(spot.text))?;
+    Ok(FaultAnswer {
         what: String::from_str(alloc, "a global variable that the program does not name")?,
         facts: String::new(alloc),
         cure: String::from_str(

@@ -51,7 +51,7 @@ impl Counts {
             }
         }
         for task in 0..plan.tasks() {
-            let more = more_than(&mut self.lost, task, plant.lost(task));
+            let more = more_than(&mut self.lost, task, plant.loss_count(task));
             if more > 0 {
                 writeln!(out, "{stamp} ! lost {}: {more}", plan.task_name(task))?;
             }

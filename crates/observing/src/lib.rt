@@ -1,15 +1,16 @@
 //! What is written beside a running building: a log of its events in words, a record that plays
 //! again, its status, and the values that it keeps.
 //!
-//! What crosses the boundary: an [`Observer`] is a `turns::Gate`, so each worker tells it what it
-//! did, with its place in the history, once the plant is unlocked. What was told waits until all
-//! before it was told too. At each tick the clock's worker takes what is in order: it repeats it on a
-//! plant of its own, whose variables, queues and counts the lines show, and writes. So no scan and no
-//! frame waits for a file. [`Storage`] is where files go. Nothing that an observer does reaches the
-//! plant or a bus; a file that can't be written is told once and given up, and the building goes on.
+//! What crosses the boundary: a [`BuildingObserver`] is a `turns::Gate`, so each worker tells it
+//! what it did, with its place in the history, once the plant is unlocked. What was told waits
+//! until all before it was told too. At each tick the clock's worker takes what is in order: it
+//! repeats it on a plant of its own, whose variables, queues and counts the lines show, and writes.
+//! So no scan and no frame waits for a file. [`Storage`] is where files go. Nothing that an
+//! observer does reaches the plant or a bus; a file that can't be written is told once and given
+//! up, and the building goes on.
 //!
 //! ```text
-//! let observer = Observer::open(rt, alloc, &storage, &beside, setup, workers, text)?;
+//! let observer = BuildingObserver::open(rt, alloc, &storage, &beside, setup, workers, text)?;
 //! // the building runs, with the observer as its gate
 //! observer.finish();
 //! ```
@@ -29,6 +30,6 @@ mod status;
 mod storage;
 mod unsorted;
 
-pub use observer::Observer;
+pub use observer::BuildingObserver;
 pub use pages::NotOpened;
 pub use storage::Storage;

@@ -11,7 +11,7 @@ use turns::{Gate, Happened};
 
 /// Who is told by the workers of a building what happened, and writes it beside.
 #[derive(Drop)]
-pub struct Observer<'o, 'a, S: Storage, R: Wait> {
+pub struct BuildingObserver<'o, 'a, S: Storage, R: Wait> {
     rt: &'o R,
     storage: &'o S,
     alloc: Global,
@@ -19,7 +19,7 @@ pub struct Observer<'o, 'a, S: Storage, R: Wait> {
     pages: Mutex<Pages<'o, 'a>>,
 }
 
-impl<'o, 'a, S: Storage, R: Wait> Observer<'o, 'a, S, R> {
+impl<'o, 'a, S: Storage, R: Wait> BuildingObserver<'o, 'a, S, R> {
     /// Opens the files that are wanted beside a building of this setup and this text.
     ///
     /// # Errors
@@ -33,9 +33,9 @@ impl<'o, 'a, S: Storage, R: Wait> Observer<'o, 'a, S, R> {
         setup: Setup,
         workers: usize,
         text: &'o [u8],
-    ) -> Result<Observer<'o, 'a, S, R>, NotOpened<'a>> {
+    ) -> Result<BuildingObserver<'o, 'a, S, R>, NotOpened<'a>> {
         let pages = Pages::open(alloc, storage, beside, setup, workers, text)?;
-        Ok(Observer {
+        Ok(BuildingObserver {
             rt,
             storage,
             alloc,
@@ -60,7 +60,7 @@ impl<'o, 'a, S: Storage, R: Wait> Observer<'o, 'a, S, R> {
 }
 
 /// No scan and no transaction is held back. The clock's worker writes, at each tick.
-impl<S: Storage + Sync, R: Wait + Sync> Gate for Observer<'_, '_, S, R> {
+impl<S: Storage + Sync, R: Wait + Sync> Gate for BuildingObserver<'_, '_, S, R> {
     fn before_scan(&self, _worker: usize, _task: usize) {}
 
     fn before_transaction(&self, _bus: u8) {}

@@ -52,7 +52,11 @@ pub(crate) fn write_lines<W: Write>(out: &mut W, status: &Status) -> io::Result<
         write_level(out, plan, status.levels, global)?;
     }
     for task in 0..plan.tasks() {
-        let (name, scans, lost) = (plan.task_name(task), plant.scans(task), plant.lost(task));
+        let (name, scans, lost) = (
+            plan.task_name(task),
+            plant.scans(task),
+            plant.loss_count(task),
+        );
         writeln!(out, "task {name} scans {scans} lost {lost}")?;
     }
     for global in 0..plan.globals() {
@@ -158,7 +162,11 @@ fn write_json_tasks<W: Write>(out: &mut W, plant: &Plant) -> io::Result<()> {
     let plan = plant.setup().plan();
     let mut before = "";
     for task in 0..plan.tasks() {
-        let (name, scans, lost) = (plan.task_name(task), plant.scans(task), plant.lost(task));
+        let (name, scans, lost) = (
+            plan.task_name(task),
+            plant.scans(task),
+            plant.loss_count(task),
+        );
         write!(
             out,
             "{before}{{\"task\":\"{name}\",\"scans\":{scans},\"lost\":{lost}}}"
@@ -206,7 +214,7 @@ pub(crate) fn dropped_at(plant: &Plant, bus: u8) -> u64
 {
     let mut dropped: u64 = 0;
     for class in CLASSES {
-        dropped = dropped.saturating_add(plant.dropped(bus, class));
+        dropped = dropped.saturating_add(plant.drop_count(bus, class));
     }
     dropped
 }

@@ -1,6 +1,6 @@
 //! Columns that are drawn in one place.
 
-use crate::{Column, Mark, Picture, Row, Sign};
+use crate::{Column, Picture, Row, RowMark, Sign};
 use std::alloc::{AllocError, Global};
 
 /// A picture in which the columns of one number are one column; the numbers rise from 0 on, without
@@ -68,7 +68,7 @@ fn gather_rows(alloc: Global, rows: Vec<Row>, numbers: &[usize]) -> Result<Vec<R
 
 /// A row, with one mark for each number.
 fn gather_row(alloc: Global, mut row: Row, numbers: &[usize]) -> Result<Row, AllocError> {
-    let mut marks: Vec<Mark> = Vec::new(alloc);
+    let mut marks: Vec<RowMark> = Vec::new(alloc);
     for mark in row.marks.iter() {
         if let Some(number) = numbers.get(mark.column) {
             add_mark(&mut marks, *number, mark.sign)?;
@@ -79,10 +79,10 @@ fn gather_row(alloc: Global, mut row: Row, numbers: &[usize]) -> Result<Row, All
 }
 
 /// Adds a mark at a number, where one stands already together with that one.
-fn add_mark(marks: &mut Vec<Mark>, column: usize, sign: Sign) -> Result<(), AllocError> {
+fn add_mark(marks: &mut Vec<RowMark>, column: usize, sign: Sign) -> Result<(), AllocError> {
     match marks.last_mut() {
         Some(last) if last.column == column => last.sign = graver_of(last.sign, sign),
-        _ => marks.push(Mark { column, sign })?,
+        _ => marks.push(RowMark { column, sign })?,
     }
     Ok(())
 }

@@ -28,6 +28,6 @@ mod text;
 mod text_cells;
 
 pub use moment::Moment;
-pub use parts::{Column, Mark, Picture, Row, Sign};
+pub use parts::{Column, Picture, Row, RowMark, Sign};
 pub use svg::write_svg;
 pub use text::write_text;

@@ -50,12 +50,12 @@ pub struct Row {
     /// The number that it is before its first mark, where it is a variable that is one.
     pub number: Option<i64>,
     /// What happened to it, by rising columns.
-    pub marks: Vec<Mark>,
+    pub marks: Vec<RowMark>,
 }
 
 /// What happened in a column of a row.
 #[derive(Clone, Copy)]
-pub struct Mark {
+pub struct RowMark {
     /// The column, counted from 0.
     pub column: usize,
     pub sign: Sign,
@@ -130,7 +130,7 @@ impl Row {
                 return Ok(());
             }
         }
-        self.marks.push(Mark { column, sign })?;
+        self.marks.push(RowMark { column, sign })?;
         Ok(())
     }
 
@@ -153,7 +153,7 @@ impl Row {
         }
         match self.marks.last_mut() {
             Some(last) if last.column >= column => last.sign = sign,
-            _ => self.marks.push(Mark { column, sign })?,
+            _ => self.marks.push(RowMark { column, sign })?,
         }
         Ok(())
     }

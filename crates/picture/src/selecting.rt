@@ -1,7 +1,7 @@
 //! A part of a picture: what happened on a bus, or from a moment to another.
 
 use crate::parts::{level_of, number_of};
-use crate::{Column, Mark, Picture, Row, Sign};
+use crate::{Column, Picture, Row, RowMark, Sign};
 use std::alloc::{AllocError, Global};
 
 impl Picture {

@@ -4,7 +4,7 @@ use crate::kinds::Kind;
 use crate::parts::level_of;
 use crate::sheet::Sheet;
 use crate::svg_elements::{write_circle, write_number, write_stroke, write_words};
-use crate::{Mark, Row, Sign};
+use crate::{Row, RowMark, Sign};
 use std::io;
 use std::io::Write;
 
@@ -80,7 +80,7 @@ fn is_trouble(sign: Sign) -> bool {
 }
 
 /// Where a mark stands.
-fn x_of(mark: &Mark, sheet: &Sheet) -> usize {
+fn x_of(mark: &RowMark, sheet: &Sheet) -> usize {
     sheet.place(mark.column).middle
 }
 

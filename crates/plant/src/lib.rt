@@ -2,11 +2,12 @@
 //!
 //! What crosses the boundary: [`Plant`], opened from the setup of a text, with its scan workers and
 //! a limit of events. Each of its calls is one event, which is noted in the plant's history, or is
-//! refused and changes nothing. `tick` and `heard` let in what the clock and the buses gave. `take`
-//! hands a worker the task that goes first, with its snapshot, and `commit` notes what its scan
-//! came to. `hand` gives a bus the next legal transaction, and `done` or `down` notes what became
-//! of it. The definitions to read first are `Allowed` of `plantevents` (specs/Legal.antt), which
-//! event may follow a history, and `Shown` (specs/Shown.antt), what contracts see of a plant.
+//! refused and changes nothing. `tick` and `note_frame` let in what the clock and the buses gave.
+//! `take` hands a worker the task that goes first, with its snapshot, and `commit` notes what its
+//! scan came to. `hand` gives a bus the next legal transaction, and `note_report` or `down` notes
+//! what became of it. The definitions to read first are `Allowed` of `plantevents`
+//! (specs/Legal.antt), which event may follow a history, and `Shown` (specs/Shown.antt), what
+//! contracts see of a plant.
 //!
 //! ```text
 //! let order = plant.take(alloc, worker)?;

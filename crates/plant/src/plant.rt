@@ -312,13 +312,13 @@ impl Plant {
     }
 
     /// Notes a frame that was heard on a bus.
-    pub fn heard(&mut self, bus: u8, frame: Frame24) -> Result<(), CallRefusal>
+    pub fn note_frame(&mut self, bus: u8, frame: Frame24) -> Result<(), CallRefusal>
         ensures refused { GivesFirst (heard_cases self.old bus) result }
         ensures ok { OnOk result (self.new ≡ grown self.old (event.Heard bus frame)) }
         ensures err { OnErr result (self.new ≡ self.old) }
     {
         self.allows_frame(bus)?;
-        self.tasks.heard(self.length, bus, frame);
+        self.tasks.note_frame(self.length, bus, frame);
         let inputs = &self.inputs[usize::from(bus)];
         count_message(
             self.setup.plan().sources(),

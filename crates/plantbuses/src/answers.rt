@@ -50,7 +50,7 @@ fn answerer_of(origin: &Origin) -> Option<Answerer>
     ensures value { result ≡ answerer_by origin.now }
 {
     match origin {
-        Origin::Queued(request) => request.asked(),
+        Origin::Queued(request) => request.answerer(),
         Origin::Output { .. } => None,
     }
 }

@@ -57,7 +57,7 @@ fn go_on_while_full<B: Bus + Send, C: Clock + Send, G: Gate, R: Threads + Wait +
 {
     let mut left = left;
     for _ in rt.forever() {
-        let ended = left.ended();
+        let ended = left.ending();
         if !matches!(ended, Ended::Limit) {
             return Lived { left, ended };
         }

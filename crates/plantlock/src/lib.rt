@@ -11,7 +11,7 @@
 //!
 //! ```text
 //! let handed = shared.hand(rt, &mut share, bus)?;
-//! let done = shared.done(rt, &mut share, bus, handed.number, report);
+//! let noted = shared.note_report(rt, &mut share, bus, handed.number, report);
 //! ```
 #![tactic(auto)]
 

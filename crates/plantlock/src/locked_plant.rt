@@ -159,7 +159,7 @@ impl<'a, J: LockStart, T: Tally, K: Tallies<T>> LockedPlant<'a, J, T, K> {
 
     /// Notes a frame that was heard on a bus. Where a place is kept back, and the Share shows that
     /// the bus is not down, it is not refused.
-    pub fn heard<R: Wait>(
+    pub fn note_frame<R: Wait>(
         &mut self,
         rt: &R,
         share: &mut Share<'a, J, T>,
@@ -177,7 +177,7 @@ impl<'a, J: LockStart, T: Tally, K: Tallies<T>> LockedPlant<'a, J, T, K> {
     {
         what_a_part_shows();
         self.notes.meet(share);
-        self.plant.heard(bus, frame)?;
+        self.plant.note_frame(bus, frame)?;
         self.notes
             .file(rt, share, &self.plant, Event::Heard { bus, frame });
         Ok(())

@@ -196,7 +196,7 @@ impl<'a, J: LockStart, T: Tally, K: Tallies<T>> Shared<'a, J, T, K> {
     }
 
     /// Notes a frame that was heard on a bus.
-    pub fn heard<R: Wait>(
+    pub fn note_frame<R: Wait>(
         &self,
         rt: &R,
         share: &mut Share<'a, J, T>,
@@ -215,7 +215,7 @@ impl<'a, J: LockStart, T: Tally, K: Tallies<T>> Shared<'a, J, T, K> {
     {
         let mut locked = self.locked.lock(rt);
         locked.meet(share);
-        let answer = locked.heard(rt, share, bus, frame);
+        let answer = locked.note_frame(rt, share, bus, frame);
         locked.meet(share);
         answer
     }
@@ -304,7 +304,7 @@ impl<'a, J: LockStart, T: Tally, K: Tallies<T>> Shared<'a, J, T, K> {
 
     /// Notes the report of a transaction. That of the one that the Share shows open is not refused,
     /// if it was made for the attempts of the bus.
-    pub fn done<R: Wait>(
+    pub fn note_report<R: Wait>(
         &self,
         rt: &R,
         share: &mut Share<'a, J, T>,
@@ -324,7 +324,7 @@ impl<'a, J: LockStart, T: Tally, K: Tallies<T>> Shared<'a, J, T, K> {
     {
         let mut locked = self.locked.lock(rt);
         locked.meet(share);
-        let answer = locked.done(rt, share, bus, number, report);
+        let answer = locked.note_report(rt, share, bus, number, report);
         locked.meet(share);
         answer
     }

@@ -65,7 +65,7 @@ fn write_dropped<W: Write>(out: &mut W, plant: &Plant, bus: u8) -> io::Result<()
     requires { bus < plant.now.plant.plan.buses }
 {
     for class in CLASSES {
-        let dropped = plant.dropped(bus, class);
+        let dropped = plant.drop_count(bus, class);
         if dropped > 0 {
             writeln!(out, "dropped {bus} {} {dropped}", class.number())?;
         }
@@ -77,7 +77,7 @@ fn write_dropped<W: Write>(out: &mut W, plant: &Plant, bus: u8) -> io::Result<()
 fn write_lost<W: Write>(out: &mut W, plant: &Plant) -> io::Result<()> {
     let plan = plant.setup().plan();
     for task in 0..plan.tasks() {
-        let lost = plant.lost(task);
+        let lost = plant.loss_count(task);
         if lost > 0 {
             writeln!(out, "lost {} {lost}", plan.task_name(task))?;
         }

@@ -72,16 +72,16 @@ fn name_of(tasks: &[String], task: usize) -> &str {
 }
 
 impl<B, W: Write> Observer<B> for Lines<'_, W> {
-    fn ticked(&mut self, _place: u64, moment: u64) -> io::Result<()> {
+    fn note_tick(&mut self, _place: u64, moment: u64) -> io::Result<()> {
         if let Some(watch) = &mut self.watch {
-            watch.ticked(moment);
+            watch.note_tick(moment);
         }
         writeln!(self.out, "tick {moment}")
     }
 
-    fn heard(&mut self, _place: u64, bus: u8, frame: Frame24) -> io::Result<()> {
+    fn note_frame(&mut self, _place: u64, bus: u8, frame: Frame24) -> io::Result<()> {
         if let Some(watch) = &mut self.watch {
-            watch.heard(bus, frame);
+            watch.note_frame(bus, frame);
         }
         let behind = WordsBehind {
             style: self.style,
@@ -90,15 +90,15 @@ impl<B, W: Write> Observer<B> for Lines<'_, W> {
         writeln!(self.out, "heard {bus} {frame}{behind}")
     }
 
-    fn took(&mut self, _place: u64, _worker: usize, task: usize) -> io::Result<()> {
+    fn note_take(&mut self, _place: u64, _worker: usize, task: usize) -> io::Result<()> {
         if let Some(watch) = &mut self.watch {
-            watch.took()?;
+            watch.note_take()?;
         }
         let name = name_of(&self.tasks, task);
         writeln!(self.out, "take {name}")
     }
 
-    fn committed(
+    fn note_commit(
         &mut self,
         _place: u64,
         _worker: usize,
@@ -113,7 +113,7 @@ impl<B, W: Write> Observer<B> for Lines<'_, W> {
         }
     }
 
-    fn handed(
+    fn note_handout(
         &mut self,
         _place: u64,
         bus: u8,
@@ -121,7 +121,7 @@ impl<B, W: Write> Observer<B> for Lines<'_, W> {
         transaction: &Transaction,
     ) -> io::Result<()> {
         if let Some(watch) = &mut self.watch {
-            watch.handed(bus);
+            watch.note_handout(bus);
         }
         let handed = TransactionLine { bus, transaction };
         let behind = WordsBehind {
@@ -131,17 +131,17 @@ impl<B, W: Write> Observer<B> for Lines<'_, W> {
         writeln!(self.out, "hand {handed}{behind}")
     }
 
-    fn reported(&mut self, _place: u64, bus: u8, report: &Report, _line: &B) -> io::Result<()> {
+    fn note_report(&mut self, _place: u64, bus: u8, report: &Report, _line: &B) -> io::Result<()> {
         if let Some(watch) = &mut self.watch {
-            watch.reported(bus, report);
+            watch.note_report(bus, report);
         }
         let outcome = report.outcome();
         writeln!(self.out, "done {}", OutcomeLine { bus, outcome })
     }
 
-    fn went_down(&mut self, _place: u64, bus: u8) -> io::Result<()> {
+    fn note_down(&mut self, _place: u64, bus: u8) -> io::Result<()> {
         if let Some(watch) = &mut self.watch {
-            watch.went_down(bus);
+            watch.note_down(bus);
         }
         writeln!(self.out, "down {bus}")
     }

@@ -7,7 +7,7 @@
 //!
 //! ```text
 //! let left = run(rt, alloc, setup, &scenario, limit, workers)?;
-//! write_run(&mut out, left.ended(), left.plant())?;
+//! write_run(&mut out, left.ending(), left.plant())?;
 //! ```
 #![tactic(auto)]
 

@@ -46,7 +46,7 @@ fn write_tasks<W: Write>(out: &mut W, plant: &Plant) -> io::Result<()> {
     for task in 0..plan.tasks() {
         let name = plan.task_name(task);
         let scans = plant.scans(task);
-        let lost = plant.lost(task);
+        let lost = plant.loss_count(task);
         writeln!(out, "task {name} scans {scans} lost {lost}")?;
     }
     Ok(())

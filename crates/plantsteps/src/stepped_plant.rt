@@ -104,11 +104,11 @@ impl SteppedPlant {
     {
         match step {
             Step::Tick { moment } => self.tick(*moment),
-            Step::Heard { bus, frame } => self.heard(*bus, *frame),
+            Step::Heard { bus, frame } => self.note_frame(*bus, *frame),
             Step::Take { worker } => self.take(alloc, *worker),
             Step::Commit { worker } => self.commit(*worker),
             Step::Hand { bus } => self.hand(*bus),
-            Step::Done { bus, number, marks } => self.done(*bus, *number, marks),
+            Step::Done { bus, number, marks } => self.note_report(*bus, *number, marks),
             Step::Down { bus } => self.down(*bus),
         }
     }
@@ -126,10 +126,10 @@ impl SteppedPlant {
     }
 
     /// A frame was heard.
-    fn heard(&mut self, bus: u8, frame: Frame24) -> StepReply
+    fn note_frame(&mut self, bus: u8, frame: Frame24) -> StepReply
         ensures { Answered self.old (steps.Heard bus frame) result self.new }
     {
-        match self.plant.heard(bus, frame) {
+        match self.plant.note_frame(bus, frame) {
             Ok(()) => {}
             Err(refusal) => return StepReply::Refused(refusal),
         }
@@ -202,14 +202,14 @@ impl SteppedPlant {
     }
 
     /// The frames of a bus's transaction got these marks.
-    fn done(&mut self, bus: u8, number: u64, marks: &Vec<Mark>) -> StepReply
+    fn note_report(&mut self, bus: u8, number: u64, marks: &Vec<Mark>) -> StepReply
         ensures { Answered self.old (steps.Done bus number marks.now) result self.new }
     {
         let report = match self.report_of(bus, number, marks) {
             Some(report) => report,
             None => return StepReply::Refused(CallRefusal::Stranger),
         };
-        match self.plant.done(bus, number, report) {
+        match self.plant.note_report(bus, number, report) {
             Ok(()) => {}
             Err(_) => unreachable!(),
         }

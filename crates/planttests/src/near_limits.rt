@@ -89,7 +89,7 @@ fn ticks(plant: &mut Plant) -> u64 {
 /// How many frames are heard until one is refused.
 fn frames(plant: &mut Plant, frame: Frame24) -> u64 {
     for accepted in 0..200 {
-        if plant.heard(0, frame).is_err() {
+        if plant.note_frame(0, frame).is_err() {
             return accepted;
         }
     }

@@ -140,17 +140,17 @@ impl Drawing {
 }
 
 impl Observer<SimBus> for Drawing {
-    fn ticked(&mut self, _place: u64, moment: u64) -> io::Result<()> {
+    fn note_tick(&mut self, _place: u64, moment: u64) -> io::Result<()> {
         let title = format!(in self.alloc; "tick {moment}")?;
         let milliseconds = moment;
         self.begin_moment(Moment { milliseconds }, title)?;
         if let Some(watch) = &mut self.watch {
-            watch.ticked(moment);
+            watch.note_tick(moment);
         }
         Ok(())
     }
 
-    fn heard(&mut self, _place: u64, bus: u8, frame: Frame24) -> io::Result<()> {
+    fn note_frame(&mut self, _place: u64, bus: u8, frame: Frame24) -> io::Result<()> {
         let words = FrameWords(Frame::Forward24(frame));
         let title = format!(in self.alloc; "heard {bus} {frame}  {words}")?;
         self.begin(bus, title)?;
@@ -158,12 +158,12 @@ impl Observer<SimBus> for Drawing {
         let rows = &mut self.picture.sources;
         mark_sources(self.alloc, &self.sources, rows, bus, frame, column)?;
         if let Some(watch) = &mut self.watch {
-            watch.heard(bus, frame);
+            watch.note_frame(bus, frame);
         }
         Ok(())
     }
 
-    fn took(&mut self, _place: u64, _worker: usize, task: usize) -> io::Result<()> {
+    fn note_take(&mut self, _place: u64, _worker: usize, task: usize) -> io::Result<()> {
         let line = format!(in self.alloc; "take {}", self.task_name(task))?;
         self.add(&line)?;
         let column = self.column();
@@ -171,12 +171,12 @@ impl Observer<SimBus> for Drawing {
             row.add(column, Sign::Scan)?;
         }
         if let Some(watch) = &mut self.watch {
-            watch.took()?;
+            watch.note_take()?;
         }
         Ok(())
     }
 
-    fn committed(
+    fn note_commit(
         &mut self,
         _place: u64,
         _worker: usize,
@@ -192,7 +192,7 @@ impl Observer<SimBus> for Drawing {
         Ok(())
     }
 
-    fn handed(
+    fn note_handout(
         &mut self,
         _place: u64,
         bus: u8,
@@ -202,12 +202,18 @@ impl Observer<SimBus> for Drawing {
         let title = handed_line(self.alloc, bus, transaction)?;
         self.begin(bus, title)?;
         if let Some(watch) = &mut self.watch {
-            watch.handed(bus);
+            watch.note_handout(bus);
         }
         Ok(())
     }
 
-    fn reported(&mut self, _place: u64, bus: u8, report: &Report, line: &SimBus) -> io::Result<()> {
+    fn note_report(
+        &mut self,
+        _place: u64,
+        bus: u8,
+        report: &Report,
+        line: &SimBus,
+    ) -> io::Result<()> {
         let outcome = report.outcome();
         let done = format!(in self.alloc; "done {bus} {outcome}")?;
         self.add(&done)?;
@@ -216,17 +222,17 @@ impl Observer<SimBus> for Drawing {
         let rows = &mut self.picture.lamps;
         mark_lamps(&self.lamps, rows, bus, report, line, column)?;
         if let Some(watch) = &mut self.watch {
-            watch.reported(bus, report);
+            watch.note_report(bus, report);
         }
         Ok(())
     }
 
-    fn went_down(&mut self, _place: u64, bus: u8) -> io::Result<()> {
+    fn note_down(&mut self, _place: u64, bus: u8) -> io::Result<()> {
         let title = format!(in self.alloc; "down {bus}")?;
         self.begin(bus, title)?;
         self.mark_bus(bus, Sign::Down)?;
         if let Some(watch) = &mut self.watch {
-            watch.went_down(bus);
+            watch.note_down(bus);
         }
         Ok(())
     }

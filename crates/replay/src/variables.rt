@@ -11,7 +11,7 @@ pub(crate) fn add_variables(
     watch: &Watch,
     rows: &mut Vec<Row>,
 ) -> Result<(), AllocError> {
-    for watched in watch.watched() {
+    for watched in watch.variables() {
         let name = String::from_str(alloc, watched.name())?;
         rows.push(Row::of_variable(alloc, name, sign_of(watched.value())))?;
     }
@@ -24,7 +24,7 @@ pub(crate) fn mark_variables(
     rows: &mut [Row],
     column: usize,
 ) -> Result<(), AllocError> {
-    for (watched, row) in watch.watched().iter().zip(rows) {
+    for (watched, row) in watch.variables().iter().zip(rows) {
         row.set(column, sign_of(watched.value()))?;
     }
     Ok(())

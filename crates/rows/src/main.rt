@@ -24,7 +24,7 @@ use std::sync::Wait;
 use std::thread::Threads;
 use std::time::Clock as Timer;
 use std::{env, fs, io};
-use workedrows::{Judge, Stop};
+use workedrows::{Judge, RowsStop};
 use wrong::{refuse_pages, refuse_rows};
 
 fn main(rt: HostRuntime) -> io::Result<ExitCode> {
@@ -49,7 +49,7 @@ fn main(rt: HostRuntime) -> io::Result<ExitCode> {
 fn judge_files<R: Files + Env + AllocGlobal + Threads + Wait + Timer + Sync, S: Site + Sync>(
     rt: &R,
     site: &S,
-) -> Result<(u32, u32), Stop> {
+) -> Result<(u32, u32), RowsStop> {
     let mut judge = Judge::new(rt.alloc());
     let mut wrong: u32 = 0;
     for path in env::args(rt)?.skip(1) {

@@ -12,7 +12,7 @@ use std::sync::Wait;
 use std::thread::Threads;
 use std::time::Clock as Timer;
 use workedrows::{
-    CHANGED, ChangedLine, Difference, Fit, Judge, PageStep, ShownRun, Stop, page_steps,
+    CHANGED, ChangedLine, Difference, Fit, Judge, PageStep, RowsStop, ShownRun, page_steps,
 };
 
 /// Judges a page: its path, which the names of its rows begin with, and its text.
@@ -27,7 +27,7 @@ pub fn judge_page<R: Files + AllocGlobal + Threads + Wait + Timer + Sync, S: Sit
     site: &S,
     path: &str,
     text: &str,
-) -> Result<(), Stop> {
+) -> Result<(), RowsStop> {
     judge.begin_row(path)?;
     let steps = page_steps(judge.alloc(), text)?;
     let mut reading = Reading {
@@ -57,7 +57,7 @@ impl Reading<'_> {
         rt: &R,
         site: &S,
         step: &PageStep,
-    ) -> Result<(), Stop> {
+    ) -> Result<(), RowsStop> {
         let folder = self.folder.as_str();
         match step {
             PageStep::Folder(name) => {
@@ -84,7 +84,7 @@ impl Reading<'_> {
 }
 
 /// Goes on with a row that is called by its page and its line there.
-fn name_row(judge: &mut Judge, path: &str, line: u32) -> Result<(), Stop> {
+fn name_row(judge: &mut Judge, path: &str, line: u32) -> Result<(), RowsStop> {
     let name = format!(in judge.alloc(); "{path}:{line}")?;
     judge.continue_row(name.as_str())
 }
@@ -96,7 +96,7 @@ fn take_block<R: Files + AllocGlobal>(
     folder: &str,
     name: &str,
     bytes: &[u8],
-) -> Result<(), Stop> {
+) -> Result<(), RowsStop> {
     put_file(judge, name, bytes)?;
     judge.end_part()?;
     let path = joined(judge.alloc(), folder, name)?;
@@ -107,7 +107,7 @@ fn take_block<R: Files + AllocGlobal>(
 }
 
 /// Has the judge keep a file, by the lines of a row.
-fn put_file(judge: &mut Judge, name: &str, bytes: &[u8]) -> Result<(), Stop> {
+fn put_file(judge: &mut Judge, name: &str, bytes: &[u8]) -> Result<(), RowsStop> {
     let heading = format!(in judge.alloc(); "-- file {name}")?;
     judge.take_line(heading.as_str())?;
     if let Ok(text) = str::from_utf8(bytes) {
@@ -124,7 +124,7 @@ fn take_files<R: Files + AllocGlobal>(
     rt: &R,
     folder: &str,
     words: &str,
-) -> Result<(), Stop> {
+) -> Result<(), RowsStop> {
     for word in words.split(' ') {
         if judge.file(word)?.is_none() {
             let path = joined(judge.alloc(), folder, word)?;
@@ -138,7 +138,7 @@ fn take_files<R: Files + AllocGlobal>(
 }
 
 /// Has the judge keep a text with another line in it.
-fn put_changed(judge: &mut Judge, changed: &ChangedLine) -> Result<(), Stop> {
+fn put_changed(judge: &mut Judge, changed: &ChangedLine) -> Result<(), RowsStop> {
     let heading = format!(in judge.alloc(); "-- file {CHANGED}")?;
     let bytes = match judge.file(changed.text.as_str())? {
         Some(bytes) => bytes,
@@ -165,7 +165,7 @@ fn judge_changed<T: Threads + Wait + Timer + Sync, S: Site + Sync>(
     threads: &T,
     site: &S,
     changed: &ChangedLine,
-) -> Result<(), Stop> {
+) -> Result<(), RowsStop> {
     put_changed(judge, changed)?;
     run_words(judge, threads, site, changed.words.as_str())?;
     expect(judge, Fit::Whole, changed.shown.as_bytes())
@@ -177,7 +177,7 @@ fn judge_run<T: Threads + Wait + Timer + Sync, S: Site + Sync>(
     threads: &T,
     site: &S,
     run: &ShownRun,
-) -> Result<(), Stop> {
+) -> Result<(), RowsStop> {
     run_words(judge, threads, site, run.words.as_str())?;
     if run.is_kept {
         Ok(())
@@ -192,13 +192,13 @@ fn run_words<T: Threads + Wait + Timer + Sync, S: Site + Sync>(
     threads: &T,
     site: &S,
     words: &str,
-) -> Result<(), Stop> {
+) -> Result<(), RowsStop> {
     let heading = format!(in judge.alloc(); "-- run {words}")?;
     judge_lines(judge, threads, site, heading.as_str())
 }
 
 /// Says what the last command must have shown.
-fn expect(judge: &mut Judge, fit: Fit, shown: &[u8]) -> Result<(), Stop> {
+fn expect(judge: &mut Judge, fit: Fit, shown: &[u8]) -> Result<(), RowsStop> {
     judge.take_line(match fit {
         Fit::Whole => "-- shown",
         Fit::Like => "-- shown like",
@@ -218,14 +218,14 @@ fn compare_picture<R: Files + AllocGlobal>(
     rt: &R,
     page: &str,
     picture: &str,
-) -> Result<(), Stop> {
+) -> Result<(), RowsStop> {
     let folder = match page.rsplit_once('/') {
         Some((folder, _)) => folder,
         None => "",
     };
     let path = joined(judge.alloc(), folder, picture)?;
     let wanted = fs::read(rt, path.as_str())?;
-    match judge.printed() {
+    match judge.last_output() {
         Some(printed) if printed == wanted.as_slice() => Ok(()),
         _ => Err(judge.difference(Difference::Page)),
     }

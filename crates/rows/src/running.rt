@@ -7,7 +7,7 @@ use commands::run;
 use std::sync::Wait;
 use std::thread::Threads;
 use std::time::Clock as Timer;
-use workedrows::{CommandLine, Judge, Stop};
+use workedrows::{CommandLine, Judge, RowsStop};
 
 /// Judges the lines of rows, whose commands take the threads of this runtime, and lines at this
 /// site.
@@ -20,7 +20,7 @@ pub fn judge_lines<T: Threads + Wait + Timer + Sync, S: Site + Sync>(
     threads: &T,
     site: &S,
     text: &str,
-) -> Result<(), Stop> {
+) -> Result<(), RowsStop> {
     for line in text.split('\n') {
         if let Some(command) = judge.take_line(line)? {
             run_line(judge, threads, site, &command)?;
@@ -39,7 +39,7 @@ fn run_line<T: Threads + Wait + Timer + Sync, S: Site + Sync>(
     threads: &T,
     host: &S,
     line: &CommandLine,
-) -> Result<(), Stop> {
+) -> Result<(), RowsStop> {
     let disk = RowsDisk::new(judge.alloc(), judge.copied_files()?);
     let machine = judge.machine(line);
     let site = RowsSite { host, disk: &disk };

@@ -12,7 +12,7 @@ use std::rt::Files;
 use std::sync::Wait;
 use std::thread::Threads;
 use std::time::Clock as Timer;
-use workedrows::{Judge, Stop};
+use workedrows::{Judge, RowsStop};
 
 /// How many rows a file has, where each is refused for what its name says.
 ///
@@ -24,7 +24,7 @@ pub fn refuse_rows<T: Threads + Wait + Timer + Sync, S: Site + Sync>(
     threads: &T,
     site: &S,
     text: &str,
-) -> Result<u32, Stop> {
+) -> Result<u32, RowsStop> {
     let mut rows: u32 = 0;
     for row in text.split("\n== ").skip(1) {
         refuse_row(alloc, threads, site, row)?;
@@ -39,13 +39,13 @@ fn refuse_row<T: Threads + Wait + Timer + Sync, S: Site + Sync>(
     threads: &T,
     site: &S,
     row: &str,
-) -> Result<(), Stop> {
+) -> Result<(), RowsStop> {
     let (name, lines) = match row.split_once('\n') {
         Some(parts) => parts,
         None => (row, ""),
     };
     let stop = match judge_row(alloc, threads, site, name, lines) {
-        Ok(()) => return Err(Stop::Held(String::from_str(alloc, name)?)),
+        Ok(()) => return Err(RowsStop::Held(String::from_str(alloc, name)?)),
         Err(stop) => stop,
     };
     if is_named(name, &stop) {
@@ -62,7 +62,7 @@ fn judge_row<T: Threads + Wait + Timer + Sync, S: Site + Sync>(
     site: &S,
     name: &str,
     lines: &str,
-) -> Result<(), Stop> {
+) -> Result<(), RowsStop> {
     let mut judge = Judge::new(alloc);
     judge.begin_row(name)?;
     judge_lines(&mut judge, threads, site, lines)
@@ -77,7 +77,7 @@ pub fn refuse_pages<R: Files + AllocGlobal + Threads + Wait + Timer + Sync, S: S
     rt: &R,
     site: &S,
     text: &str,
-) -> Result<u32, Stop> {
+) -> Result<u32, RowsStop> {
     let mut pages: u32 = 0;
     for page in text.split("\n# ").skip(1) {
         refuse_page(rt, site, page)?;
@@ -91,22 +91,22 @@ fn refuse_page<R: Files + AllocGlobal + Threads + Wait + Timer + Sync, S: Site +
     rt: &R,
     site: &S,
     page: &str,
-) -> Result<(), Stop> {
+) -> Result<(), RowsStop> {
     let (name, lines) = match page.split_once('\n') {
         Some(parts) => parts,
         None => (page, ""),
     };
     let mut judge = Judge::new(rt.alloc());
     match judge_page(&mut judge, rt, site, "wrong.md", lines) {
-        Ok(()) => Err(Stop::Held(String::from_str(rt.alloc(), name)?)),
+        Ok(()) => Err(RowsStop::Held(String::from_str(rt.alloc(), name)?)),
         Err(stop) if is_named(name, &stop) => Ok(()),
         Err(stop) => Err(stop),
     }
 }
 
 /// Whether a row is named for why it was refused.
-fn is_named(name: &str, stop: &Stop) -> bool {
-    let Stop::Row { line, why, .. } = stop else {
+fn is_named(name: &str, stop: &RowsStop) -> bool {
+    let RowsStop::Row { line, why, .. } = stop else {
         return false;
     };
     match name.split_once(" at ") {

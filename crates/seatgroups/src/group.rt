@@ -3,23 +3,23 @@
 ghost use Rattle.std.specs.Prelude.{◌≡◌, ◌+◌, ◌-◌, ◌<◌, ◌≤◌, [], length};
 ghost use Rattle.std.specs.Prelude.{slice_index, slice_index_or, slice_set};
 
-use crate::names::{Names, SeatLedger};
+use crate::names::{LedgerNames, SeatLedger};
 use std::marker::Model;
 use std::sync::ledger::{Blank, Book, Share};
 
 /// The book of place `K` of a group. Contracts see its total.
-pub(crate) struct PlaceTally<N: Names, const G: usize, const K: usize> {
+pub(crate) struct PlaceTally<N: LedgerNames, const G: usize, const K: usize> {
     book: Book<SeatLedger<N, G, K>>,
 }
 
 /// Written out, so that it is proved here alone.
-impl<N: Names, const G: usize, const K: usize> Drop for PlaceTally<N, G, K> {
+impl<N: LedgerNames, const G: usize, const K: usize> Drop for PlaceTally<N, G, K> {
     fn drop(self) {
         let Self { book: _ } = self;
     }
 }
 
-impl<N: Names, const G: usize, const K: usize> Model for PlaceTally<N, G, K> {
+impl<N: LedgerNames, const G: usize, const K: usize> Model for PlaceTally<N, G, K> {
     ghost use Rattle.std.specs.Prelude.{ℕ};
 
     ghost Value = { ℕ };
@@ -27,7 +27,7 @@ impl<N: Names, const G: usize, const K: usize> Model for PlaceTally<N, G, K> {
     ghost view = { λ b. b.book.total };
 }
 
-impl<N: Names, const G: usize, const K: usize> PlaceTally<N, G, K> {
+impl<N: LedgerNames, const G: usize, const K: usize> PlaceTally<N, G, K> {
     /// The book of a new ledger, and its whole share.
     pub(crate) fn open(blank: Blank) -> (PlaceTally<N, G, K>, Share<SeatLedger<N, G, K>>)
         requires name { blank.name ≡ slice_index (slice_index_or N.names G []) K }
@@ -67,7 +67,7 @@ impl<N: Names, const G: usize, const K: usize> PlaceTally<N, G, K> {
 }
 
 /// The totals of a group, as they stand under the lock. Contracts see them.
-pub struct GroupLockTallies<N: Names, const G: usize> {
+pub struct GroupLockTallies<N: LedgerNames, const G: usize> {
     pub(crate) b0: PlaceTally<N, G, 0>,
     pub(crate) b1: PlaceTally<N, G, 1>,
     pub(crate) b2: PlaceTally<N, G, 2>,
@@ -80,7 +80,7 @@ pub struct GroupLockTallies<N: Names, const G: usize> {
 }
 
 /// Written out, so that it is proved here alone.
-impl<N: Names, const G: usize> Drop for GroupLockTallies<N, G> {
+impl<N: LedgerNames, const G: usize> Drop for GroupLockTallies<N, G> {
     fn drop(self) {
         let Self {
             b0: _,
@@ -96,7 +96,7 @@ impl<N: Names, const G: usize> Drop for GroupLockTallies<N, G> {
     }
 }
 
-impl<N: Names, const G: usize> Model for GroupLockTallies<N, G> {
+impl<N: LedgerNames, const G: usize> Model for GroupLockTallies<N, G> {
     ghost use Rattle.std.specs.Prelude.{List, ℕ, [], ◌∷◌};
 
     ghost Value = { List ℕ };
@@ -106,7 +106,7 @@ impl<N: Names, const G: usize> Model for GroupLockTallies<N, G> {
 
 /// The whole share of one of the ledgers of a group.
 #[derive(Drop)]
-pub enum TallyByPlace<N: Names, const G: usize> {
+pub enum TallyByPlace<N: LedgerNames, const G: usize> {
     H0(Share<SeatLedger<N, G, 0>>),
     H1(Share<SeatLedger<N, G, 1>>),
     H2(Share<SeatLedger<N, G, 2>>),
@@ -119,18 +119,18 @@ pub enum TallyByPlace<N: Names, const G: usize> {
 }
 
 /// The whole share of one of the ledgers of a group. Contracts see its place and its amount.
-pub struct GroupThreadTally<N: Names, const G: usize> {
+pub struct GroupThreadTally<N: LedgerNames, const G: usize> {
     pub(crate) by_place: TallyByPlace<N, G>,
 }
 
 /// Written out, so that it is proved here alone.
-impl<N: Names, const G: usize> Drop for GroupThreadTally<N, G> {
+impl<N: LedgerNames, const G: usize> Drop for GroupThreadTally<N, G> {
     fn drop(self) {
         let Self { by_place: _ } = self;
     }
 }
 
-impl<N: Names, const G: usize> Model for GroupThreadTally<N, G> {
+impl<N: LedgerNames, const G: usize> Model for GroupThreadTally<N, G> {
     ghost use Rattle.std.specs.Prelude.{ℕ};
     ghost use Rattle.seatgroups.specs.Groups.{place_of, amount_of, IsWhole};
 
@@ -141,7 +141,7 @@ impl<N: Names, const G: usize> Model for GroupThreadTally<N, G> {
     ghost invariant = { λ t. IsWhole t.by_place };
 }
 
-impl<N: Names, const G: usize> GroupLockTallies<N, G> {
+impl<N: LedgerNames, const G: usize> GroupLockTallies<N, G> {
     /// The two agree, grow by the first number, and fall by the second.
     fn change(&mut self, tally: &mut GroupThreadTally<N, G>, by: (u64, u64))
         requires { by.1 ≤ tally.old.1 }

@@ -3,7 +3,7 @@
 //! What crosses the boundary: [`GroupLockTallies`] have a total for each place of a group. A
 //! [`GroupThreadTally`] is the whole share of one of the group's ledgers, so its amount is the
 //! total at its place: the two change together or not at all. [`NewGroupTallies`] make them, for
-//! the ledgers whose names [`Names`] has. What contracts see of a thread's tally stands in
+//! the ledgers whose names [`LedgerNames`] has. What contracts see of a thread's tally stands in
 //! specs/Groups.antt, to be read first.
 //!
 //! ```text
@@ -17,5 +17,5 @@ mod names;
 mod opening;
 
 pub use group::{GroupLockTallies, GroupThreadTally};
-pub use names::Names;
+pub use names::LedgerNames;
 pub use opening::{GroupThreadTallies, NewGroupTallies};

@@ -5,7 +5,7 @@ ghost use Rattle.seatgroups.specs.Openings.{no_amounts, each_place};
 ghost use Rattle.seatgroups.specs.GroupThreadTallies.{tallies_of};
 
 use crate::group::{GroupLockTallies, GroupThreadTally, PlaceTally, TallyByPlace};
-use crate::names::Names;
+use crate::names::LedgerNames;
 use std::marker::Model;
 use std::sync::ledger::Blank;
 
@@ -56,7 +56,7 @@ impl Model for NewGroupTallies {
 
 /// The tally of each place of a group.
 #[derive(Drop)]
-pub struct GroupThreadTallies<N: Names, const G: usize> {
+pub struct GroupThreadTallies<N: LedgerNames, const G: usize> {
     /// The tally of place 0.
     pub t0: GroupThreadTally<N, G>,
     /// The tally of place 1.
@@ -95,7 +95,7 @@ impl NewGroupTallies {
 
     /// Opens the ledgers of group `G`: the lock's totals, with no amounts, and the tally of each
     /// place.
-    pub fn open<N: Names, const G: usize>(
+    pub fn open<N: LedgerNames, const G: usize>(
         self,
     ) -> (GroupLockTallies<N, G>, GroupThreadTallies<N, G>)
         requires { self ≡ slice_index_or N.names G [] }

@@ -5,11 +5,11 @@ ghost use Rattle.std.specs.Prelude.{slice_index, slice_set, slice_index_or};
 ghost use Rattle.seats.specs.SeatTallies.{number};
 
 use crate::tallies::{Tallies, Tally};
-use seatgroups::{GroupLockTallies, GroupThreadTally, Names};
+use seatgroups::{GroupLockTallies, GroupThreadTally, LedgerNames};
 use std::marker::Model;
 
 /// The number of each seat, as it stands under the lock. Contracts see them, by groups of nine.
-pub struct LockTallies<N: Names> {
+pub struct LockTallies<N: LedgerNames> {
     pub(crate) g0: GroupLockTallies<N, 0>,
     pub(crate) g1: GroupLockTallies<N, 1>,
     pub(crate) g2: GroupLockTallies<N, 2>,
@@ -22,7 +22,7 @@ pub struct LockTallies<N: Names> {
 }
 
 /// Written out, so that it is proved here alone.
-impl<N: Names> Drop for LockTallies<N> {
+impl<N: LedgerNames> Drop for LockTallies<N> {
     fn drop(self) {
         let Self {
             g0: _,
@@ -38,7 +38,7 @@ impl<N: Names> Drop for LockTallies<N> {
     }
 }
 
-impl<N: Names> Model for LockTallies<N> {
+impl<N: LedgerNames> Model for LockTallies<N> {
     ghost use Rattle.std.specs.Prelude.{List, ℕ, [], ◌∷◌};
 
     ghost Value = { List (List ℕ) };
@@ -48,7 +48,7 @@ impl<N: Names> Model for LockTallies<N> {
 
 /// The tally of a seat, by the group that it is of.
 #[derive(Drop)]
-pub enum TallyByGroup<N: Names> {
+pub enum TallyByGroup<N: LedgerNames> {
     G0(GroupThreadTally<N, 0>),
     G1(GroupThreadTally<N, 1>),
     G2(GroupThreadTally<N, 2>),
@@ -62,18 +62,18 @@ pub enum TallyByGroup<N: Names> {
 
 /// The number of one seat, as it stands in a thread: the whole share of its ledger. Contracts see
 /// the seat and the amount.
-pub struct ThreadTally<N: Names> {
+pub struct ThreadTally<N: LedgerNames> {
     pub(crate) by_group: TallyByGroup<N>,
 }
 
 /// Written out, so that it is proved here alone.
-impl<N: Names> Drop for ThreadTally<N> {
+impl<N: LedgerNames> Drop for ThreadTally<N> {
     fn drop(self) {
         let Self { by_group: _ } = self;
     }
 }
 
-impl<N: Names> Model for ThreadTally<N> {
+impl<N: LedgerNames> Model for ThreadTally<N> {
     ghost use Rattle.seats.specs.SeatTallies.{SeatAmount, seat_amount_of};
 
     ghost Value = { SeatAmount };
@@ -81,14 +81,14 @@ impl<N: Names> Model for ThreadTally<N> {
     ghost view = { λ t. seat_amount_of t.by_group };
 }
 
-impl<N: Names> Tally for ThreadTally<N> {
+impl<N: LedgerNames> Tally for ThreadTally<N> {
     ghost seat = { λ t. t.seat };
 
     ghost amount = { λ t. t.amount };
 }
 
 /// The two agree, grow by the first number, and fall by the second.
-fn change_place<N: Names, const G: usize>(
+fn change_place<N: LedgerNames, const G: usize>(
     tallies: &mut GroupLockTallies<N, G>,
     tally: &mut GroupThreadTally<N, G>,
     by: (u64, u64),
@@ -104,7 +104,7 @@ fn change_place<N: Names, const G: usize>(
     tallies.sub(tally, by.1);
 }
 
-impl<N: Names> LockTallies<N> {
+impl<N: LedgerNames> LockTallies<N> {
     /// The two agree, grow by the first number, and fall by the second.
     fn change(&mut self, tally: &mut ThreadTally<N>, by: (u64, u64))
         requires { by.1 ≤ tally.old.amount }
@@ -131,7 +131,7 @@ impl<N: Names> LockTallies<N> {
     }
 }
 
-impl<N: Names> Tallies<ThreadTally<N>> for LockTallies<N> {
+impl<N: LedgerNames> Tallies<ThreadTally<N>> for LockTallies<N> {
     ghost number = { number };
 
     fn audit(&mut self, tally: &mut ThreadTally<N>) {

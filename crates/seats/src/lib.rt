@@ -20,5 +20,5 @@ mod tallies;
 
 pub use all_groups::{LockTallies, ThreadTally};
 pub use opening::NewTallies;
-pub use seatgroups::Names;
+pub use seatgroups::LedgerNames;
 pub use tallies::{Tallies, Tally};

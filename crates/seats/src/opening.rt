@@ -10,7 +10,9 @@ ghost use Rattle.seats.specs.Openings.{fresh, fresh_group};
 
 use crate::all_groups::{LockTallies, TallyByGroup, ThreadTally};
 use limits::MOST_SEATS;
-use seatgroups::{GroupLockTallies, GroupThreadTallies, GroupThreadTally, Names, NewGroupTallies};
+use seatgroups::{
+    GroupLockTallies, GroupThreadTallies, GroupThreadTally, LedgerNames, NewGroupTallies,
+};
 use std::alloc::{AllocError, Global};
 use std::marker::Model;
 
@@ -53,7 +55,7 @@ impl Model for NewTallies {
 }
 
 /// The form that `TallyByGroup` has for a group, so that what is done for one group stands once.
-trait OfGroup<N: Names, X> {
+trait OfGroup<N: LedgerNames, X> {
     ghost seat_amount: { X → SeatAmount };
 
     /// The tally, as one of this group.
@@ -61,7 +63,7 @@ trait OfGroup<N: Names, X> {
         ensures { seat_amount_of result ≡ seat_amount tally };
 }
 
-impl<N: Names> OfGroup<N, GroupThreadTally<N, 0>> for TallyByGroup<N> {
+impl<N: LedgerNames> OfGroup<N, GroupThreadTally<N, 0>> for TallyByGroup<N> {
     ghost seat_amount = { λ t. record { seat = (0, t.0); amount = t.1 } };
 
     fn by_group(tally: GroupThreadTally<N, 0>) -> TallyByGroup<N>
@@ -71,7 +73,7 @@ impl<N: Names> OfGroup<N, GroupThreadTally<N, 0>> for TallyByGroup<N> {
     }
 }
 
-impl<N: Names> OfGroup<N, GroupThreadTally<N, 1>> for TallyByGroup<N> {
+impl<N: LedgerNames> OfGroup<N, GroupThreadTally<N, 1>> for TallyByGroup<N> {
     ghost seat_amount = { λ t. record { seat = (1, t.0); amount = t.1 } };
 
     fn by_group(tally: GroupThreadTally<N, 1>) -> TallyByGroup<N>
@@ -81,7 +83,7 @@ impl<N: Names> OfGroup<N, GroupThreadTally<N, 1>> for TallyByGroup<N> {
     }
 }
 
-impl<N: Names> OfGroup<N, GroupThreadTally<N, 2>> for TallyByGroup<N> {
+impl<N: LedgerNames> OfGroup<N, GroupThreadTally<N, 2>> for TallyByGroup<N> {
     ghost seat_amount = { λ t. record { seat = (2, t.0); amount = t.1 } };
 
     fn by_group(tally: GroupThreadTally<N, 2>) -> TallyByGroup<N>
@@ -91,7 +93,7 @@ impl<N: Names> OfGroup<N, GroupThreadTally<N, 2>> for TallyByGroup<N> {
     }
 }
 
-impl<N: Names> OfGroup<N, GroupThreadTally<N, 3>> for TallyByGroup<N> {
+impl<N: LedgerNames> OfGroup<N, GroupThreadTally<N, 3>> for TallyByGroup<N> {
     ghost seat_amount = { λ t. record { seat = (3, t.0); amount = t.1 } };
 
     fn by_group(tally: GroupThreadTally<N, 3>) -> TallyByGroup<N>
@@ -101,7 +103,7 @@ impl<N: Names> OfGroup<N, GroupThreadTally<N, 3>> for TallyByGroup<N> {
     }
 }
 
-impl<N: Names> OfGroup<N, GroupThreadTally<N, 4>> for TallyByGroup<N> {
+impl<N: LedgerNames> OfGroup<N, GroupThreadTally<N, 4>> for TallyByGroup<N> {
     ghost seat_amount = { λ t. record { seat = (4, t.0); amount = t.1 } };
 
     fn by_group(tally: GroupThreadTally<N, 4>) -> TallyByGroup<N>
@@ -111,7 +113,7 @@ impl<N: Names> OfGroup<N, GroupThreadTally<N, 4>> for TallyByGroup<N> {
     }
 }
 
-impl<N: Names> OfGroup<N, GroupThreadTally<N, 5>> for TallyByGroup<N> {
+impl<N: LedgerNames> OfGroup<N, GroupThreadTally<N, 5>> for TallyByGroup<N> {
     ghost seat_amount = { λ t. record { seat = (5, t.0); amount = t.1 } };
 
     fn by_group(tally: GroupThreadTally<N, 5>) -> TallyByGroup<N>
@@ -121,7 +123,7 @@ impl<N: Names> OfGroup<N, GroupThreadTally<N, 5>> for TallyByGroup<N> {
     }
 }
 
-impl<N: Names> OfGroup<N, GroupThreadTally<N, 6>> for TallyByGroup<N> {
+impl<N: LedgerNames> OfGroup<N, GroupThreadTally<N, 6>> for TallyByGroup<N> {
     ghost seat_amount = { λ t. record { seat = (6, t.0); amount = t.1 } };
 
     fn by_group(tally: GroupThreadTally<N, 6>) -> TallyByGroup<N>
@@ -131,7 +133,7 @@ impl<N: Names> OfGroup<N, GroupThreadTally<N, 6>> for TallyByGroup<N> {
     }
 }
 
-impl<N: Names> OfGroup<N, GroupThreadTally<N, 7>> for TallyByGroup<N> {
+impl<N: LedgerNames> OfGroup<N, GroupThreadTally<N, 7>> for TallyByGroup<N> {
     ghost seat_amount = { λ t. record { seat = (7, t.0); amount = t.1 } };
 
     fn by_group(tally: GroupThreadTally<N, 7>) -> TallyByGroup<N>
@@ -141,7 +143,7 @@ impl<N: Names> OfGroup<N, GroupThreadTally<N, 7>> for TallyByGroup<N> {
     }
 }
 
-impl<N: Names> OfGroup<N, GroupThreadTally<N, 8>> for TallyByGroup<N> {
+impl<N: LedgerNames> OfGroup<N, GroupThreadTally<N, 8>> for TallyByGroup<N> {
     ghost seat_amount = { λ t. record { seat = (8, t.0); amount = t.1 } };
 
     fn by_group(tally: GroupThreadTally<N, 8>) -> TallyByGroup<N>
@@ -152,7 +154,7 @@ impl<N: Names> OfGroup<N, GroupThreadTally<N, 8>> for TallyByGroup<N> {
 }
 
 /// Puts the tally of a seat after those that are there.
-fn put<N: Names, X, H: OfGroup<N, X>>(thread_tallies: &mut Vec<ThreadTally<N>>, tally: X)
+fn put<N: LedgerNames, X, H: OfGroup<N, X>>(thread_tallies: &mut Vec<ThreadTally<N>>, tally: X)
     requires { vec_len thread_tallies.old + 1 ≤ vec_capacity thread_tallies.old }
     ensures thread_tallies { thread_tallies.new.items
         ≡ thread_tallies.old.items ++ H.seat_amount tally ∷ [] }
@@ -165,7 +167,7 @@ fn put<N: Names, X, H: OfGroup<N, X>>(thread_tallies: &mut Vec<ThreadTally<N>>, 
 }
 
 /// Opens a group.
-fn open_group<N: Names, const G: usize, H: OfGroup<N, GroupThreadTally<N, G>>>(
+fn open_group<N: LedgerNames, const G: usize, H: OfGroup<N, GroupThreadTally<N, G>>>(
     new_tallies: NewGroupTallies,
     thread_tallies: &mut Vec<ThreadTally<N>>,
 ) -> GroupLockTallies<N, G>
@@ -221,7 +223,7 @@ impl NewTallies {
 
     /// Opens them: the lock has no amount at any seat, and there is the thread's tally of each seat
     /// in turn.
-    pub fn open<N: Names>(
+    pub fn open<N: LedgerNames>(
         self,
         alloc: Global,
     ) -> Result<(LockTallies<N>, Vec<ThreadTally<N>>), AllocError>

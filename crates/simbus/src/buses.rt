@@ -167,14 +167,14 @@ impl SimBus {
     }
 
     /// The frames that were sent, first to last.
-    pub fn sent(&self) -> &[Sent]
+    pub fn sent_frames(&self) -> &[Sent]
         ensures { result.now ≡ self.now.log.sent }
     {
         self.sent.as_slice()
     }
 
     /// The frames that were heard, first to last.
-    pub fn heard(&self) -> &[Frame24]
+    pub fn heard_frames(&self) -> &[Frame24]
         ensures { result.now ≡ self.now.log.heard }
     {
         self.heard.as_slice()

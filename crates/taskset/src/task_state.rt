@@ -189,7 +189,7 @@ impl TaskState {
     }
 
     /// How many activations were given up.
-    pub(crate) fn lost(&self) -> u64
+    pub(crate) fn loss_count(&self) -> u64
         ensures value { result ≡ self.now.lost }
     {
         self.lost

@@ -94,7 +94,7 @@ impl Tasks {
     /// Notes a frame that was heard on a bus, at this place of the history: it activates each task
     /// whose source it is a message of. At most 32 events are pending for a task; one more gives up
     /// the oldest.
-    pub fn heard(&mut self, place: u64, bus: u8, frame: Frame24)
+    pub fn note_frame(&mut self, place: u64, bus: u8, frame: Frame24)
         requires small { place + 1 < 2 ^ 64 }
         ensures follows { (p : Plant) (h : List Event)
             → Follows p h self.old → place ≡ length h → Follows p (Heard bus frame ∷ h) self.new }
@@ -132,7 +132,7 @@ impl Tasks {
 
     /// Notes that a worker took a task, at this place of the history. The answer is the oldest
     /// event that was pending for it, which this uses up.
-    pub fn took(&mut self, place: u64, task: usize) -> Option<PendingEvent>
+    pub fn take_event(&mut self, place: u64, task: usize) -> Option<PendingEvent>
         requires small { place + 1 < 2 ^ 64 }
         requires known { task < length self.old.tasks }
         ensures first { (p : Plant) (h : List Event) → Follows p h self.old
@@ -148,7 +148,7 @@ impl Tasks {
     }
 
     /// Notes that a worker wrote what its scan of a task came to.
-    pub fn ended(&mut self, task: usize)
+    pub fn note_commit(&mut self, task: usize)
         requires known { task < length self.old.tasks }
         ensures follows { (p : Plant) (w n : ℕ) (result : Scan) (running : OpenScan)
             (h : List Event) → Follows p h self.old → scan w h ≡ Some running
@@ -158,12 +158,12 @@ impl Tasks {
     }
 
     /// How many events were given up, since 32 later ones came before the task was taken.
-    pub fn lost(&self, task: usize) -> u64
+    pub fn loss_count(&self, task: usize) -> u64
         requires known { task < length self.now.tasks }
         ensures value { (p : Plant) (h : List Event)
             → Follows p h self.now → result ≡ lost (activator p task) task h }
     {
-        self.states[task].lost()
+        self.states[task].loss_count()
     }
 }
 

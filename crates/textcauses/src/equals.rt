@@ -2,7 +2,7 @@
 
 use crate::text_causes::EQUALS;
 use crate::unexpected::{Standing, is_cure};
-use curing::{Advice, Answer, Edit, Spot, part, shown};
+use curing::{Advice, Edit, FaultAnswer, Spot, part, shown_text};
 use std::alloc::{AllocError, Global};
 
 const INPUTS: Advice = Advice {
@@ -21,12 +21,12 @@ const INPUTS: Advice = Advice {
 pub(crate) fn answer_equals(
     alloc: Global,
     standing: &Standing,
-) -> Result<Option<Answer>, AllocError> {
+) -> Result<Option<FaultAnswer>, AllocError> {
     let spot = &standing.spot;
-    if spot.found() != b"=".as_slice() {
+    if spot.token() != b"=".as_slice() {
         return Ok(None);
     }
-    let sign = shown(alloc, part(spot.rest(), 0, sign_len(spot.rest())))?;
+    let sign = shown_text(alloc, part(spot.rest(), 0, sign_len(spot.rest())))?;
     let what = format!(in alloc; "{sign} where := is asked for")?;
     let to = spot.at.saturating_add(sign.len());
     let one = Edit::new(alloc, spot.at, to, b":=")?;
@@ -44,8 +44,8 @@ pub(crate) fn answer_equals(
 }
 
 /// What advice says, where this is wrong.
-fn named(alloc: Global, advice: Advice, what: String) -> Result<Answer, AllocError> {
-    let mut answer = Answer::of(alloc, advice)?;
+fn named(alloc: Global, advice: Advice, what: String) -> Result<FaultAnswer, AllocError> {
+    let mut answer = FaultAnswer::of(alloc, advice)?;
     answer.what = what;
     Ok(answer)
 }

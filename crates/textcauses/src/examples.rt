@@ -130,7 +130,7 @@ fn of_block(word: Keyword) -> Advice {
 
 /// What stands in a configuration, outside its variables, where this stands in it before the place.
 fn in_configuration(spot: &Spot, front: &[u8]) -> Advice {
-    if has_word(front, Keyword::Program) && spot.found().eq_ignore_ascii_case(b"TASK") {
+    if has_word(front, Keyword::Program) && spot.token().eq_ignore_ascii_case(b"TASK") {
         LATE_TASK
     } else if is_word(spot, b"TASK") {
         TASK

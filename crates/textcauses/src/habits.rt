@@ -3,7 +3,7 @@
 use crate::habit_rows::HABITS;
 use crate::proposals::is_bracket;
 use curing::{Advice, Spot, Surroundings};
-use iltokens::{Keyword, Lexed, What, reserved, token};
+use iltokens::{Keyword, Lexed, What, keyword_of, token};
 
 /// Something that people write and the language does not have: where it stands, how it is written
 /// in small letters, how it is changed, and what is said of it.
@@ -79,9 +79,9 @@ pub(crate) fn is_unnamed(spot: &Spot, around: &Surroundings) -> bool {
         return false;
     };
     let is_open = unit.word == Keyword::Program && unit.name.is_none();
-    let is_word = reserved(spot.found()).is_some();
+    let is_word = keyword_of(spot.token()).is_some();
     let is_below = unit.at < spot.line_from;
-    is_open && (spot.at >= spot.text.len() || is_word && (is_below || is_bracket(spot.found())))
+    is_open && (spot.at >= spot.text.len() || is_word && (is_below || is_bracket(spot.token())))
 }
 
 /// Whether something that people write stands at a place.
@@ -109,7 +109,7 @@ fn stands(habit: &Habit, spot: &Spot, around: &Surroundings) -> bool {
 
 /// Whether a word is what was found.
 fn is_found(spot: &Spot, spelled: &[u8]) -> bool {
-    spot.found().eq_ignore_ascii_case(spelled)
+    spot.token().eq_ignore_ascii_case(spelled)
 }
 
 /// Whether VAR_GLOBAL is open, or another block of variables.

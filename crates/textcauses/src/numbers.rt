@@ -4,7 +4,7 @@
 use crate::decimals::{Decimal, edit_of};
 use crate::habit_rows::{BASED, DOTTED, UNIT};
 use crate::unexpected::{Standing, is_cure};
-use curing::{Advice, Answer, Edit, Example, Spot, part, shown};
+use curing::{Advice, Edit, Example, FaultAnswer, Spot, part, shown_text};
 use std::alloc::{AllocError, Global};
 
 /// What is said of a number with a fraction.
@@ -43,7 +43,7 @@ const LETTERS: Advice = Advice {
 pub(crate) fn answer_number(
     alloc: Global,
     standing: &Standing,
-) -> Result<Option<Answer>, AllocError> {
+) -> Result<Option<FaultAnswer>, AllocError> {
     let spot = &standing.spot;
     let Some((from, to)) = number_at(spot, standing.around.is_in_body()) else {
         return Ok(None);
@@ -60,16 +60,16 @@ pub(crate) fn answer_number(
     }
     let timed = Edit::new(alloc, from, from, b"T#")?;
     if is_cure(alloc, standing, &timed)? {
-        let answer = Answer::of(alloc, UNIT)?;
+        let answer = FaultAnswer::of(alloc, UNIT)?;
         return Ok(Some(answer.with_tried(alloc, spot.text, &timed)?));
     }
-    Ok(Some(Answer::of(alloc, of_letters(number))?))
+    Ok(Some(FaultAnswer::of(alloc, of_letters(number))?))
 }
 
 /// Whether a range with two dots is meant at one.
 fn is_range(alloc: Global, standing: &Standing) -> Result<bool, AllocError> {
     let spot = &standing.spot;
-    if standing.around.is_in_body() || spot.found() != b".".as_slice() {
+    if standing.around.is_in_body() || spot.token() != b".".as_slice() {
         return Ok(false);
     }
     is_cure(
@@ -85,9 +85,9 @@ fn of_decimal(
     standing: &Standing,
     (from, to): (usize, usize),
     decimal: Decimal,
-) -> Result<Answer, AllocError> {
+) -> Result<FaultAnswer, AllocError> {
     let advice = if decimal.is_whole() { WHOLE } else { FRACTION };
-    let answer = Answer::of(alloc, advice)?;
+    let answer = FaultAnswer::of(alloc, advice)?;
     match edit_of(alloc, &standing.spot, (from, to), decimal)? {
         Some(edit) if is_cure(alloc, standing, &edit)? => {
             answer.with_tried(alloc, standing.spot.text, &edit)
@@ -115,7 +115,7 @@ fn based(
     standing: &Standing,
     (from, to): (usize, usize),
     place: usize,
-) -> Result<Option<Answer>, AllocError> {
+) -> Result<Option<FaultAnswer>, AllocError> {
     let spot = &standing.spot;
     let number = spot.part(from, to);
     let digits = part(number, place.saturating_add(1), number.len());
@@ -128,16 +128,16 @@ fn based(
     let bad = digits.iter().position(|byte| !is_digit(base, *byte));
     let what = match bad {
         Some(index) if digits.get(index) == Some(&b'.') => {
-            return Ok(Some(Answer::of(alloc, FRACTION)?));
+            return Ok(Some(FaultAnswer::of(alloc, FRACTION)?));
         }
         Some(index) => {
-            let digit = shown(alloc, part(digits, index, index.saturating_add(1)))?;
+            let digit = shown_text(alloc, part(digits, index, index.saturating_add(1)))?;
             format!(in alloc; "{digit} is no digit of base {base}")?
         }
         None if digits.is_empty() => format!(in alloc; "no digit stands behind {base}#")?,
         None => return Ok(None),
     };
-    Ok(Some(Answer {
+    Ok(Some(FaultAnswer {
         what,
         facts: String::new(alloc),
         cure: format!(in alloc; "behind {base}# stand the digits {names}")?,
@@ -151,10 +151,10 @@ fn of_other_base(
     standing: &Standing,
     (from, _): (usize, usize),
     place: usize,
-) -> Result<Answer, AllocError> {
+) -> Result<FaultAnswer, AllocError> {
     let spot = &standing.spot;
     let digits = from.saturating_add(place).saturating_add(1);
-    let answer = Answer::of(alloc, BASED)?;
+    let answer = FaultAnswer::of(alloc, BASED)?;
     let edit = Edit::new(alloc, from, digits, b"")?;
     let is_ten = spot.part(from, from.saturating_add(place)) == b"10".as_slice();
     if is_ten && is_cure(alloc, standing, &edit)? {

@@ -3,9 +3,10 @@
 use crate::fixes::left_out;
 use crate::unexpected::Standing;
 use curing::{
-    Edit, Group, Opened, Possible, SIGNS, Spot, line_number, near_word, shown, sign_name,
+    Edit, Group, OpenConstruct, Possible, SIGNS, Spot, line_number, near_word, shown_text,
+    sign_name,
 };
-use iltokens::{Keyword, reserved};
+use iltokens::{Keyword, keyword_of};
 use std::alloc::{AllocError, Global};
 
 /// A change with what is wrong without it, and what helps.
@@ -113,7 +114,7 @@ fn end(
     };
     let (_, word) = opened.words();
     let is_end = spot.at >= spot.text.len();
-    if !possible.has_word(word) || !is_end && reserved(spot.found()).is_none() {
+    if !possible.has_word(word) || !is_end && keyword_of(spot.token()).is_none() {
         return Ok(None);
     }
     let title = title_of(alloc, spot, opened)?;
@@ -126,11 +127,11 @@ fn end(
 }
 
 /// How something that is open is called.
-fn title_of(alloc: Global, spot: &Spot, opened: Opened) -> Result<String, AllocError> {
+fn title_of(alloc: Global, spot: &Spot, opened: OpenConstruct) -> Result<String, AllocError> {
     let line = line_number(spot.text, opened.at);
     match opened.name {
         Some((from, to)) => {
-            let name = shown(alloc, spot.part(from, to))?;
+            let name = shown_text(alloc, spot.part(from, to))?;
             format!(in alloc; "{name} (line {line})")
         }
         None => {
@@ -189,12 +190,12 @@ fn renamed(
     spot: &Spot,
     possible: &Possible,
 ) -> Result<Option<Proposal>, AllocError> {
-    let is_reserved = reserved(spot.found()).is_some() && !is_bracket(spot.found());
+    let is_reserved = keyword_of(spot.token()).is_some() && !is_bracket(spot.token());
     if !is_reserved || !possible.has(Group::Name) {
         return Ok(None);
     }
-    let found = shown(alloc, spot.found())?;
-    let mut with = Vec::from_slice(alloc, spot.found())?;
+    let found = shown_text(alloc, spot.token())?;
+    let mut with = Vec::from_slice(alloc, spot.token())?;
     with.extend_from_slice(b"_1")?;
     Ok(Some(Proposal {
         what: format!(in alloc; "{found} is a word of the language, and no name")?,
@@ -214,7 +215,7 @@ fn near(
     let Some(word) = near_word(found) else {
         return Ok(None);
     };
-    let found = shown(alloc, found)?;
+    let found = shown_text(alloc, found)?;
     Ok(Some(Proposal {
         what: format!(in alloc; "{found} is no word of the language")?,
         cure: format!(in alloc; "the word that is near to it is {word}")?,
@@ -224,12 +225,12 @@ fn near(
 
 /// A time in place of a number.
 fn timed(alloc: Global, spot: &Spot, possible: &Possible) -> Result<Option<Proposal>, AllocError> {
-    let is_number = spot.found().iter().all(|byte| byte.is_ascii_digit());
+    let is_number = spot.token().iter().all(|byte| byte.is_ascii_digit());
     let is_time = possible.has(Group::Time) && !possible.has(Group::Number);
-    if !is_number || !is_time || spot.found().is_empty() {
+    if !is_number || !is_time || spot.token().is_empty() {
         return Ok(None);
     }
-    let number = shown(alloc, spot.found())?;
+    let number = shown_text(alloc, spot.token())?;
     let with = format!(in alloc; "T#{number}ms")?;
     Ok(Some(Proposal {
         what: String::from_str(alloc, "a number where a time is asked for")?,
@@ -243,10 +244,10 @@ fn timed(alloc: Global, spot: &Spot, possible: &Possible) -> Result<Option<Propo
 
 /// The one word that could stand there in place of another one.
 fn only(alloc: Global, spot: &Spot, possible: &Possible) -> Result<Option<Proposal>, AllocError> {
-    let (Some(word), Some(_)) = (possible.only_word(), reserved(spot.found())) else {
+    let (Some(word), Some(_)) = (possible.only_word(), keyword_of(spot.token())) else {
         return Ok(None);
     };
-    let found = shown(alloc, spot.found())?;
+    let found = shown_text(alloc, spot.token())?;
     Ok(Some(Proposal {
         what: format!(in alloc; "{found} where {word} is asked for")?,
         cure: format!(in alloc; "write {word}")?,
@@ -313,7 +314,7 @@ fn broken(
     if !possible.is_line_end || !standing.around.is_in_body() || spot.is_first() {
         return Ok(None);
     }
-    if reserved(spot.found()).is_none() {
+    if keyword_of(spot.token()).is_none() {
         return Ok(None);
     }
     let from = spot.line_from.saturating_add(front_len(spot));
@@ -330,11 +331,11 @@ fn without(
     spot: &Spot,
     possible: &Possible,
 ) -> Result<Option<Proposal>, AllocError> {
-    let is_needed = possible.has(Group::Outer) || is_end_word(spot.found());
-    if spot.found().is_empty() || is_needed || is_inside(spot) {
+    let is_needed = possible.has(Group::Outer) || is_end_word(spot.token());
+    if spot.token().is_empty() || is_needed || is_inside(spot) {
         return Ok(None);
     }
-    let found = shown(alloc, spot.found())?;
+    let found = shown_text(alloc, spot.token())?;
     Ok(Some(Proposal {
         what: format!(in alloc; "{found} is too much here")?,
         cure: String::from_str(alloc, "leave it out, or end the line before it")?,
@@ -351,7 +352,7 @@ pub(crate) fn is_inside(spot: &Spot) -> bool {
         [.., last] => is_letter(*last),
         [] => false,
     };
-    match spot.found() {
+    match spot.token() {
         [b',' | b'.', ..] => is_behind,
         [first, ..] if is_letter(*first) => is_before || is_behind,
         _ => is_before && is_behind,
@@ -375,7 +376,7 @@ fn is_letter(byte: u8) -> bool {
 pub(crate) fn is_bracket(found: &[u8]) -> bool {
     is_end_word(found)
         || matches!(
-            reserved(found),
+            keyword_of(found),
             Some(Keyword::Var | Keyword::VarInput | Keyword::VarExternal | Keyword::VarGlobal)
         )
 }
@@ -383,7 +384,7 @@ pub(crate) fn is_bracket(found: &[u8]) -> bool {
 /// Whether a word ends something.
 fn is_end_word(found: &[u8]) -> bool {
     matches!(
-        reserved(found),
+        keyword_of(found),
         Some(
             Keyword::EndType
                 | Keyword::EndFunction
@@ -405,10 +406,10 @@ fn instead(
     let Some(sign) = SIGNS.get(number) else {
         return Ok(None);
     };
-    if !possible.has_word(sign) || spot.found().is_empty() {
+    if !possible.has_word(sign) || spot.token().is_empty() {
         return Ok(None);
     }
-    let found = shown(alloc, spot.found())?;
+    let found = shown_text(alloc, spot.token())?;
     let name = sign_name(sign);
     Ok(Some(Proposal {
         what: format!(in alloc; "{found} where {name} is asked for")?,

@@ -8,17 +8,17 @@ use crate::numbers::answer_number;
 use crate::proposals::is_inside;
 use crate::text_causes::{BYTE_ORDER_MARK, advice_of, number_advice};
 use crate::unexpected::{Standing, answer_unexpected, is_cure};
-use curing::{Answer, Asked, Edit, Example, Outcome, Spot, Surroundings, shown};
+use curing::{AskedText, Edit, EditOutcome, Example, FaultAnswer, Spot, Surroundings, shown_text};
 use iltext::TextCause;
 use std::alloc::{AllocError, Global};
 
 /// What is said of a cause at a place of a text.
 pub fn answer_text(
     alloc: Global,
-    asked: &Asked,
+    asked: &AskedText,
     at: usize,
     cause: TextCause,
-) -> Result<Answer, AllocError> {
+) -> Result<FaultAnswer, AllocError> {
     let standing = Standing {
         asked,
         spot: Spot::of(asked.text, at),
@@ -31,16 +31,20 @@ pub fn answer_text(
             None => habitual(alloc, &standing, cause),
         },
         TextCause::NotAscii => not_ascii(alloc, &standing),
-        TextCause::BadNumber => Answer::of(alloc, number_advice(standing.spot.found())),
+        TextCause::BadNumber => FaultAnswer::of(alloc, number_advice(standing.spot.token())),
         TextCause::CommentOpen => comment(alloc, &standing),
-        TextCause::TooDeep | TextCause::TooLong => Answer::of(alloc, advice_of(cause)),
+        TextCause::TooDeep | TextCause::TooLong => FaultAnswer::of(alloc, advice_of(cause)),
     }
 }
 
 /// What is said of what people write, or else of what cannot stand there.
-fn habitual(alloc: Global, standing: &Standing, cause: TextCause) -> Result<Answer, AllocError> {
+fn habitual(
+    alloc: Global,
+    standing: &Standing,
+    cause: TextCause,
+) -> Result<FaultAnswer, AllocError> {
     if is_unnamed(&standing.spot, &standing.around) {
-        return Answer::of(alloc, UNNAMED);
+        return FaultAnswer::of(alloc, UNNAMED);
     }
     let Some(habit) = habit_at(&standing.spot, &standing.around) else {
         if let Some(answer) = answer_number(alloc, standing)? {
@@ -52,7 +56,7 @@ fn habitual(alloc: Global, standing: &Standing, cause: TextCause) -> Result<Answ
         };
     };
     let (_, _, fix, advice) = *habit;
-    let answer = Answer::of(alloc, advice)?;
+    let answer = FaultAnswer::of(alloc, advice)?;
     match edit_of(alloc, fix, &standing.spot, &standing.around)? {
         Some(edit) if is_cure(alloc, standing, &edit)? => {
             answer.with_tried(alloc, standing.asked.text, &edit)
@@ -62,10 +66,10 @@ fn habitual(alloc: Global, standing: &Standing, cause: TextCause) -> Result<Answ
 }
 
 /// What is said of a character that begins nothing.
-fn bad_token(alloc: Global, standing: &Standing) -> Result<Answer, AllocError> {
+fn bad_token(alloc: Global, standing: &Standing) -> Result<FaultAnswer, AllocError> {
     let advice = advice_of(TextCause::BadToken);
-    let found = shown(alloc, standing.spot.found())?;
-    let answer = Answer {
+    let found = shown_text(alloc, standing.spot.token())?;
+    let answer = FaultAnswer {
         what: format!(in alloc; "the sign {found} begins nothing")?,
         facts: String::new(alloc),
         cure: String::from_str(alloc, advice.cure)?,
@@ -84,22 +88,22 @@ fn has_digit_beside(spot: &Spot) -> bool {
 }
 
 /// What is said of a byte that is not ASCII.
-fn not_ascii(alloc: Global, standing: &Standing) -> Result<Answer, AllocError> {
+fn not_ascii(alloc: Global, standing: &Standing) -> Result<FaultAnswer, AllocError> {
     let text = standing.asked.text;
     if standing.spot.at == 0 && text.starts_with(b"\xef\xbb\xbf") {
-        let answer = Answer::of(alloc, BYTE_ORDER_MARK)?;
+        let answer = FaultAnswer::of(alloc, BYTE_ORDER_MARK)?;
         return with_edit(alloc, standing, answer, &Edit::new(alloc, 0, 3, b"")?);
     }
-    Answer::of(alloc, advice_of(TextCause::NotAscii))
+    FaultAnswer::of(alloc, advice_of(TextCause::NotAscii))
 }
 
 /// An answer with a change, where that is a cure.
 fn with_edit(
     alloc: Global,
     standing: &Standing,
-    answer: Answer,
+    answer: FaultAnswer,
     edit: &Edit,
-) -> Result<Answer, AllocError> {
+) -> Result<FaultAnswer, AllocError> {
     if is_cure(alloc, standing, edit)? {
         answer.with_tried(alloc, standing.asked.text, edit)
     } else {
@@ -108,12 +112,12 @@ fn with_edit(
 }
 
 /// What is said of a comment without end: it could end with its line.
-fn comment(alloc: Global, standing: &Standing) -> Result<Answer, AllocError> {
-    let answer = Answer::of(alloc, advice_of(TextCause::CommentOpen))?;
+fn comment(alloc: Global, standing: &Standing) -> Result<FaultAnswer, AllocError> {
+    let answer = FaultAnswer::of(alloc, advice_of(TextCause::CommentOpen))?;
     let to = standing.spot.line_to;
     let edit = Edit::new(alloc, to, to, b" *)")?;
     match edit.outcome(alloc, standing.asked)? {
-        Outcome::Text => Ok(answer),
+        EditOutcome::Text => Ok(answer),
         _ => answer.with_tried(alloc, standing.asked.text, &edit),
     }
 }

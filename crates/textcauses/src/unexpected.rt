@@ -2,19 +2,25 @@
 
 use crate::examples::example_of;
 use crate::proposals::{PROPOSALS, Proposal, propose};
-use curing::{Answer, Asked, Edit, Example, Outcome, Possible, Spot, Surroundings, listed, shown};
+use curing::{
+    AskedText, Edit, EditOutcome, Example, FaultAnswer, Possible, Spot, Surroundings, list_words,
+    shown_text,
+};
 use std::alloc::{AllocError, Global};
 
 /// A place that is asked about, with all that is known of it.
 #[derive(Clone, Copy)]
 pub(crate) struct Standing<'a> {
-    pub asked: &'a Asked<'a>,
+    pub asked: &'a AskedText<'a>,
     pub spot: Spot<'a>,
     pub around: Surroundings,
 }
 
 /// What is said where something cannot stand.
-pub(crate) fn answer_unexpected(alloc: Global, standing: &Standing) -> Result<Answer, AllocError> {
+pub(crate) fn answer_unexpected(
+    alloc: Global,
+    standing: &Standing,
+) -> Result<FaultAnswer, AllocError> {
     let spot = standing.spot;
     let from = standing.around.from;
     let Some(possible) = Possible::at(alloc, spot.text, from, spot.at)? else {
@@ -41,25 +47,25 @@ fn asked_for(
     standing: &Standing,
     possible: &Possible,
 ) -> Result<Option<String>, AllocError> {
-    let told = possible.told(alloc, standing.around.is_in_body())?;
+    let told = possible.words(alloc, standing.around.is_in_body())?;
     let [only] = told.as_slice() else {
         return Ok(None);
     };
-    if standing.spot.found().is_empty() {
+    if standing.spot.token().is_empty() {
         return Ok(None);
     }
-    let found = shown(alloc, standing.spot.found())?;
+    let found = shown_text(alloc, standing.spot.token())?;
     Ok(Some(format!(in alloc; "{found} where {only} is asked for")?))
 }
 
 /// What could stand at the place, as a line.
 fn facts_of(alloc: Global, standing: &Standing, possible: &Possible) -> Result<String, AllocError> {
     let with_end = standing.around.is_in_body() && !standing.spot.is_first();
-    let told = possible.told(alloc, with_end)?;
+    let told = possible.words(alloc, with_end)?;
     if told.is_empty() {
         return Ok(String::new(alloc));
     }
-    let list = listed(alloc, &told)?;
+    let list = list_words(alloc, &told)?;
     format!(in alloc; "could stand here: {list}\n")
 }
 
@@ -82,14 +88,18 @@ fn is_cure_up_to(
         return Ok(false);
     }
     Ok(match edit.outcome(alloc, standing.asked)? {
-        Outcome::Name { is_there, .. } => !is_there,
+        EditOutcome::Name { is_there, .. } => !is_there,
         _ => true,
     })
 }
 
 /// What is said with a change that was tried.
-fn tried(alloc: Global, standing: &Standing, proposal: Proposal) -> Result<Answer, AllocError> {
-    Ok(Answer {
+fn tried(
+    alloc: Global,
+    standing: &Standing,
+    proposal: Proposal,
+) -> Result<FaultAnswer, AllocError> {
+    Ok(FaultAnswer {
         what: proposal.what,
         facts: String::new(alloc),
         cure: proposal.cure,
@@ -98,18 +108,18 @@ fn tried(alloc: Global, standing: &Standing, proposal: Proposal) -> Result<Answe
 }
 
 /// What is said where no change helps.
-fn plain(alloc: Global, standing: &Standing) -> Result<Answer, AllocError> {
-    let found = standing.spot.found();
+fn plain(alloc: Global, standing: &Standing) -> Result<FaultAnswer, AllocError> {
+    let found = standing.spot.token();
     let what = if standing.spot.at >= standing.spot.text.len() {
         String::from_str(alloc, "the text ends too early")?
     } else if found.is_empty() {
         String::from_str(alloc, "the line ends too early")?
     } else {
-        let found = shown(alloc, found)?;
+        let found = shown_text(alloc, found)?;
         format!(in alloc; "{found} cannot stand here")?
     };
     let advice = example_of(&standing.spot, &standing.around);
-    Ok(Answer {
+    Ok(FaultAnswer {
         what,
         facts: String::new(alloc),
         cure: String::from_str(alloc, advice.cure)?,

@@ -316,7 +316,7 @@ fn is_left<'w, 'r, R: Timer>(
     ended: Ended,
     scans: u64,
 ) -> bool {
-    left.ended() == ended
+    left.ending() == ended
         && left.clock().gave_none() == (ended == Ended::Asked)
         && has_counted(left.plant(), watch, scans)
 }

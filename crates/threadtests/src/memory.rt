@@ -121,7 +121,7 @@ impl Counts {
             events: left.plant().len(),
             limit: left.plant().limit(),
             buses: left.buses().len(),
-            ended: left.ended(),
+            ended: left.ending(),
         }
     }
 }
@@ -168,7 +168,7 @@ fn is_done(plant: &Plant) -> bool {
 /// Whether a run was cut short for want of memory or of a thread. Else the clock came to its end,
 /// and all is done.
 fn is_cut(left: &Left) -> Result<bool, Fail> {
-    match left.ended() {
+    match left.ending() {
         Ended::NoMemory | Ended::NoThread => Ok(true),
         Ended::Asked if is_done(left.plant()) => Ok(false),
         Ended::Asked | Ended::Limit => Err("something is left to do".into()),

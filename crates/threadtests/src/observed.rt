@@ -4,7 +4,7 @@
 use crate::house::House;
 use daliframe::BusNumber;
 use invocations::Beside;
-use observing::{Observer, Storage};
+use observing::{BuildingObserver, Storage};
 use plantlive::live;
 use plantplay::bus_of;
 use simbus::{Scenario, ScriptedClock, SimBus};
@@ -107,8 +107,15 @@ fn is_logged<R: Threads + Wait + Timer + Sync>(rt: &R, alloc: Global) -> Result<
         rt,
         told: Mutex::new(Vec::new(alloc)),
     };
-    let Ok(observer) = Observer::open(rt, alloc, &held, &BESIDE, HOUSE.setup(alloc)?, WORKERS, b"")
-    else {
+    let Ok(observer) = BuildingObserver::open(
+        rt,
+        alloc,
+        &held,
+        &BESIDE,
+        HOUSE.setup(alloc)?,
+        WORKERS,
+        b"",
+    ) else {
         return Err(Fail::new("the log isn't opened"));
     };
     let opening = Opening {

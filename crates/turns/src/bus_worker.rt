@@ -48,7 +48,7 @@ fn as_told(told: io::Result<()>, turn: Turn) -> Result<Turn, Halt>
 
 /// Tells that a transaction was handed to a bus.
 fn tell_handed<B, O: Observer<B>>(observer: &mut O, bus: u8, handed: &Handed) -> io::Result<()> {
-    observer.handed(handed.number, bus, handed.origin, &handed.transaction)
+    observer.note_handout(handed.number, bus, handed.origin, &handed.transaction)
 }
 
 /// Tells what became of a transaction, unless it failed to tell that the transaction was handed
@@ -63,10 +63,10 @@ fn tell_report<B, O: Observer<B>>(
     line: &B,
 ) -> Result<Turn, Halt> {
     handed?;
-    observer.reported(place, bus, report, line)?;
+    observer.note_report(place, bus, report, line)?;
     match down {
         None => Ok(Turn::Busy),
-        Some(place) => as_told(observer.went_down(place, bus), Turn::Down),
+        Some(place) => as_told(observer.note_down(place, bus), Turn::Down),
     }
 }
 
@@ -130,7 +130,7 @@ fn send_once<'a, B: Bus, J: LockStart + Links, T: Tally, K: Tallies<T>, O: Obser
     let report = perform(&mut served.line, &handed.transaction, tries);
     let outcome = report.outcome();
     let noted = report.clone().unwrap();
-    let Ok(()) = shared.done(rt, &mut served.share, bus, handed.number, noted) else {
+    let Ok(()) = shared.note_report(rt, &mut served.share, bus, handed.number, noted) else {
         unreachable!()
     };
     let place = served.share.last_place();
@@ -158,18 +158,18 @@ fn hear_once<'a, B: Bus, J: LockStart + Links, T: Tally, K: Tallies<T>, O: Obser
     shared.may_hear(rt, &mut served.share, bus)?;
     match served.line.hear() {
         Ok(Some(frame)) => {
-            let Ok(()) = shared.heard(rt, &mut served.share, bus, frame) else {
+            let Ok(()) = shared.note_frame(rt, &mut served.share, bus, frame) else {
                 unreachable!()
             };
             as_told(
-                observer.heard(served.share.last_place(), bus, frame),
+                observer.note_frame(served.share.last_place(), bus, frame),
                 Turn::Busy,
             )
         }
         Ok(None) => Ok(Turn::Idle),
         Err(_) => {
             let place = go_down(rt, shared, bus, served);
-            as_told(observer.went_down(place, bus), Turn::Down)
+            as_told(observer.note_down(place, bus), Turn::Down)
         }
     }
 }

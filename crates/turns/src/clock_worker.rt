@@ -52,6 +52,6 @@ pub fn tick_once<
     let Ok(()) = shared.tick(rt, &mut timed.share, moment) else {
         unreachable!()
     };
-    observer.ticked(timed.share.last_place(), moment)?;
+    observer.note_tick(timed.share.last_place(), moment)?;
     Ok(true)
 }

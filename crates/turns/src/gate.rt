@@ -42,23 +42,29 @@ pub struct Passing<'g, G: Gate> {
 }
 
 impl<'g, B, G: Gate> Observer<B> for Passing<'g, G> {
-    fn ticked(&mut self, place: u64, moment: u64) -> io::Result<()> {
+    fn note_tick(&mut self, place: u64, moment: u64) -> io::Result<()> {
         self.gate.after(place, Happened::Ticked { moment });
         Ok(())
     }
 
-    fn heard(&mut self, place: u64, bus: u8, frame: Frame24) -> io::Result<()> {
+    fn note_frame(&mut self, place: u64, bus: u8, frame: Frame24) -> io::Result<()> {
         self.gate.after(place, Happened::Heard { bus, frame });
         Ok(())
     }
 
-    fn took(&mut self, place: u64, worker: usize, task: usize) -> io::Result<()> {
+    fn note_take(&mut self, place: u64, worker: usize, task: usize) -> io::Result<()> {
         self.gate.after(place, Happened::Took { worker, task });
         self.gate.before_scan(worker, task);
         Ok(())
     }
 
-    fn committed(&mut self, place: u64, worker: usize, task: usize, steps: u32) -> io::Result<()> {
+    fn note_commit(
+        &mut self,
+        place: u64,
+        worker: usize,
+        task: usize,
+        steps: u32,
+    ) -> io::Result<()> {
         let happened = Happened::Committed {
             worker,
             task,
@@ -68,7 +74,7 @@ impl<'g, B, G: Gate> Observer<B> for Passing<'g, G> {
         Ok(())
     }
 
-    fn handed(
+    fn note_handout(
         &mut self,
         place: u64,
         bus: u8,
@@ -85,13 +91,13 @@ impl<'g, B, G: Gate> Observer<B> for Passing<'g, G> {
         Ok(())
     }
 
-    fn reported(&mut self, place: u64, bus: u8, report: &Report, _line: &B) -> io::Result<()> {
+    fn note_report(&mut self, place: u64, bus: u8, report: &Report, _line: &B) -> io::Result<()> {
         let report = report.clone().unwrap();
         self.gate.after(place, Happened::Reported { bus, report });
         Ok(())
     }
 
-    fn went_down(&mut self, place: u64, bus: u8) -> io::Result<()> {
+    fn note_down(&mut self, place: u64, bus: u8) -> io::Result<()> {
         self.gate.after(place, Happened::WentDown { bus });
         Ok(())
     }

@@ -22,7 +22,7 @@ fn tell_scan<B, O: Observer<B>>(
     steps: u32,
 ) -> io::Result<()> {
     took?;
-    observer.committed(place, worker, task, steps)
+    observer.note_commit(place, worker, task, steps)
 }
 
 /// Takes a task under the lock, makes its scan outside the lock, and commits it under the lock.
@@ -40,7 +40,7 @@ fn scan_once<'a, B, J: LockStart, T: Tally, K: Tallies<T>, O: Observer<B>, R: Wa
 {
     let order = shared.take(rt, alloc, share, worker)?;
     let task = order.task;
-    let took = observer.took(order.number, worker, task);
+    let took = observer.note_take(order.number, worker, task);
     let scan = scan_into(order.work);
     let steps = scan.steps();
     let Ok(()) = shared.commit(rt, share, worker, scan) else {

@@ -7,7 +7,7 @@
 //!
 //! ```text
 //! let mut watch = Watch::open(alloc, setup, 1_000, names)?;
-//! watch.took()?; // and so on, as it happens
+//! watch.note_take()?; // and so on, as it happens
 //! watch.write_changes(&mut to)?; //     lamp = 200
 //! ```
 #![tactic(auto)]
@@ -18,4 +18,4 @@ mod watch;
 
 pub use naming::{are_watchable, is_named};
 pub use reporting::report_unwatchable;
-pub use watch::{Watch, Watched};
+pub use watch::{Watch, WatchedVariable};

@@ -30,7 +30,7 @@ pub(crate) enum Place {
 
 /// A variable that is watched.
 #[derive(Drop)]
-pub struct Watched {
+pub struct WatchedVariable {
     /// Its name, as declared.
     name: String,
     place: Place,
@@ -40,7 +40,7 @@ pub struct Watched {
     value: Value,
 }
 
-impl Watched {
+impl WatchedVariable {
     /// Its name, as declared: `instance.variable`, and of a global variable its name alone.
     pub fn name(&self) -> &str {
         &self.name
@@ -60,7 +60,7 @@ pub struct Watch {
     alloc: Global,
     plant: Plant,
     /// In the order of the names.
-    watched: Vec<Watched>,
+    watched: Vec<WatchedVariable>,
 }
 
 impl Watch {
@@ -83,18 +83,18 @@ impl Watch {
     }
 
     /// The variables, in the order of the names.
-    pub fn watched(&self) -> &[Watched] {
+    pub fn variables(&self) -> &[WatchedVariable] {
         &self.watched
     }
 
     /// It is this moment, in milliseconds.
-    pub fn ticked(&mut self, moment: u64) {
+    pub fn note_tick(&mut self, moment: u64) {
         let _same = self.plant.tick(moment);
     }
 
     /// A frame was heard on a bus.
-    pub fn heard(&mut self, bus: u8, frame: Frame24) {
-        let _same = self.plant.heard(bus, frame);
+    pub fn note_frame(&mut self, bus: u8, frame: Frame24) {
+        let _same = self.plant.note_frame(bus, frame);
     }
 
     /// The next task was taken. Its scan is made and committed here, since nothing comes between.
@@ -102,7 +102,7 @@ impl Watch {
     /// # Errors
     ///
     /// The allocator is out of memory.
-    pub fn took(&mut self) -> Result<(), AllocError> {
+    pub fn note_take(&mut self) -> Result<(), AllocError> {
         let order = match self.plant.take(self.alloc, WORKER) {
             Ok(order) => order,
             Err(CallError::Memory) => return Err(AllocError),
@@ -117,22 +117,22 @@ impl Watch {
     }
 
     /// A bus was handed what is sent next.
-    pub fn handed(&mut self, bus: u8) {
+    pub fn note_handout(&mut self, bus: u8) {
         let _same = self.plant.hand(bus);
     }
 
     /// A bus reported what became of its transaction.
-    pub fn reported(&mut self, bus: u8, report: &Report) {
+    pub fn note_report(&mut self, bus: u8, report: &Report) {
         if bus >= self.plant.setup().plan().buses() {
             return;
         }
         if let Some(number) = self.plant.open_hand(bus) {
-            let _same = self.plant.done(bus, number, report.clone().unwrap());
+            let _same = self.plant.note_report(bus, number, report.clone().unwrap());
         }
     }
 
     /// A bus went down.
-    pub fn went_down(&mut self, bus: u8) {
+    pub fn note_down(&mut self, bus: u8) {
         let _same = self.plant.down(bus);
     }
 
@@ -155,13 +155,17 @@ impl Watch {
 }
 
 /// The variables of these names, as they are at a plant to which nothing has happened.
-fn watched_of(alloc: Global, plant: &Plant, names: &[&str]) -> Result<Vec<Watched>, AllocError> {
+fn watched_of(
+    alloc: Global,
+    plant: &Plant,
+    names: &[&str],
+) -> Result<Vec<WatchedVariable>, AllocError> {
     let plan = plant.setup().plan();
     let mut watched = Vec::new(alloc);
     for name in names {
         if let Some(place) = place_of(plan, name) {
             let value = first_value(plant, place);
-            watched.push(Watched {
+            watched.push(WatchedVariable {
                 name: name_at(alloc, plan, place)?,
                 place,
                 told: value,
@@ -214,7 +218,7 @@ fn first_own(plan: &Plan, task: usize, slot: usize) -> Value
 }
 
 /// Notes the values of a task's own variables that its scan left.
-fn note_own(watched: &mut [Watched], task: usize, row: &ValueRow) {
+fn note_own(watched: &mut [WatchedVariable], task: usize, row: &ValueRow) {
     for variable in watched {
         match variable.place {
             Place::Own { task: of, slot } if of == task && slot < row.len() => {
@@ -226,7 +230,7 @@ fn note_own(watched: &mut [Watched], task: usize, row: &ValueRow) {
 }
 
 /// Notes the values of global variables.
-fn note_globals(watched: &mut [Watched], plant: &Plant) {
+fn note_globals(watched: &mut [WatchedVariable], plant: &Plant) {
     for variable in watched {
         match variable.place {
             Place::Global(global) if global < plant.setup().plan().globals() => {

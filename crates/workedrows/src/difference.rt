@@ -48,7 +48,7 @@ impl fmt::Display for Difference {
 }
 
 /// Why the rows aren't judged to their end.
-pub enum Stop {
+pub enum RowsStop {
     Memory,
     /// A file of rows isn't read.
     File(io::Error),
@@ -63,40 +63,40 @@ pub enum Stop {
 }
 
 /// Written out, so that it is proved here alone.
-impl Drop for Stop {
+impl Drop for RowsStop {
     fn drop(self) {
         match self {
-            Stop::Memory => {}
-            Stop::File(_) => {}
-            Stop::Row {
+            RowsStop::Memory => {}
+            RowsStop::File(_) => {}
+            RowsStop::Row {
                 row: _,
                 line: _,
                 why: _,
             } => {}
-            Stop::Held(_) => {}
+            RowsStop::Held(_) => {}
         }
     }
 }
 
-impl From<AllocError> for Stop {
+impl From<AllocError> for RowsStop {
     fn from(_: AllocError) -> Self {
-        Stop::Memory
+        RowsStop::Memory
     }
 }
 
-impl From<io::Error> for Stop {
+impl From<io::Error> for RowsStop {
     fn from(error: io::Error) -> Self {
-        Stop::File(error)
+        RowsStop::File(error)
     }
 }
 
-impl fmt::Display for Stop {
+impl fmt::Display for RowsStop {
     fn fmt<W: fmt::Write>(&self, f: &mut fmt::Formatter<W>) -> fmt::Result {
         match self {
-            Stop::Memory => write!(f, "no memory"),
-            Stop::File(error) => write!(f, "a file of rows isn't read: {error}"),
-            Stop::Held(row) => write!(f, "the wrong row '{row}' holds"),
-            Stop::Row { row, line, why } => write!(f, "row '{row}', at '{line}': {why}"),
+            RowsStop::Memory => write!(f, "no memory"),
+            RowsStop::File(error) => write!(f, "a file of rows isn't read: {error}"),
+            RowsStop::Held(row) => write!(f, "the wrong row '{row}' holds"),
+            RowsStop::Row { row, line, why } => write!(f, "row '{row}', at '{line}': {why}"),
         }
     }
 }

@@ -2,7 +2,7 @@
 
 use crate::body::{Body, bytes_of_hex, hex_of_bytes};
 use crate::command_line::CommandLine;
-use crate::difference::{Difference, Stop};
+use crate::difference::{Difference, RowsStop};
 use crate::lines::{each_line_is_part, each_line_stands, text_of, without_digits};
 use crate::machine::{Machine, Output, StoredFile, Terminal, bytes_at, place_among};
 use std::alloc::{AllocError, Global};
@@ -107,7 +107,7 @@ impl Judge {
     /// # Errors
     ///
     /// The row doesn't hold, or the line is none of a row.
-    pub fn take_line(&mut self, line: &str) -> Result<Option<CommandLine>, Stop> {
+    pub fn take_line(&mut self, line: &str) -> Result<Option<CommandLine>, RowsStop> {
         if let Some(name) = line.strip_prefix("== ") {
             self.begin_row(name)?;
             return Ok(None);
@@ -161,7 +161,7 @@ impl Judge {
     /// # Errors
     ///
     /// The row before it doesn't hold.
-    pub fn begin_row(&mut self, name: &str) -> Result<(), Stop> {
+    pub fn begin_row(&mut self, name: &str) -> Result<(), RowsStop> {
         self.end_part()?;
         self.rows = self.rows.saturating_add(1);
         self.row = String::from_str(self.alloc, name)?;
@@ -176,7 +176,7 @@ impl Judge {
     /// # Errors
     ///
     /// What was shown under the name before is otherwise.
-    pub fn continue_row(&mut self, name: &str) -> Result<(), Stop> {
+    pub fn continue_row(&mut self, name: &str) -> Result<(), RowsStop> {
         self.end_part()?;
         self.rows = self.rows.saturating_add(1);
         self.row = String::from_str(self.alloc, name)?;
@@ -193,7 +193,7 @@ impl Judge {
     }
 
     /// What the last command printed, where one ran.
-    pub fn printed(&self) -> Option<&[u8]> {
+    pub fn last_output(&self) -> Option<&[u8]> {
         match &self.outcome {
             Some(outcome) => Some(&outcome.output.printed),
             None => None,
@@ -201,7 +201,7 @@ impl Judge {
     }
 
     /// Takes a line that isn't one of a body alone.
-    fn take_heading(&mut self, heading: &str) -> Result<Option<CommandLine>, Stop> {
+    fn take_heading(&mut self, heading: &str) -> Result<Option<CommandLine>, RowsStop> {
         let (kind, rest) = first_word(heading);
         if kind == "times" {
             self.take_times(heading, rest)?;
@@ -223,7 +223,7 @@ impl Judge {
     }
 
     /// Does what a heading asks, or begins the part that it heads.
-    fn begin_part(&mut self, kind: &str, rest: &str) -> Result<(), Stop> {
+    fn begin_part(&mut self, kind: &str, rest: &str) -> Result<(), RowsStop> {
         match kind {
             "status" => self.compare_status(rest),
             "terminal" => self.break_outputs(rest),
@@ -238,7 +238,7 @@ impl Judge {
     }
 
     /// Takes a line that repeats another one.
-    fn take_times(&mut self, heading: &str, rest: &str) -> Result<(), Stop> {
+    fn take_times(&mut self, heading: &str, rest: &str) -> Result<(), RowsStop> {
         match repeated(rest) {
             Some((many, pattern)) => Ok(self.body.add_times(many, pattern)?),
             None => {
@@ -259,7 +259,7 @@ impl Judge {
     }
 
     /// Ends a part: keeps its file, or compares what was printed with it.
-    pub fn end_part(&mut self) -> Result<(), Stop> {
+    pub fn end_part(&mut self) -> Result<(), RowsStop> {
         let part = mem::replace(&mut self.part, Part::Comment);
         let bytes = mem::replace(&mut self.body, Body::new(self.alloc)).into_bytes();
         match part {
@@ -279,7 +279,7 @@ impl Judge {
     }
 
     /// Keeps a file, under the name in the part's heading, in place of one of the same name.
-    fn keep_file(&mut self, bytes: Vec<u8>) -> Result<(), Stop> {
+    fn keep_file(&mut self, bytes: Vec<u8>) -> Result<(), RowsStop> {
         let path = String::from_str(self.alloc, self.path())?;
         place_among(self.files.get_mut(), StoredFile { path, bytes })?;
         Ok(())
@@ -292,13 +292,13 @@ impl Judge {
     }
 
     /// Keeps a file with the text of one program.
-    fn keep_text(&mut self, mut bytes: Vec<u8>) -> Result<(), Stop> {
+    fn keep_text(&mut self, mut bytes: Vec<u8>) -> Result<(), RowsStop> {
         bytes.extend_from_slice(b"END_PROGRAM\n")?;
         self.keep_file(bytes)
     }
 
     /// Keeps a file whose bytes are given as hex digits.
-    fn keep_hex(&mut self, digits: &[u8]) -> Result<(), Stop> {
+    fn keep_hex(&mut self, digits: &[u8]) -> Result<(), RowsStop> {
         match bytes_of_hex(self.alloc, digits)? {
             Some(bytes) => self.keep_file(bytes),
             None => Err(self.difference(Difference::Line)),
@@ -306,7 +306,7 @@ impl Judge {
     }
 
     /// Has the outputs of the commands that come fail.
-    fn break_outputs(&mut self, words: &str) -> Result<(), Stop> {
+    fn break_outputs(&mut self, words: &str) -> Result<(), RowsStop> {
         self.terminal = Terminal::WHOLE;
         for word in words.split(' ') {
             match word {
@@ -322,7 +322,7 @@ impl Judge {
     }
 
     /// How the last command ended.
-    fn outcome(&self) -> Result<&Outcome, Stop> {
+    fn outcome(&self) -> Result<&Outcome, RowsStop> {
         match &self.outcome {
             Some(outcome) => Ok(outcome),
             None => Err(self.difference(Difference::Line)),
@@ -330,7 +330,7 @@ impl Judge {
     }
 
     /// Compares the exit status.
-    fn compare_status(&self, wanted: &str) -> Result<(), Stop> {
+    fn compare_status(&self, wanted: &str) -> Result<(), RowsStop> {
         let found = self.outcome()?.status;
         match wanted.parse::<u8>() {
             Ok(status) if status == found => Ok(()),
@@ -340,33 +340,33 @@ impl Judge {
     }
 
     /// Compares all that was printed.
-    fn compare_printed(&self, wanted: &[u8]) -> Result<(), Stop> {
+    fn compare_printed(&self, wanted: &[u8]) -> Result<(), RowsStop> {
         let found = &self.outcome()?.output.printed;
         self.judge_printed(found, found.as_slice() == wanted)
     }
 
     /// Compares all that a terminal shows: what was printed on standard error, and on standard output.
-    fn compare_shown(&self, wanted: &[u8]) -> Result<(), Stop> {
+    fn compare_shown(&self, wanted: &[u8]) -> Result<(), RowsStop> {
         let found = self.shown()?;
         self.judge_printed(&found, found.as_slice() == wanted)
     }
 
     /// The same, but for the digits.
-    fn compare_shown_like(&self, wanted: &[u8]) -> Result<(), Stop> {
+    fn compare_shown_like(&self, wanted: &[u8]) -> Result<(), RowsStop> {
         let found = self.shown()?;
         let is_like = without_digits(self.alloc, &found)? == without_digits(self.alloc, wanted)?;
         self.judge_printed(&found, is_like)
     }
 
     /// Looks whether it begins with these lines, up to the line `..`.
-    fn compare_shown_first(&self, wanted: &[u8]) -> Result<(), Stop> {
+    fn compare_shown_first(&self, wanted: &[u8]) -> Result<(), RowsStop> {
         let found = self.shown()?;
         let first = wanted.strip_suffix(MORE).unwrap_or(wanted);
         self.judge_printed(&found, found.starts_with(first))
     }
 
     /// What a terminal shows of the last command.
-    fn shown(&self) -> Result<Vec<u8>, Stop> {
+    fn shown(&self) -> Result<Vec<u8>, RowsStop> {
         let output = &self.outcome()?.output;
         let mut shown = Vec::from_slice(self.alloc, &output.complained)?;
         shown.extend_from_slice(&output.printed)?;
@@ -374,13 +374,13 @@ impl Judge {
     }
 
     /// Looks for each of these lines among those that were printed.
-    fn find_printed(&self, wanted: &[u8]) -> Result<(), Stop> {
+    fn find_printed(&self, wanted: &[u8]) -> Result<(), RowsStop> {
         let found = &self.outcome()?.output.printed;
         self.judge_printed(found, each_line_stands(wanted, found))
     }
 
     /// Refuses what was printed, unless it is as wanted.
-    fn judge_printed(&self, found: &[u8], is_wanted: bool) -> Result<(), Stop> {
+    fn judge_printed(&self, found: &[u8], is_wanted: bool) -> Result<(), RowsStop> {
         if is_wanted {
             return Ok(());
         }
@@ -389,19 +389,19 @@ impl Judge {
     }
 
     /// Compares all that was printed on standard error.
-    fn compare_complained(&self, wanted: &[u8]) -> Result<(), Stop> {
+    fn compare_complained(&self, wanted: &[u8]) -> Result<(), RowsStop> {
         let found = &self.outcome()?.output.complained;
         self.judge_complained(found, found.as_slice() == wanted)
     }
 
     /// Looks for each of these lines in what was printed on standard error.
-    fn find_complained(&self, wanted: &[u8]) -> Result<(), Stop> {
+    fn find_complained(&self, wanted: &[u8]) -> Result<(), RowsStop> {
         let found = &self.outcome()?.output.complained;
         self.judge_complained(found, each_line_is_part(wanted, text_of(found)))
     }
 
     /// Refuses what was printed on standard error, unless it is as wanted.
-    fn judge_complained(&self, found: &[u8], is_wanted: bool) -> Result<(), Stop> {
+    fn judge_complained(&self, found: &[u8], is_wanted: bool) -> Result<(), RowsStop> {
         if is_wanted {
             return Ok(());
         }
@@ -410,7 +410,7 @@ impl Judge {
     }
 
     /// Compares a file with bytes that are given as hex digits.
-    fn compare_written(&self, digits: &[u8]) -> Result<(), Stop> {
+    fn compare_written(&self, digits: &[u8]) -> Result<(), RowsStop> {
         match bytes_of_hex(self.alloc, digits)? {
             Some(wanted) => self.compare_bytes(&wanted),
             None => Err(self.difference(Difference::Line)),
@@ -418,7 +418,7 @@ impl Judge {
     }
 
     /// Compares a file with bytes.
-    fn compare_bytes(&self, wanted: &[u8]) -> Result<(), Stop> {
+    fn compare_bytes(&self, wanted: &[u8]) -> Result<(), RowsStop> {
         let shown = match bytes_at(self.alloc, &self.files, self.path())? {
             Some(found) if found.as_slice() == wanted => return Ok(()),
             Some(found) => hex_of_bytes(self.alloc, &found)?,
@@ -428,16 +428,16 @@ impl Judge {
     }
 
     /// That this row doesn't hold, or that there is no memory to say so.
-    pub fn difference(&self, why: Difference) -> Stop {
+    pub fn difference(&self, why: Difference) -> RowsStop {
         match self.row_stop(why) {
             Ok(stop) => stop,
-            Err(_) => Stop::Memory,
+            Err(_) => RowsStop::Memory,
         }
     }
 
     /// That this row doesn't hold.
-    fn row_stop(&self, why: Difference) -> Result<Stop, AllocError> {
-        Ok(Stop::Row {
+    fn row_stop(&self, why: Difference) -> Result<RowsStop, AllocError> {
+        Ok(RowsStop::Row {
             row: self.row.clone()?,
             line: self.heading.clone()?,
             why,

@@ -71,7 +71,7 @@ pub fn go_on<B: Bus + Send, C: Clock + Send, G: Gate, R: Threads + Wait + Timer 
     ensures gone_on { MatchResult result (HasGoneOnBy more B.log C.log closed)
         (IsNotGoneOnBy more closed) }
 {
-    let Some(limit) = limit_for(closed.plant().used(), more) else {
+    let Some(limit) = limit_for(closed.plant().used_places(), more) else {
         let fault = OpenFault::Limit;
         return Err(NotGoneOn { fault, closed });
     };

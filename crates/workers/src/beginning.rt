@@ -17,14 +17,14 @@ use buslink::{Bus, Clock};
 use plant::Plant;
 use plantevents::{what_a_part_shows, what_a_part_shows_of_links};
 use plantlock::{LockStart, NotedPart, Shared, Shares};
-use seats::{LockTallies, Names, NewTallies, ThreadTally};
+use seats::{LedgerNames, LockTallies, NewTallies, ThreadTally};
 use std::alloc::{AllocError, Global};
 use std::sync::OnceLock;
 use turns::{BusWithShare, ClockWithShare, Links};
 
 /// What a run begins with.
 #[derive(Drop)]
-pub(crate) struct RunParts<'a, B: Bus, C: Clock, J: LockStart + Links, N: Names> {
+pub(crate) struct RunParts<'a, B: Bus, C: Clock, J: LockStart + Links, N: LedgerNames> {
     pub shared: Shared<'a, J, ThreadTally<N>, LockTallies<N>>,
     pub linked: LinkedShares<'a, B, C, J, ThreadTally<N>>,
     pub bus_lists: BusLists<'a, B, J, ThreadTally<N>>,
@@ -51,7 +51,7 @@ fn room_for<X: Drop>(alloc: Global, count: usize) -> Result<Vec<X>, AllocError>
 /// What is made before the lock: the ledgers, and room for the links with their Shares and for the
 /// threads.
 #[derive(Drop)]
-struct Allocations<'a, B: Bus, J: LockStart + Links, N: Names> {
+struct Allocations<'a, B: Bus, J: LockStart + Links, N: LedgerNames> {
     thread_lists: ThreadLists<'a, B, J, ThreadTally<N>>,
     served: Vec<BusWithShare<'a, B, J, ThreadTally<N>>>,
     tallies: LockTallies<N>,
@@ -59,7 +59,7 @@ struct Allocations<'a, B: Bus, J: LockStart + Links, N: Names> {
 }
 
 /// Makes what is made before the lock, for so many buses and scan workers.
-fn allocate<'a, B: Bus, J: LockStart + Links, N: Names>(
+fn allocate<'a, B: Bus, J: LockStart + Links, N: LedgerNames>(
     alloc: Global,
     new_tallies: NewTallies,
     buses: usize,
@@ -90,7 +90,7 @@ fn allocate<'a, B: Bus, J: LockStart + Links, N: Names>(
 /// # Errors
 ///
 /// The allocator is out of memory. All comes back as it was.
-pub(crate) fn begin<'a, B: Bus, C: Clock, J: LockStart + Links, N: Names>(
+pub(crate) fn begin<'a, B: Bus, C: Clock, J: LockStart + Links, N: LedgerNames>(
     alloc: Global,
     plant: Plant,
     cells: &'a [OnceLock<NotedPart>],

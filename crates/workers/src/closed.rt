@@ -67,7 +67,7 @@ impl<B: Bus, C: Clock> Closed<B, C> {
     }
 
     /// Why the run ended.
-    pub fn ended(&self) -> Ended
+    pub fn ending(&self) -> Ended
         ensures value { result ≡ self.now.ended }
     {
         self.parts.ended

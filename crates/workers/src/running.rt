@@ -22,7 +22,7 @@ use buslink::{Bus, Clock};
 use ilcompile::Setup;
 use plant::{OpenFault, Plant};
 use plantlock::{LockStart, NotedPart, Shared};
-use seats::{Names, NewTallies, Tallies, Tally};
+use seats::{LedgerNames, NewTallies, Tallies, Tally};
 use std::alloc::{AllocError, Global};
 use std::marker::Brand;
 use std::sync::{OnceLock, Wait};
@@ -55,7 +55,7 @@ pub(crate) fn run_named<
     B: Bus + Send,
     C: Clock + Send,
     J: LockStart + Links + Send + Sync,
-    N: Names + Send + Sync,
+    N: LedgerNames + Send + Sync,
     G: Gate,
     R: Threads + Wait + Timer + Sync,
 >(

@@ -78,7 +78,7 @@ impl Plant {
             &self.image,
             task,
         );
-        self.tasks.ended(task);
+        self.tasks.note_commit(task);
         note_end(&mut self.scans, worker);
         self.history.push(&Event::Commit {
             worker,

@@ -67,7 +67,7 @@ impl Plant {
     }
 
     /// How many places of the history are used: by its events, and by what is kept for events to come.
-    pub fn used(&self) -> u64
+    pub fn used_places(&self) -> u64
         ensures value { result ≡ used self.now }
     {
         self.length + self.kept
@@ -134,20 +134,20 @@ impl Plant {
     }
 
     /// How many requests of a class were dropped at a bus.
-    pub fn dropped(&self, bus: u8, class: Class) -> u64
+    pub fn drop_count(&self, bus: u8, class: Class) -> u64
         requires { bus < self.now.plant.plan.buses }
         ensures value { result
             ≡ dropped self.now.plant bus (class_number class) self.now.history }
     {
-        self.buses[usize::from(bus)].queues().dropped(class)
+        self.buses[usize::from(bus)].queues().drop_count(class)
     }
 
     /// How many events were given up for a task, since 32 later ones came before it was taken.
-    pub fn lost(&self, task: usize) -> u64
+    pub fn loss_count(&self, task: usize) -> u64
         requires { task < length self.now.plant.plan.tasks }
         ensures value { result ≡ lost (activator self.now.plant task) task self.now.history }
     {
-        self.tasks.lost(task)
+        self.tasks.loss_count(task)
     }
 
     /// How many frames are in the reports of a bus.

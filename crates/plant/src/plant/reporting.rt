@@ -61,7 +61,7 @@ impl Plant {
     /// There is no such bus, this is not the transaction that it has open, or the report was made
     /// for another number of attempts than the bus has. The report comes back, and the plant is
     /// unchanged.
-    pub fn done(&mut self, bus: u8, number: u64, report: Report) -> Result<(), Report>
+    pub fn note_report(&mut self, bus: u8, number: u64, report: Report) -> Result<(), Report>
         ensures open { OnOk result (IsReportOf self.old bus number report) }
         ensures grown { OnOk result (self.new ≡ grown self.old (event.Done bus number report)) }
         ensures stranger { OnErr result (¬ IsReportOf self.old bus number report) }

@@ -123,7 +123,7 @@ impl Plant {
         let noted = NotedSnapshot::of(&snapshot);
         let began = NotedSnapshot::of(&snapshot);
         let work = Work::new(number, snapshot)?;
-        let _ = self.tasks.took(number, task);
+        let _ = self.tasks.take_event(number, task);
         note_take(&mut self.takes, task);
         note_scan(&mut self.scans, worker, number, task, began);
         self.history.push(&Event::Take {

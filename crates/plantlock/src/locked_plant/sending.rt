@@ -70,7 +70,7 @@ impl<'a, J: LockStart, T: Tally, K: Tallies<T>> LockedPlant<'a, J, T, K> {
 
     /// Notes the report of a transaction. That of the one that the Share shows open is not refused,
     /// if it was made for the attempts of the bus.
-    pub fn done<R: Wait>(
+    pub fn note_report<R: Wait>(
         &mut self,
         rt: &R,
         share: &mut Share<'a, J, T>,
@@ -91,7 +91,7 @@ impl<'a, J: LockStart, T: Tally, K: Tallies<T>> LockedPlant<'a, J, T, K> {
         what_a_part_shows();
         self.notes.meet(share);
         let noted = report.clone().unwrap();
-        match self.plant.done(bus, number, report) {
+        match self.plant.note_report(bus, number, report) {
             Ok(()) => {}
             Err(back) => return Err(back),
         }

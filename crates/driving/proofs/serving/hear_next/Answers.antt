@@ -23,7 +23,7 @@ returns-in-Err g c = record {
 
 pub returns-in-Ok-clause-step : goal.returns-in-Ok-clause-step
 returns-in-Ok-clause-step g c =
-    step_frame c.args.bus c.in-Ok-Some.frame c.args.plant.now c.may_hear.new.self c.heard.new.self
+    step_frame c.args.bus c.in-Ok-Some.frame c.args.plant.now c.may_hear.new.self c.note_frame.new.self
     (g.B.Bus.log c.args.line.now) (g.B.Bus.log c.room.new.self) (g.B.Bus.log c.hear.new.self)
     c.in_default.ensures.ok c.in-Ok.ensures.ok c.in_ok-room.ensures.same
     (c.in-Ok-Some.ensures.logged
@@ -31,7 +31,8 @@ returns-in-Ok-clause-step g c =
 
 pub returns-in-Ok-clause-only : goal.returns-in-Ok-clause-only
 returns-in-Ok-clause-only g c =
-    heard_frame c.args.bus c.in-Ok-Some.frame c.args.plant.now c.may_hear.new.self c.heard.new.self c.in_default.ensures.ok
+    heard_frame c.args.bus c.in-Ok-Some.frame c.args.plant.now c.may_hear.new.self c.note_frame.new.self
+    c.in_default.ensures.ok
     c.in-Ok.ensures.ok
 
 pub returns-in-Ok-None-clause-step : goal.returns-in-Ok-None-clause-step

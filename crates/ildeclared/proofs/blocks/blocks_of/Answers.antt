@@ -22,20 +22,20 @@ loop-declaration-preserved c =
     let i = c.loop-declaration.declaration-index in
     let item = c.declaration-item.result in
     let its = c.declarations-declaration-items.ensures in
-    those_more blocks_in c.args.program.now.declarations i item before c.match-declared.blocks.items
+    those_more blocks_in c.args.program.now.declarations i item before c.match-declared_kind.blocks.items
     (subst (λ (ds : List DeclaredNames). i < length ds) its c.loop-declaration-test.true)
     (subst (λ (ds : List DeclaredNames). item ≡ get_or ds i item) its c.declaration-item.is)
     c.loop-declaration.invariant
-    (elim c.match-declared.branch [
+    (elim c.match-declared_kind.branch [
       | in-Blocks+in_ok-add_blocks w ↦
           (λ k. (w.blocks-is k).items)
           ∙ w.in_ok-add_blocks.ensures
           ∙ (λ k. before ++ map (block w.in-Blocks.kind) (w.names.ensures k))
-          ∙ ap (λ (d : Declared). before ++ blocks_among item.names d) (sym w.in-Blocks.is ∙ c.declared.ensures)
+          ∙ ap (λ (d : Declared). before ++ blocks_among item.names d) (sym w.in-Blocks.is ∙ c.declared_kind.ensures)
       | in_default w ↦
-          none_added before c.match-declared.blocks.items (blocks_among item.names item.declared)
+          none_added before c.match-declared_kind.blocks.items (blocks_among item.names item.declared)
           (λ k. (w.blocks-is k).items)
-          (no_blocks item.names item.declared c.declared.result c.declared.ensures w.in_default.not-Blocks)
+          (no_blocks item.names item.declared c.declared_kind.result c.declared_kind.ensures w.in_default.not-Blocks)
     ])
 
 pub returns : goal.returns

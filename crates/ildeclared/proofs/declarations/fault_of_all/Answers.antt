@@ -16,7 +16,7 @@ loop-declaration-preserved c =
     c.loop-declaration.invariant
     (subst (λ (d : DeclaredNames). IsLeastOf (IsFaultIn (types_in c.args.lower.now c.args.types.now) d)
     c.fault_of-fault.result)
-    (λ i. record { names = c.names.ensures i; declared = c.declared.ensures i }) c.fault_of-fault.ensures))
+    (λ i. record { names = c.names.ensures i; declared = c.declared_kind.ensures i }) c.fault_of-fault.ensures))
 
 pub returns : goal.returns
 returns c =

@@ -26,21 +26,22 @@ loop-declaration-preserved c =
     let i = c.loop-declaration.declaration-index in
     let item = c.declaration-item.result in
     let its = c.declarations-declaration-items.ensures in
-    those_more (externals_in types) c.args.program.now.declarations i item before c.match-declared.externals.items
+    those_more (externals_in types) c.args.program.now.declarations i item before c.match-declared_kind.externals.items
     (subst (λ (ds : List DeclaredNames). i < length ds) its c.loop-declaration-test.true)
     (subst (λ (ds : List DeclaredNames). item ≡ get_or ds i item) its c.declaration-item.is)
     c.loop-declaration.invariant
-    (elim c.match-declared.branch [
+    (elim c.match-declared_kind.branch [
       | in-External+in_ok-add_externals w ↦
           (λ k. (w.externals-is k).items)
           ∙ w.in_ok-add_externals.ensures
           ∙ (λ k. before ++ map (external (w.values_of-value_type.ensures k)) (w.names.ensures k))
           ∙ ap (λ (d : Declared). before ++ externals_among types item.names d)
-          (sym w.in-External.is ∙ c.declared.ensures)
+          (sym w.in-External.is ∙ c.declared_kind.ensures)
       | in_default w ↦
-          none_added before c.match-declared.externals.items (externals_among types item.names item.declared)
+          none_added before c.match-declared_kind.externals.items (externals_among types item.names item.declared)
           (λ k. (w.externals-is k).items)
-          (no_externals types item.names item.declared c.declared.result c.declared.ensures w.in_default.not-External)
+          (no_externals types item.names item.declared c.declared_kind.result c.declared_kind.ensures
+          w.in_default.not-External)
     ])
 
 pub returns : goal.returns

@@ -27,19 +27,20 @@ loop-declaration-preserved c =
     let before = c.loop-declaration.variables.items in
     let item = c.declaration-item.result in
     those_added (variables_in types) c.args.declarations.now c.loop-declaration.declaration-index item
-    c.args.variables.now.items before c.match-declared.variables.items c.loop-declaration-test.true
+    c.args.variables.now.items before c.match-declared_kind.variables.items c.loop-declaration-test.true
     c.declaration-item.is c.loop-declaration.invariant
-    (elim c.match-declared.branch [
+    (elim c.match-declared_kind.branch [
       | in-Variables+in_ok-add_variables w ↦
           (λ k. (w.variables-is k).items)
           ∙ w.in_ok-add_variables.ensures
           ∙ (λ k. before ++ map (variable (w.meant_type-declared.ensures k)) (w.names.ensures k))
           ∙ ap (λ (d : Declared). before ++ variables_among types item.names d)
-          (sym w.in-Variables.is ∙ c.declared.ensures)
+          (sym w.in-Variables.is ∙ c.declared_kind.ensures)
       | in_default w ↦
-          none_added before c.match-declared.variables.items (variables_among types item.names item.declared)
+          none_added before c.match-declared_kind.variables.items (variables_among types item.names item.declared)
           (λ k. (w.variables-is k).items)
-          (no_variables types item.names item.declared c.declared.result c.declared.ensures w.in_default.not-Variables)
+          (no_variables types item.names item.declared c.declared_kind.result c.declared_kind.ensures
+          w.in_default.not-Variables)
     ])
 
 pub returns : goal.returns

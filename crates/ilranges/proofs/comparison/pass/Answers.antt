@@ -9,4 +9,4 @@ returns-else-outcome c =
     rw c.if-outcome.false
     (not_held c.args.comparison _ c.args.limit c.args.range c.keep-else-outcome.result
     (again w64 c.args.limit c.args.limit c.ranges.limit refl)
-    (rw c.turned.ensures at c.keep-else-outcome.ensures))
+    (rw c.opposite.ensures at c.keep-else-outcome.ensures))

@@ -29,7 +29,7 @@ returns-in-Err-clause-why g c =
     let refused = c.in-Err.ensures.gone_on in let left = c.loop.left in
     let full : left.ended ≡ Limit =
     elim c.match-matches.branch [
-      | in-Limit w ↦ sym c.ended-ended.ensures.value ∙ w.in-Limit.is
+      | in-Limit w ↦ sym c.ending-ended.ensures.value ∙ w.in-Limit.is
       | in_default w ↦ absurd (cc (w.matches-is, c.if-not-matches.false))
     ] in
     subst (λ (old : ClosedParts g.row.B.Denot g.row.C.Denot).

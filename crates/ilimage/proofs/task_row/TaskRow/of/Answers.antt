@@ -31,8 +31,8 @@ row_of-requires c =
     let typed = slots_typed r.types slots globals t.layout.externals t.own.slots r.typed r.values
     c.values-own.ensures.in_types in
     let code = c.code.ensures.value
-    ∙ ap (λ (v : Accepted). v.code) (c.verified.ensures ∙ c.deref.ensures ∙ c.in_ok-prepared.ensures.cases
-    ∙ c.prepared.ensures.value) in
+    ∙ ap (λ (v : Accepted). v.code) (c.verified_code.ensures ∙ c.deref.ensures ∙ c.in_ok-prepared.ensures.cases
+    ∙ c.prepared_code.ensures.value) in
     subst (λ (vs : List Value). AreOf vs (lasting_types c.code.result.now))
     (sym (c.deref-2.ensures.value ∙ c.in_ok-values.ensures))
     (subst (λ (l : Listing). AreOf (slot_values globals t) (lasting_types l)) (sym code) typed)
@@ -46,7 +46,7 @@ invariant_of-result c =
     let slots = lasting_types listing in
     let typed = slots_typed r.types slots globals t.layout.externals t.own.slots r.typed r.values
     c.values-own.ensures.in_types in
-    let code = c.in_ok-prepared.ensures.cases ∙ c.prepared.ensures.value in
+    let code = c.in_ok-prepared.ensures.cases ∙ c.prepared_code.ensures.value in
     let row = c.in_ok-row.ensures ∙ c.deref-2.ensures.value ∙ c.in_ok-values.ensures in
     let blocks = c.in_ok-blocks.blocks.items in (
       record {
@@ -62,7 +62,7 @@ invariant_of-result c =
 pub returns : goal.returns
 returns c =
     let t = c.args.task.now in
-    let code = c.in_ok-prepared.ensures.cases ∙ c.prepared.ensures.value in
+    let code = c.in_ok-prepared.ensures.cases ∙ c.prepared_code.ensures.value in
     let row = c.in_ok-row.ensures ∙ c.deref-2.ensures.value ∙ c.in_ok-values.ensures in
     let externals = c.in_ok-externals.ensures.items ∙ c.externals.ensures.value in
     let blocks = c.in_ok-blocks.blocks.items in

@@ -10,7 +10,7 @@ use Rattle.ilmachine.proofs.state.State.begin.Goals as goal
 pub returns : goal.returns
 returns c =
     let lasting = c.in_ok-lasting.lasting in
-    let code = c.code-code.ensures.value ∙ ap (λ (v : Accepted). v.code) c.verified.ensures.value in
+    let code = c.code-code.ensures.value ∙ ap (λ (v : Accepted). v.code) c.verified_code.ensures.value in
     subst (λ (s : Store). IsPrepared c.args.snapshot.now s (Some lasting)) (sym c.of-state-2.ensures)
     (prepared_whole c.args.snapshot.now c.in_ok-row.row lasting c.in_ok-lasting.blocks.items c.moment-2.result
     c.in_ok-lasting.ensures.values

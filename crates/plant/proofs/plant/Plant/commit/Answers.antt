@@ -83,5 +83,5 @@ invariant_of-self c =
     (subst (BusesFollow plant later) (sym c.deref-2.ensures.value) run) imaged beside in
     rw (c.push.ensures, c.of-noted.ensures, c.number-number.ensures.value)
     (commit_says _ _ w scan.number scan _ _ _ _ _ says may.allowed
-    (c.ended.ensures.follows plant w scan.number scan running h says.each_task is_open may.task) imaged
+    (c.note_commit.ensures.follows plant w scan.number scan running h says.each_task is_open may.task) imaged
     (c.note_end.ensures plant scan.number scan h says.each_worker) run owes)

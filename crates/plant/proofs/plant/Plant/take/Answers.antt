@@ -30,5 +30,5 @@ invariant_of-self c =
     let opened = subst (λ (s : ScanStart). ScansFollow plant (Take w t s ∷ h) c.note_scan.new.scans.items)
     c.of-began.ensures (c.note_scan.ensures plant h says.each_worker says.place) in
     rw (c.push.ensures, c.of-noted.ensures) (take_says _ _ w t snapshot _ _ _ says may idle.2
-    (c.took.ensures.follows plant w snapshot h says.each_task says.place)
+    (c.take_event.ensures.follows plant w snapshot h says.each_task says.place)
     (c.note_take.ensures plant w snapshot h says.each_take) opened)

@@ -1,4 +1,4 @@
-use Rattle.taskset.proofs.tasks.Tasks.heard.Goals as goal
+use Rattle.taskset.proofs.tasks.Tasks.note_frame.Goals as goal
 
 pub heard_all-requires-clause-ready : goal.heard_all-requires-clause-ready
 heard_all-requires-clause-ready c = (c.self.inside.moment, c.self.invariant)

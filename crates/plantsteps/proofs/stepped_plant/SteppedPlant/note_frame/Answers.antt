@@ -7,16 +7,18 @@ use Rattle.plantsteps.specs.declared.step.StepReply.TheVariants.{Noted}
 use Rattle.plantsteps.proofs.Accepting.{none_answered}
 use Rattle.plantsteps.proofs.Desks.{Keeps}
 use Rattle.plantsteps.proofs.Serving.{accepted_at, refused_at}
-use Rattle.plantsteps.proofs.stepped_plant.SteppedPlant.heard.Goals as goal
+use Rattle.plantsteps.proofs.stepped_plant.SteppedPlant.note_frame.Goals as goal
 
 pub returns : goal.returns
 returns c =
-    accepted_at c.self.inside.plant _ c.heard.new.self (steps.Heard c.args.bus c.args.frame) Noted (events.Heard c.args.bus c.args.frame) c.self.view_is
+    accepted_at c.self.inside.plant _ c.note_frame.new.self (steps.Heard c.args.bus c.args.frame) Noted
+    (events.Heard c.args.bus c.args.frame) c.self.view_is
     (none_answered (heard_cases c.self.inside.plant c.args.bus) c.in-Ok.ensures.refused) refl c.in-Ok.ensures.ok c.len-legal.ensures.legal
 
 pub returns-in-Err : goal.returns-in-Err
 returns-in-Err c =
-    refused_at c.self.inside.plant _ c.heard.new.self (steps.Heard c.args.bus c.args.frame) c.in-Err.refusal c.self.view_is
+    refused_at c.self.inside.plant _ c.note_frame.new.self (steps.Heard c.args.bus c.args.frame) c.in-Err.refusal
+    c.self.view_is
     c.in-Err.ensures.refused c.in-Err.ensures.err
 
 pub invariant_of-self-2 : goal.invariant_of-self-2

@@ -1,12 +1,13 @@
 use Rattle.std.proofs.Common.{◌∙◌}
 use Rattle.plantlock.specs.Answers.{IsAnswered}
-use Rattle.plantlock.proofs.Answered.{answered, does}
-use Rattle.plantlock.proofs.shared.Shared.heard.Goals as goal
+use Rattle.plantlock.proofs.Answered.{answered, does_or_gives_back}
+use Rattle.plantlock.proofs.shared.Shared.note_report.Goals as goal
 
 pub returns-clause-answered : goal.returns-clause-answered
 unfolding IsAnswered
 returns-clause-answered g c =
     answered c.meet.ensures.under (c.deref_mut-2.ensures.value ∙ c.meet.ensures.same.0)
-    c.heard-answer.ensures.refused
-    (does c.heard-answer.result _ _ _ c.heard-answer.ensures.event c.heard-answer.ensures.err)
+    c.note_report-answer.ensures.decided
+    (does_or_gives_back c.note_report-answer.result _ _ _ _ c.note_report-answer.ensures.event
+    c.note_report-answer.ensures.err)
     c.deref_mut-3.ensures.value c.meet-2.ensures.under c.meet-2.ensures.same.1

@@ -15,7 +15,7 @@ use Rattle.plant.specs.InputSteps.{input_at}
 use Rattle.plant.specs.KeptSteps.{CountsFollow}
 use Rattle.plantevents.specs.declared.event.Event.TheVariants.{Heard}
 use Rattle.plant.proofs.Indexed.{kept_on}
-use Rattle.plant.proofs.plant.Plant.heard.Goals as goal
+use Rattle.plant.proofs.plant.Plant.note_frame.Goals as goal
 
 pub note_heard-requires-clause-few : goal.note_heard-requires-clause-few
 note_heard-requires-clause-few c =
@@ -69,5 +69,5 @@ invariant_of-self c =
     ∙ ap (λ (cs : List ℕ). input_at plant.plan cs b f v) c.deref.ensures.value)) c.write_message.ensures.blocks in
     rw (c.push.ensures, c.use_place_of.ensures.used) (heard_says _ _ b f _ _ _ _ _ says up room
     c.use_place_of.ensures.freed
-    (c.heard.ensures.follows plant h says.each_task says.place) imaged counted
+    (c.note_frame.ensures.follows plant h says.each_task says.place) imaged counted
     (c.note_heard.ensures plant f h says.each_bus))

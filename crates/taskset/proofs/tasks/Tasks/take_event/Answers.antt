@@ -7,7 +7,7 @@ use Rattle.taskset.specs.TaskSetSteps.{is_ready, rank_at}
 use Rattle.taskset.specs.ReadyLists.{IsOrderOf}
 use Rattle.taskset.proofs.Following.{one_kept, others_at_take}
 use Rattle.taskset.proofs.Listing.{order_after_set, list_after_set}
-use Rattle.taskset.proofs.tasks.Tasks.took.Goals as goal
+use Rattle.taskset.proofs.tasks.Tasks.take_event.Goals as goal
 
 pub returns-clause-follows : goal.returns-clause-follows
 returns-clause-follows c p w s h kept place =

@@ -10,7 +10,7 @@ use Rattle.plant.specs.Shown.{Shown, plant_of}
 use Rattle.plant.proofs.Answering.{image_done}
 use Rattle.plant.proofs.Reporting.{done_now, done_says, frames_room, place_left}
 use Rattle.plant.proofs.Indexed.{kept_for}
-use Rattle.plant.proofs.plant.Plant.done.Goals as goal
+use Rattle.plant.proofs.plant.Plant.note_report.Goals as goal
 
 pub note_report-requires-clause-few : goal.note_report-requires-clause-few
 note_report-requires-clause-few c =

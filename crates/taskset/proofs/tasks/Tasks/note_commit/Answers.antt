@@ -5,7 +5,7 @@ use Rattle.taskset.specs.TaskSets.{TaskSet, KeptTask, Follows, TaskFollows, setu
 use Rattle.taskset.specs.TaskSetSteps.{is_ready}
 use Rattle.taskset.proofs.Following.{one_kept, others_at_commit}
 use Rattle.taskset.proofs.Listing.{order_after_set, list_after_set}
-use Rattle.taskset.proofs.tasks.Tasks.ended.Goals as goal
+use Rattle.taskset.proofs.tasks.Tasks.note_commit.Goals as goal
 
 pub returns : goal.returns
 returns c = record {

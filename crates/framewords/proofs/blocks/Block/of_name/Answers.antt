@@ -3,7 +3,7 @@ use Rattle.std.specs.List.{find}
 use Rattle.framewords.specs.Written.{is_named}
 use Rattle.framewords.specs.declared.blocks.TheConstants.{ALL}
 use Rattle.framewords.proofs.NamedBlocks.{found_block}
-use Rattle.framewords.proofs.blocks.Block.named.Goals as goal
+use Rattle.framewords.proofs.blocks.Block.of_name.Goals as goal
 
 pub returns : goal.returns
 returns c =

@@ -4,7 +4,7 @@ use Rattle.plantevents.specs.Plants.{Plant, tries_of}
 use Rattle.receipts.specs.Receipts.{whole}
 use Rattle.plantlock.proofs.Ending.{hand_shown, transaction_open}
 use Rattle.plantlock.proofs.Refusing.{bus_known}
-use Rattle.plantlock.proofs.locked_plant.LockedPlant.done.Goals as goal
+use Rattle.plantlock.proofs.locked_plant.LockedPlant.note_report.Goals as goal
 
 pub meet-requires : goal.meet-requires
 meet-requires g c = record { tied = (c.self.inside.plant, c.self.invariant.1) }

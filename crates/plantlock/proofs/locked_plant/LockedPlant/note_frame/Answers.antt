@@ -1,33 +1,33 @@
 use Rattle.std.proofs.Common.{refl, sym}
 use Rattle.plantlock.proofs.Refusing.{error_as, bus_known, frame_accepted}
-use Rattle.plantlock.proofs.locked_plant.LockedPlant.heard.Goals as goal
+use Rattle.plantlock.proofs.locked_plant.LockedPlant.note_frame.Goals as goal
 
 pub meet-requires : goal.meet-requires
 meet-requires g c = record { tied = (c.self.inside.plant, c.self.invariant.1) }
 
 pub invariant_of-self : goal.invariant_of-self
-invariant_of-self g c = rw (c.in_err-heard.ensures.err, c.meet.ensures.same.0) c.self.invariant
+invariant_of-self g c = rw (c.in_err-note_frame.ensures.err, c.meet.ensures.same.0) c.self.invariant
 
-pub returns-in_err-heard : goal.returns-in_err-heard
-returns-in_err-heard g c =
+pub returns-in_err-note_frame : goal.returns-in_err-note_frame
+returns-in_err-note_frame g c =
     let p = c.self.inside.plant in
-    let refusal = c.in_err-heard.field-0.0 in
+    let refusal = c.in_err-note_frame.field-0.0 in
     rw (error_as c.from_residual.result refusal c.from_residual.ensures.1, ← c.self.view_is) (record {
       event = tt;
       noted = tt;
-      refused = c.in_err-heard.ensures.refused;
-      err = (c.in_err-heard.ensures.err, c.meet.ensures.same.1);
+      refused = c.in_err-note_frame.ensures.refused;
+      err = (c.in_err-note_frame.ensures.err, c.meet.ensures.same.1);
       kept = λ place fits. absurd (frame_accepted p c.args.share.now c.args.bus refusal c.requires.role
           (c.meet.ensures.agree p c.self.invariant.1) (c.what_a_part_shows.ensures.down c.args.bus p.history)
           (bus_known g.J.LockStart.start p _ c.args.bus c.requires.role c.meet.ensures.known
           c.self.invariant.1.same_plant)
-          c.in_err-heard.ensures.refused place fits);
+          c.in_err-note_frame.ensures.refused place fits);
     })
 
 pub file-requires : goal.file-requires
 file-requires g c = record {
   cells = rw c.meet.ensures.same.0 c.self.invariant.0;
-  tied = (c.self.inside.plant, c.in_ok-heard.ensures.ok, rw c.meet.ensures.same.0 c.self.invariant.1);
+  tied = (c.self.inside.plant, c.in_ok-note_frame.ensures.ok, rw c.meet.ensures.same.0 c.self.invariant.1);
   role = rw c.meet.ensures.same.1 (sym c.requires.role);
 }
 
@@ -36,9 +36,9 @@ invariant_of-self-2 g c = (rw (c.file.ensures.cells, c.meet.ensures.same.0) c.se
 
 pub returns : goal.returns
 returns g c = rw (← c.self.view_is) (record {
-  event = c.in_ok-heard.ensures.ok;
-  noted = rw c.meet.ensures.same.1 at (c.file.ensures.noted c.self.inside.plant c.in_ok-heard.ensures.ok);
-  refused = c.in_ok-heard.ensures.refused;
+  event = c.in_ok-note_frame.ensures.ok;
+  noted = rw c.meet.ensures.same.1 at (c.file.ensures.noted c.self.inside.plant c.in_ok-note_frame.ensures.ok);
+  refused = c.in_ok-note_frame.ensures.refused;
   err = tt;
   kept = λ _ _. refl;
 })

@@ -9,7 +9,7 @@ use Rattle.plantsteps.specs.declared.step.StepReply.TheVariants.{Noted}
 use Rattle.plantsteps.specs.Runs.{HasNoReport}
 use Rattle.plantsteps.proofs.Desks.{Keeps, report_refused}
 use Rattle.plantsteps.proofs.Serving.{accepted_at}
-use Rattle.plantsteps.proofs.stepped_plant.SteppedPlant.done.Goals as goal
+use Rattle.plantsteps.proofs.stepped_plant.SteppedPlant.note_report.Goals as goal
 
 pub same-self : goal.same-self
 same-self c = refl
@@ -38,7 +38,8 @@ returns c =
     let p = c.self.inside.plant in let b = c.args.bus in let n = c.args.number in let report = c.in-Some.report in
     let spells = subst (λ (marks : List Mark). Spells report.transaction report.tries marks report)
     c.deref.ensures.value c.in-Some.ensures.1 in
-    accepted_at p _ c.done.new.self (steps.Done b n c.args.marks.now) Noted (events.Done b n report) c.self.view_is
+    accepted_at p _ c.note_report.new.self (steps.Done b n c.args.marks.now) Noted (events.Done b n report)
+    c.self.view_is
     (λ refusal bad. report_refused p b n c.args.marks.now.items report c.in-Ok.ensures.open spells bad.1)
     (report, spells, refl) c.in-Ok.ensures.grown c.len-legal.ensures.legal
 
