@@ -3,7 +3,7 @@ use Rattle.framewords.proofs.reading.request_of.Goals as goal
 
 pub returns-clause-command : goal.returns-clause-command
 returns-clause-command c =
-    written c.args.block.now c.args.address c.args.first c.args.second c.in_ok-named.field-0 c.in_ok-named.ensures c.command_of.result
+    written c.args.block.now c.args.address c.args.first c.args.second c.in_ok-of_name.field-0 c.in_ok-of_name.ensures c.command_of.result
     c.command_of.ensures
 
 pub returns-clause-one : goal.returns-clause-one
