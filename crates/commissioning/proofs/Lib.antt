@@ -1,3 +1,6 @@
+mod Answering
+mod Breaking
 mod Surveying
+mod Completing
 mod Flashing
 mod Hearing

@@ -1,66 +1,26 @@
--- What is asked one after another: nothing at first, and then more behind it.
-use Rattle.std.proofs.Common.{◌≡◌, ℕ, suc, ◌+◌, ◌≤◌, List, [], ◌∷◌, ◌++◌, Bool, true, false, refl, sym, ◌∙◌, ap, append_assoc, inl, inr, subst, arith}
-use Rattle.std.specs.Prelude.{Result, Ok, Err, OnErr, IfOk, MatchResult}
-use Rattle.transact.specs.Attempts.{ReportParts}
+-- What a survey asks, one after another: nothing at first, and then more behind it.
+use Rattle.std.proofs.Common.{◌≡◌, ℕ, suc, ◌+◌, ◌≤◌, List, [], ◌++◌, Bool, true, false, refl, sym, ◌∙◌, ap}
+use Rattle.std.proofs.Common.{append_assoc, inl, inr, subst, arith}
 use Rattle.std.proofs.lemmas.List.{append-nil}
 use Rattle.gearcmd.specs.declared.requests.Command.{Command}
 use Rattle.gearcmd.specs.declared.requests.Command.TheVariants.{GearAsk}
 use Rattle.transact.specs.declared.marks.Outcome.{Outcome}
-use Rattle.transact.specs.declared.marks.Outcome.TheVariants as outcome
-use Rattle.buslink.specs.BusLog.{BusLog, with_spare}
-use Rattle.buslink.specs.Performing.{after_report}
-use Rattle.commissioning.specs.declared.asking.AskFault.{AskFault}
-use Rattle.commissioning.specs.declared.asking.AskFault.TheVariants.{Memory, Failed}
+use Rattle.buslink.specs.BusLog.{BusLog}
 use Rattle.commissioning.specs.declared.asking.Asked.{Asked}
-use Rattle.commissioning.specs.Asking.{IsAnswered, IsAskedAtMost, IsUnanswered, AreAsked, AreSomeAsked}
+use Rattle.commissioning.specs.Asking.{AreAnswered}
+use Rattle.commissioning.specs.Blinking.{Asks}
 use Rattle.commissioning.specs.Surveys.{AsksMore, AreParts, IsQuestion, IsQueryPart, IsGearPart, IsInstancePart}
 use Rattle.commissioning.specs.Surveys.{IsDevicePart, IsSurvey, is_answer, is_surveyed}
+use Rattle.commissioning.proofs.Answering.{answered_none, answered_append}
 
--- a command that isn't answered was asked, or nothing was
-pub some_unanswered : (command : Command) (fault : AskFault) (old new : BusLog)
-    → IsUnanswered command fault old new → AreSomeAsked old new
-some_unanswered command Memory old new nothing = ([], nothing)
-some_unanswered command Failed old new (report, (asked, failed)) = (
-  record { command = command; outcome = outcome.Failed } ∷ [],
-  (new, (record { report = report; asked = asked; outcome = sym failed }, refl)),
-)
-
-pub asked_append : (xs ys : List Asked) (a b c : BusLog) → AreAsked xs a b → AreAsked ys b c → AreAsked (xs ++ ys) a c
-asked_append [] [] a b c first more = more ∙ ap (with_spare c.spare) first
-asked_append [] (y ∷ ys) a b c first (middle, (one, rest)) = (
-  middle,
-  (
-    record {
-      report = one.report;
-      asked = record {
-        transaction = one.asked.transaction;
-        tries = one.asked.tries;
-        legal = one.asked.legal;
-        bus = one.asked.bus ∙ ap (after_report one.report middle.spare) first;
-      };
-      outcome = one.outcome;
-    },
-    rest,
-  ),
-)
-asked_append (x ∷ xs) ys a b c (middle, (one, rest)) more =
-    (middle, (one, asked_append xs ys middle b c rest more))
-
-pub some_append : (old middle new : BusLog) → AreSomeAsked old middle → AreSomeAsked middle new → AreSomeAsked old new
-some_append old middle new (xs, first) (ys, more) = (xs ++ ys, asked_append xs ys old middle new first more)
-
--- what was asked is some of what may be
-pub some_of_more : (P : List Asked → Type 0) (before after : List Asked) (old new : BusLog)
-    → AsksMore P before after old new → AreSomeAsked old new
-some_of_more P before after old new more = (more.more, more.asked)
-
-pub some_then : (P : List Asked → Type 0) (before after : List Asked) (old middle new : BusLog)
-    → AsksMore P before after old middle → AreSomeAsked middle new → AreSomeAsked old new
-some_then P before after old middle new more rest = some_append old middle new (more.more, more.asked) rest
+-- what is asked more is what is asked from there
+pub asks_of_more : (P : List Asked → Type 0) (before after : List Asked) (old new : BusLog)
+    → AsksMore P before after old new → Asks P old new
+asks_of_more P before after old new more = record { asked = more.more; are = more.asked; those = more.those }
 
 pub more_none : (P : List Asked → Type 0) (before : List Asked) (log : BusLog) → P [] → AsksMore P before before log log
 more_none P before log none =
-    record { more = []; is = sym (append-nil before); asked = refl; those = none }
+    record { more = []; is = sym (append-nil before); asked = answered_none log; those = none }
 
 pub more_both : (P Q R : List Asked → Type 0) (a b c : List Asked) (old middle new : BusLog)
     → ((xs ys : List Asked) → P xs → Q ys → R (xs ++ ys))
@@ -69,7 +29,7 @@ more_both P Q R a b c old middle new joined first more =
     record {
       more = first.more ++ more.more;
       is = more.is ∙ ap (λ (xs : List Asked). xs ++ more.more) first.is ∙ append_assoc a first.more more.more;
-      asked = asked_append first.more more.more old middle new first.asked more.asked;
+      asked = answered_append first.more more.more old middle new first.asked more.asked;
       those = joined first.more more.more first.those more.those;
     }
 
@@ -91,11 +51,6 @@ pub more_all : (P : ℕ → List Asked → Type 0) (count whole : ℕ) (a b : Li
 more_all P count whole a b old new most none =
     let there : count ≡ whole = omega arith in
     λ more. subst (λ n. AsksMore (AreParts P n) a b old new) there more
-
--- what is so in any case is so of an error
-pub on_err : {A E : Type 0} (r : Result A E) (P : Type 0) → P → OnErr r P
-on_err (Ok value) P fact = tt
-on_err (Err fault) P fact = fact
 
 -- what is asked is so described, and so in another way
 pub more_as : (P Q : List Asked → Type 0) (a b : List Asked) (old new : BusLog)
@@ -189,7 +144,7 @@ device_full address a b old new =
 
 -- the gear and the devices of a bus
 pub surveyed : (a b : List Asked) (old middle new : BusLog) → AsksMore (AreParts IsGearPart 64) [] a old middle
-    → AsksMore (AreParts IsDevicePart 64) a b middle new → IsSurvey b × AreAsked b old new
+    → AsksMore (AreParts IsDevicePart 64) a b middle new → IsSurvey b × AreAnswered b old new
 surveyed a b old middle new gear devices =
     let both : AsksMore IsSurvey [] b old new =
     more_both (AreParts IsGearPart 64) (AreParts IsDevicePart 64) IsSurvey [] a b old middle new
@@ -200,19 +155,4 @@ surveyed a b old middle new gear devices =
       all_gear = all_gear;
       all_devices = all_devices;
     }) gear devices in
-    (subst IsSurvey (sym both.is) both.those, subst (λ xs. AreAsked xs old new) (sym both.is) both.asked)
-
--- ---- in any case
-
-pub asked_at_most : (command : Command) (r : Result ReportParts AskFault) (old new : BusLog)
-    → MatchResult r (λ report. IsAnswered command report old new) (λ fault. IsUnanswered command fault old new)
-    → IsAskedAtMost command old new
-asked_at_most command (Ok report) old new answered = inr (report, answered.asked)
-asked_at_most command (Err Memory) old new nothing = inl nothing
-asked_at_most command (Err Failed) old new (report, (asked, failed)) = inr (report, asked)
-
--- whether it succeeded or not
-pub some_either : {A E : Type 0} (r : Result A E) (P : A → Type 0) (old new : BusLog)
-    → ((a : A) → P a → AreSomeAsked old new) → IfOk r P → OnErr r (AreSomeAsked old new) → AreSomeAsked old new
-some_either (Ok a) P old new some ok err = some a ok
-some_either (Err e) P old new some ok err = err
+    (subst IsSurvey (sym both.is) both.those, subst (λ xs. AreAnswered xs old new) (sym both.is) both.asked)

@@ -1,5 +1,5 @@
 -- What asking a bus is: a transaction, what became of it, and what became of the bus.
-use Rattle.std.specs.Prelude.{◌≡◌, ◌⊎◌, List, [], ◌∷◌}
+use Rattle.std.specs.Prelude.{◌≡◌, List, [], ◌∷◌, ◌++◌, All, Result, Ok, Err}
 use Rattle.limits.specs.Limits.{usual_tries}
 use Rattle.gearcmd.specs.declared.requests.Command.{Command}
 use Rattle.gearcmd.specs.declared.requests.TaskKind.TheVariants.{Event}
@@ -46,11 +46,40 @@ abbrev pub AreAsked : List Asked → BusLog → BusLog → Type 0
 AreAsked [] first last = last ≡ with_spare last.spare first
 AreAsked (a ∷ more) first last = (middle : BusLog) × (IsOneAsked a first middle × AreAsked more middle last)
 
--- only commands were asked
-abbrev pub AreSomeAsked : BusLog → BusLog → Type 0
-AreSomeAsked first last = (asked : List Asked) × AreAsked asked first last
+-- the interface failed at none of them
+abbrev pub IsWhole : List Asked → Type 0
+IsWhole asked = All (λ a. ¬ (a.outcome ≡ outcome.Failed)) asked
 
--- the command was asked, or nothing was sent
-abbrev pub IsAskedAtMost : Command → BusLog → BusLog → Type 0
-IsAskedAtMost command old new =
-    (new ≡ with_spare new.spare old) ⊎ ((report : ReportParts) × IsAsked command report old new)
+-- .. and the interface failed at none of them
+pub record AreAnswered (asked : List Asked) (first last : BusLog) : Type 0 where
+  pub are : AreAsked asked first last
+  pub whole : IsWhole asked
+
+-- the interface failed at the last of them, and at none before
+pub record FailsLast (asked : List Asked) : Type 0 where
+  pub before : List Asked
+  pub command : Command
+  pub is : asked ≡ before ++ record { command = command; outcome = outcome.Failed } ∷ []
+  pub whole : IsWhole before
+
+-- where asking ended by this fault: behind a command that was answered, or before the first; or at the one that failed
+abbrev pub EndsBy : AskFault → List Asked → Type 0
+EndsBy Memory asked = IsWhole asked
+EndsBy Failed asked = FailsLast asked
+
+-- a beginning of what P says: with this rest it is the whole
+pub record Begins (P : List Asked → Type 0) (asked : List Asked) : Type 0 where
+  pub rest : List Asked
+  pub whole : P (asked ++ rest)
+
+-- a beginning of what P says was asked, up to this fault, and nothing else was sent or heard
+pub record IsBrokenOff (P : List Asked → Type 0) (fault : AskFault) (old new : BusLog) : Type 0 where
+  pub asked : List Asked
+  pub are : AreAsked asked old new
+  pub begins : Begins P asked
+  pub ends : EndsBy fault asked
+
+-- what asking one command has done that had this result
+abbrev pub HasAsked : Command → Result ReportParts AskFault → BusLog → BusLog → Type 0
+HasAsked command (Ok report) old new = IsAnswered command report old new
+HasAsked command (Err fault) old new = IsUnanswered command fault old new

@@ -1,5 +1,5 @@
 -- What gear is asked that blinks.
-use Rattle.std.specs.Prelude.{◌≡◌, ℕ, ◌<◌, ◌++◌, List, [], ◌∷◌, map}
+use Rattle.std.specs.Prelude.{◌≡◌, ℕ, ◌<◌, ◌++◌, List, [], ◌∷◌, map, Result, Ok, Err}
 use Rattle.daliframe.specs.declared.addressing.Address.TheVariants.{Short}
 use Rattle.gearcmd.specs.declared.requests.Command.{Command}
 use Rattle.gearcmd.specs.declared.requests.Command.TheVariants.{GearAsk, GearDo, GearLevel}
@@ -7,16 +7,17 @@ use Rattle.transact.specs.declared.marks.Outcome.{Outcome}
 use Rattle.transact.specs.declared.marks.Outcome.TheVariants.{Done}
 use Rattle.transact.specs.declared.marks.Reply.TheVariants.{Answer}
 use Rattle.buslink.specs.BusLog.{BusLog}
+use Rattle.commissioning.specs.declared.asking.AskFault.{AskFault}
 use Rattle.commissioning.specs.declared.asking.Asked.{Asked}
 use Rattle.commissioning.specs.declared.blinking.Blinked.{Blinked}
 use Rattle.commissioning.specs.declared.blinking.Blinked.TheVariants.{Back, NoLevel}
-use Rattle.commissioning.specs.Asking.{AreAsked}
+use Rattle.commissioning.specs.Asking.{AreAnswered, IsBrokenOff}
 use Rattle.commissioning.specs.Surveys.{AreParts}
 
--- what P says was asked, and nothing else was sent or heard
+-- what P says was asked and answered, and nothing else was sent or heard
 pub record Asks (P : List Asked → Type 0) (old new : BusLog) : Type 0 where
   pub asked : List Asked
-  pub are : AreAsked asked old new
+  pub are : AreAnswered asked old new
   pub those : P asked
 
 -- one command was asked, which ended so
@@ -48,3 +49,12 @@ abbrev pub IsBlink : ℕ → Blinked → List Asked → Type 0
 IsBlink address (Back level outcome) asked = IsBack address level outcome asked
 IsBlink address (NoLevel outcome) asked =
     IsOne (GearAsk address 16) outcome asked × ((level : ℕ) → ¬ IsLevel outcome level)
+
+-- .. whatever became of it
+abbrev pub IsSomeBlink : ℕ → List Asked → Type 0
+IsSomeBlink address asked = (blinked : Blinked) × IsBlink address blinked asked
+
+-- what letting gear blink has done that had this result
+abbrev pub HasBlinked : ℕ → Result Blinked AskFault → BusLog → BusLog → Type 0
+HasBlinked address (Ok blinked) old new = Asks (IsBlink address blinked) old new
+HasBlinked address (Err fault) old new = IsBrokenOff (IsSomeBlink address) fault old new

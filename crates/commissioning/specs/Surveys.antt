@@ -1,15 +1,16 @@
 -- What a survey of a bus asks: each short address whether gear is there, and gear that is there what it is; and the
 -- instances of each device, up to one that is silent.
 use Rattle.std.specs.Prelude.{◌≡◌, ℕ, zero, suc, ◌==◌, ◌||◌, ◌&&◌, ◌++◌, ◌⊎◌, List, [], ◌∷◌, Bool, true, false}
-use Rattle.std.specs.Prelude.{nat_le, MatchBool}
+use Rattle.std.specs.Prelude.{nat_le, MatchBool, Result, Ok, Err}
 use Rattle.gearcmd.specs.declared.requests.Command.{Command}
 use Rattle.gearcmd.specs.declared.requests.Command.TheVariants.{GearAsk, DevAsk}
 use Rattle.transact.specs.declared.marks.Outcome.{Outcome}
 use Rattle.transact.specs.declared.marks.Outcome.TheVariants.{Done, GaveUp, Failed}
 use Rattle.transact.specs.declared.marks.Reply.TheVariants.{Quiet, Answer, Damaged, Lost}
 use Rattle.buslink.specs.BusLog.{BusLog}
+use Rattle.commissioning.specs.declared.asking.AskFault.{AskFault}
 use Rattle.commissioning.specs.declared.asking.Asked.{Asked}
-use Rattle.commissioning.specs.Asking.{AreAsked}
+use Rattle.commissioning.specs.Asking.{AreAnswered, IsBrokenOff}
 
 -- something answered: two at once are damage
 abbrev pub is_answer : Outcome → Bool
@@ -74,6 +75,10 @@ pub record IsInstancePart (address : ℕ) (there : Bool) (instance : ℕ) (part 
 abbrev pub IsLastPart : ℕ → ℕ → List Asked → Type 0
 IsLastPart address count last = ((count ≡ 32) × (last ≡ [])) ⊎ IsInstancePart address false count last
 
+-- an instance, there or silent
+abbrev pub IsSomeInstancePart : ℕ → ℕ → List Asked → Type 0
+IsSomeInstancePart address instance part = (there : Bool) × IsInstancePart address there instance part
+
 -- the instances of a device that are there, and the last
 pub record IsDevicePart (address : ℕ) (part : List Asked) : Type 0 where
   pub count : ℕ
@@ -91,9 +96,14 @@ pub record IsSurvey (asked : List Asked) : Type 0 where
   pub all_gear : AreParts IsGearPart 64 gear
   pub all_devices : AreParts IsDevicePart 64 devices
 
+-- what probing has done that had this result: all of a survey was asked and answered, or a beginning of one
+abbrev pub HasProbed : Result (List Asked) AskFault → BusLog → BusLog → Type 0
+HasProbed (Ok survey) old new = IsSurvey survey × AreAnswered survey old new
+HasProbed (Err fault) old new = IsBrokenOff IsSurvey fault old new
+
 -- behind what was asked before came what P says, and nothing else was sent
 pub record AsksMore (P : List Asked → Type 0) (before after : List Asked) (old new : BusLog) : Type 0 where
   pub more : List Asked
   pub is : after ≡ before ++ more
-  pub asked : AreAsked more old new
+  pub asked : AreAnswered more old new
   pub those : P more

@@ -1,8 +1,8 @@
 //! Gear that shows where it is.
 
-ghost use Rattle.std.specs.Prelude.{◌≡◌, ◌<◌, ℕ, IfOk, OnErr, OnOk, MatchOption};
-ghost use Rattle.commissioning.specs.Asking.{AreSomeAsked};
-ghost use Rattle.commissioning.specs.Blinking.{Asks, IsBlink, IsFlash, IsLevel, IsOne};
+ghost use Rattle.std.specs.Prelude.{◌≡◌, ◌<◌, ℕ, IfErr, IfOk, OnOk, MatchOption};
+ghost use Rattle.commissioning.specs.Asking.{IsBrokenOff, IsUnanswered};
+ghost use Rattle.commissioning.specs.Blinking.{Asks, IsBlink, IsFlash, IsLevel, IsOne, IsSomeBlink};
 ghost use Rattle.commissioning.specs.Surveys.{AreParts};
 
 use crate::asking::{AskFault, ask};
@@ -43,7 +43,8 @@ pub enum Blinked {
 ///
 /// # Errors
 ///
-/// The allocator is out of memory, or the interface failed; then it may not be back at its level.
+/// The allocator is out of memory, or the interface failed at the last command; what was sent then
+/// is the beginning of a blink, and the gear may not be back at its level.
 pub fn blink<B: Bus, R: Timer>(
     bus: &mut B,
     address: ShortAddress,
@@ -51,7 +52,8 @@ pub fn blink<B: Bus, R: Timer>(
 ) -> Result<Blinked, AskFault>
     ensures blinked { IfOk result
         (λ blinked. Asks (IsBlink address blinked) (B.log bus.old) (B.log bus.new)) }
-    ensures fault { OnErr result (AreSomeAsked (B.log bus.old) (B.log bus.new)) }
+    ensures fault { IfErr result
+        (λ fault. IsBrokenOff (IsSomeBlink address) fault (B.log bus.old) (B.log bus.new)) }
 {
     let outcome = outcome_of(bus, query(address, ACTUAL_LEVEL))?;
     let Some(level) = level_in(outcome) else {
@@ -83,7 +85,9 @@ fn flash_thrice<B: Bus, R: Timer>(
 ) -> Result<(), AskFault>
     ensures flashes { OnOk result (Asks (AreParts (λ time. IsFlash address) 3)
         (B.log bus.old) (B.log bus.new)) }
-    ensures fault { OnErr result (AreSomeAsked (B.log bus.old) (B.log bus.new)) }
+    ensures fault { IfErr result
+        (λ fault. IsBrokenOff (AreParts (λ time. IsFlash address) 3) fault
+        (B.log bus.old) (B.log bus.new)) }
 {
     for _time in 0..FLASHES {
         flash(bus, address, timer)?;
@@ -94,7 +98,8 @@ fn flash_thrice<B: Bus, R: Timer>(
 /// Sends gear to its greatest level, and then off.
 fn flash<B: Bus, R: Timer>(bus: &mut B, address: ShortAddress, timer: &R) -> Result<(), AskFault>
     ensures flash { OnOk result (Asks (IsFlash address) (B.log bus.old) (B.log bus.new)) }
-    ensures fault { OnErr result (AreSomeAsked (B.log bus.old) (B.log bus.new)) }
+    ensures fault { IfErr result
+        (λ fault. IsBrokenOff (IsFlash address) fault (B.log bus.old) (B.log bus.new)) }
 {
     let half = Duration::from_millis(HALF_A_SECOND);
     outcome_of(bus, change(address, RECALL_MAX_LEVEL))?;
@@ -120,8 +125,10 @@ fn change(address: ShortAddress, number: u8) -> Command
 
 /// Asks a command; how it ended.
 fn outcome_of<B: Bus>(bus: &mut B, command: Command) -> Result<Outcome, AskFault>
-    ensures one { IfOk result (λ outcome. Asks (IsOne command outcome) (B.log bus.old) (B.log bus.new)) }
-    ensures fault { OnErr result (AreSomeAsked (B.log bus.old) (B.log bus.new)) }
+    ensures one { IfOk result
+        (λ outcome. Asks (IsOne command outcome) (B.log bus.old) (B.log bus.new)) }
+    ensures fault { IfErr result
+        (λ fault. IsUnanswered command fault (B.log bus.old) (B.log bus.new)) }
 {
     let report = ask(bus, command)?;
     Ok(report.outcome())

@@ -1,7 +1,12 @@
 //! The commands at one line: what they do, and what they print.
 
-ghost use Rattle.commissioning.specs.Asking.{AreSomeAsked, IsAskedAtMost};
+ghost use Rattle.std.specs.Prelude.{◌≡◌, ◌≤◌, IfOk, Ok};
+ghost use Rattle.transact.specs.Attempts.{most_sent};
+ghost use Rattle.commissioning.specs.Asking.{HasAsked};
+ghost use Rattle.commissioning.specs.Blinking.{HasBlinked};
 ghost use Rattle.commissioning.specs.Listening.{SendsNothing};
+ghost use Rattle.commissioning.specs.Serving.{IsServed, served_as, served_of};
+ghost use Rattle.commissioning.specs.Surveys.{HasProbed};
 
 use crate::asking::{AskFault, ask};
 use crate::blinking::{Blinked, blink};
@@ -34,7 +39,9 @@ pub enum Served {
 
 impl Served {
     /// How a command was served that met this fault.
-    fn of_fault(fault: AskFault) -> Served {
+    fn of_fault(fault: AskFault) -> Served
+        ensures { result ≡ served_of fault }
+    {
         match fault {
             AskFault::Memory => Served::NoMemory,
             AskFault::Failed => Served::Failed,
@@ -55,7 +62,7 @@ pub fn serve_probe<B: Bus, W: Write, P: Write>(
     progress: &mut P,
     declared: Option<DeclaredBus>,
 ) -> io::Result<Served>
-    ensures { AreSomeAsked (B.log bus.old) (B.log bus.new) }
+    ensures { IsServed (λ probed. HasProbed probed (B.log bus.old) (B.log bus.new)) result }
 {
     let surveyed = probe(alloc, bus, progress);
     write_survey(to, &surveyed, declared)
@@ -66,7 +73,9 @@ fn write_survey<W: Write>(
     to: &mut W,
     surveyed: &Result<Survey, AskFault>,
     declared: Option<DeclaredBus>,
-) -> io::Result<Served> {
+) -> io::Result<Served>
+    ensures { IfOk result (λ served. served ≡ served_as surveyed.now) }
+{
     match surveyed {
         Ok(survey) => {
             write!(to, "{survey}")?;
@@ -80,7 +89,9 @@ fn write_survey<W: Write>(
 }
 
 /// Writes why a command wasn't done.
-fn write_fault<W: Write>(to: &mut W, fault: AskFault) -> io::Result<Served> {
+fn write_fault<W: Write>(to: &mut W, fault: AskFault) -> io::Result<Served>
+    ensures { IfOk result (λ served. served ≡ served_of fault) }
+{
     writeln!(to, "{fault}")?;
     Ok(Served::of_fault(fault))
 }
@@ -128,7 +139,8 @@ pub fn serve_blink<B: Bus, W: Write, R: Timer>(
     to: &mut W,
     timer: &R,
 ) -> io::Result<Served>
-    ensures { AreSomeAsked (B.log bus.old) (B.log bus.new) }
+    ensures { IsServed
+        (λ blinked. HasBlinked address blinked (B.log bus.old) (B.log bus.new)) result }
 {
     let blinked = blink(bus, address, timer);
     write_blinked(to, address, blinked)
@@ -139,7 +151,9 @@ fn write_blinked<W: Write>(
     to: &mut W,
     address: ShortAddress,
     blinked: Result<Blinked, AskFault>,
-) -> io::Result<Served> {
+) -> io::Result<Served>
+    ensures { IfOk result (λ served. served ≡ served_as blinked) }
+{
     let gear = address.number();
     match blinked {
         Ok(Blinked::Back(level, Outcome::GaveUp)) => {
@@ -167,7 +181,11 @@ fn write_blinked<W: Write>(
 ///
 /// The writer failed.
 pub fn serve_ask<B: Bus, W: Write>(bus: &mut B, command: Command, to: &mut W) -> io::Result<Served>
-    ensures { IsAskedAtMost command (B.log bus.old) (B.log bus.new) }
+    ensures served { IsServed
+        (λ asked. HasAsked command asked (B.log bus.old) (B.log bus.new)) result }
+
+    // Memory is refused only where fifteen frames don't fit.
+    ensures enough { most_sent ≤ (B.log bus.old).spare → ¬ (result ≡ Ok Served.NoMemory) }
 {
     let asked = ask(bus, command);
     write_asked(to, &command, &asked)
@@ -178,7 +196,9 @@ fn write_asked<W: Write>(
     to: &mut W,
     command: &Command,
     asked: &Result<Report, AskFault>,
-) -> io::Result<Served> {
+) -> io::Result<Served>
+    ensures { IfOk result (λ served. served ≡ served_as asked.now) }
+{
     let request = Request {
         bus: BusNumber::default(),
         command: *command,

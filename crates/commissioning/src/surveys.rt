@@ -1,11 +1,12 @@
 //! A survey of one bus: which gear and which instances of devices are there, and what they are.
 
-ghost use Rattle.std.specs.Prelude.{◌≡◌, ◌<◌, ◌↔◌, ⊤, true, IsTrue, IfErr, IfOk, OnErr, OnOk, MatchOption, All};
-ghost use Rattle.std.specs.Prelude.{Contains};
+ghost use Rattle.std.specs.Prelude.{◌≡◌, ◌<◌, ◌↔◌, ⊤, true, IsTrue, IfErr, IfOk, OnOk, MatchOption};
+ghost use Rattle.std.specs.Prelude.{All, Contains};
 ghost use Rattle.gearcmd.specs.declared.requests.Command.TheVariants.{GearAsk, DevAsk};
-ghost use Rattle.commissioning.specs.Asking.{AreSomeAsked, AreAsked};
+ghost use Rattle.commissioning.specs.Asking.{AreAnswered, IsBrokenOff};
 ghost use Rattle.commissioning.specs.Surveys.{AreParts, AsksMore, IsQueryPart, IsGearPart};
 ghost use Rattle.commissioning.specs.Surveys.{IsInstancePart, IsDevicePart, IsQuestion, IsSurvey};
+ghost use Rattle.commissioning.specs.Surveys.{IsSomeInstancePart, IsSomeQuestion};
 ghost use Rattle.commissioning.specs.Surveys.{is_answer, is_surveyed};
 
 use crate::asking::{AskFault, Asked, ask};
@@ -57,15 +58,17 @@ fn asked_of(asked: &[Asked], command: Command) -> Option<&Asked>
 ///
 /// # Errors
 ///
-/// The allocator is out of memory, or the interface failed. Nothing but questions was sent.
+/// The allocator is out of memory, or the interface failed at the last question. What was asked
+/// then is the beginning of a survey.
 pub fn probe<B: Bus, P: Write>(
     alloc: Global,
     bus: &mut B,
     progress: &mut P,
 ) -> Result<Survey, AskFault>
     ensures survey { IfOk result (λ survey. IsSurvey survey
-        × AreAsked survey (B.log bus.old) (B.log bus.new)) }
-    ensures fault { OnErr result (AreSomeAsked (B.log bus.old) (B.log bus.new)) }
+        × AreAnswered survey (B.log bus.old) (B.log bus.new)) }
+    ensures fault { IfErr result
+        (λ fault. IsBrokenOff IsSurvey fault (B.log bus.old) (B.log bus.new)) }
 {
     let mut asked = Vec::new(alloc);
     ask_all_gear(bus, &mut asked, progress)?;
@@ -81,7 +84,8 @@ fn ask_all_gear<B: Bus, P: Write>(
 ) -> Result<(), AskFault>
     ensures more { OnOk result (AsksMore (AreParts IsGearPart 64) asked.old.items asked.new.items
         (B.log bus.old) (B.log bus.new)) }
-    ensures fault { OnErr result (AreSomeAsked (B.log bus.old) (B.log bus.new)) }
+    ensures fault { IfErr result
+        (λ fault. IsBrokenOff (AreParts IsGearPart 64) fault (B.log bus.old) (B.log bus.new)) }
 {
     for number in 0..64 {
         let Some(address) = ShortAddress::new(number) else {
@@ -101,7 +105,8 @@ fn ask_all_devices<B: Bus, P: Write>(
 ) -> Result<(), AskFault>
     ensures more { OnOk result (AsksMore (AreParts IsDevicePart 64) asked.old.items asked.new.items
         (B.log bus.old) (B.log bus.new)) }
-    ensures fault { OnErr result (AreSomeAsked (B.log bus.old) (B.log bus.new)) }
+    ensures fault { IfErr result
+        (λ fault. IsBrokenOff (AreParts IsDevicePart 64) fault (B.log bus.old) (B.log bus.new)) }
 {
     for number in 0..64 {
         let Some(address) = ShortAddress::new(number) else {
@@ -129,7 +134,8 @@ fn ask_gear<B: Bus>(
 ) -> Result<(), AskFault>
     ensures more { OnOk result (AsksMore (IsGearPart address) asked.old.items asked.new.items
         (B.log bus.old) (B.log bus.new)) }
-    ensures fault { OnErr result (AreSomeAsked (B.log bus.old) (B.log bus.new)) }
+    ensures fault { IfErr result
+        (λ fault. IsBrokenOff (IsGearPart address) fault (B.log bus.old) (B.log bus.new)) }
 {
     let outcome = ask_one(bus, query(address, 1), asked)?;
     if is_answer(outcome) {
@@ -146,7 +152,9 @@ fn ask_queries<B: Bus>(
 ) -> Result<(), AskFault>
     ensures more { OnOk result (AsksMore (AreParts (IsQueryPart address) 43)
         asked.old.items asked.new.items (B.log bus.old) (B.log bus.new)) }
-    ensures fault { OnErr result (AreSomeAsked (B.log bus.old) (B.log bus.new)) }
+    ensures fault { IfErr result
+        (λ fault. IsBrokenOff (AreParts (IsQueryPart address) 43) fault
+        (B.log bus.old) (B.log bus.new)) }
 {
     for number in 0..43 {
         if is_surveyed(number) {
@@ -164,7 +172,8 @@ fn ask_device<B: Bus>(
 ) -> Result<(), AskFault>
     ensures more { OnOk result (AsksMore (IsDevicePart address) asked.old.items asked.new.items
         (B.log bus.old) (B.log bus.new)) }
-    ensures fault { OnErr result (AreSomeAsked (B.log bus.old) (B.log bus.new)) }
+    ensures fault { IfErr result
+        (λ fault. IsBrokenOff (IsDevicePart address) fault (B.log bus.old) (B.log bus.new)) }
 {
     for number in 0..32 {
         let Some(instance) = InstanceNumber::new(number) else {
@@ -186,7 +195,9 @@ fn ask_instance<B: Bus>(
 ) -> Result<bool, AskFault>
     ensures more { IfOk result (λ there. AsksMore (IsInstancePart address there instance)
         asked.old.items asked.new.items (B.log bus.old) (B.log bus.new)) }
-    ensures fault { OnErr result (AreSomeAsked (B.log bus.old) (B.log bus.new)) }
+    ensures fault { IfErr result
+        (λ fault. IsBrokenOff (IsSomeInstancePart address instance) fault
+        (B.log bus.old) (B.log bus.new)) }
 {
     let outcome = ask_one(bus, instance_query(address, instance, 0), asked)?;
     let is_there = is_answer(outcome);
@@ -204,7 +215,8 @@ fn ask_one<B: Bus>(
 ) -> Result<Outcome, AskFault>
     ensures more { IfOk result (λ outcome. AsksMore (IsQuestion command outcome)
         asked.old.items asked.new.items (B.log bus.old) (B.log bus.new)) }
-    ensures fault { OnErr result (AreSomeAsked (B.log bus.old) (B.log bus.new)) }
+    ensures fault { IfErr result
+        (λ fault. IsBrokenOff (IsSomeQuestion command) fault (B.log bus.old) (B.log bus.new)) }
 {
     let outcome = ask(bus, command)?.outcome();
     match asked.push(Asked { command, outcome }) {

@@ -1,16 +1,24 @@
-use Rattle.std.proofs.Common.{◌≤◌, arith, sym}
-use Rattle.commissioning.specs.Asking.{AreSomeAsked}
+use Rattle.std.proofs.Common.{◌≤◌, ◌<◌, arith, sym}
+use Rattle.std.proofs.lemmas.Result.{err_from_is_err_and}
 use Rattle.commissioning.specs.Surveys.{AreParts, IsQueryPart}
-use Rattle.commissioning.proofs.Surveying.{on_err, some_then, more_part, more_all, query_asked, query_left}
+use Rattle.commissioning.proofs.Surveying.{asks_of_more, more_part, more_all, query_asked, query_left}
+use Rattle.commissioning.proofs.Breaking.{broken_part}
+use Rattle.commissioning.proofs.Completing.{query_unasked, some_query}
 use Rattle.commissioning.proofs.surveys.ask_queries.Goals as goal
 use Rattle.commissioning.proofs.surveys.ask_queries.Goals.{then-is_surveyed+in_ok-ask_one, else-is_surveyed}
 
 pub returns-in_err-ask_one-clause-fault : goal.returns-in_err-ask_one-clause-fault
 returns-in_err-ask_one-clause-fault g c =
-    on_err c.from_residual.result (AreSomeAsked (g.B.Bus.log c.args.bus.now) (g.B.Bus.log c.ask_one.new.bus))
-    (some_then (AreParts (IsQueryPart c.args.address) c.loop-number.number) c.args.asked.now.items
-    c.loop-number.asked.items (g.B.Bus.log c.args.bus.now) (g.B.Bus.log c.loop-number.bus)
-    (g.B.Bus.log c.ask_one.new.bus) c.loop-number.invariant c.in_err-ask_one.ensures.fault)
+    let p = err_from_is_err_and c.from_residual.result c.from_residual.ensures.1 in
+    let fewer : c.loop-number.number < 43 = omega arith in
+    rw (p.1, p.2) (broken_part (IsQueryPart c.args.address) (some_query c.args.address) c.loop-number.number 43
+    c.in_err-ask_one.field-0.0 (g.B.Bus.log c.args.bus.now) (g.B.Bus.log c.loop-number.bus)
+    (g.B.Bus.log c.ask_one.new.bus) fewer
+    (asks_of_more (AreParts (IsQueryPart c.args.address) c.loop-number.number) c.args.asked.now.items
+    c.loop-number.asked.items (g.B.Bus.log c.args.bus.now) (g.B.Bus.log c.loop-number.bus) c.loop-number.invariant)
+    (query_unasked c.args.address c.loop-number.number c.query.result c.in_err-ask_one.field-0.0
+    (g.B.Bus.log c.loop-number.bus) (g.B.Bus.log c.ask_one.new.bus) c.query.ensures (sym c.if-is_surveyed.ensures)
+    c.in_err-ask_one.ensures.fault))
 
 pub loop-number-preserved : goal.loop-number-preserved
 loop-number-preserved g c =
