@@ -1,11 +1,10 @@
 //! Why a line of a binding is bad.
 
 use crate::bad_lines::{
-    BadLine, Placed, Reason, bad_words, last_line, line_at, line_before, line_with, with_line,
-    without_return, words_of,
+    BadLine, Placed, Reason, bad_words, example_of, last_line, line_at, line_before, line_with,
+    with_line, without_return, words_of,
 };
-use crate::forms::{BINDING, in_small_letters, place_in};
-use curing::{Example, FaultAnswer, shown_text};
+use crate::forms::{BINDING, place_in};
 use std::alloc::{AllocError, Global};
 use wordlines::{BindFault, Binding, LineCause, LineFault, Words, is_skipped, number_of};
 
@@ -21,17 +20,27 @@ pub fn binding_fault(
         let what = String::from_str(alloc, "a binding of over 1,048,576 bytes")?;
         return Reason::new(alloc, 1, what, "leave comments out")?.answer(alloc, "buses 1");
     }
+    let reason = reason_of(alloc, bytes, number, line)?;
+    with_meant(alloc, bytes, number, line, reason)
+}
+
+/// Why the line of a number is bad.
+fn reason_of(
+    alloc: Global,
+    bytes: &[u8],
+    number: usize,
+    line: &[u8],
+) -> Result<Reason, AllocError> {
     if is_skipped(line) {
         let what = String::from_str(alloc, "no line says how many buses there are")?;
         let mut reason = Reason::new(alloc, 1, what, "write the line `buses N`, of 1 to 64")?;
         reason.meant = Some(line_before(alloc, b"buses 1", line)?);
-        return with_meant(alloc, bytes, number, line, reason);
+        return Ok(reason);
     }
-    let reason = match bad_words(alloc, line, BINDING)? {
-        Some(reason) => reason,
-        None => bad_order(alloc, bytes, number, line)?,
-    };
-    with_meant(alloc, bytes, number, line, reason)
+    match bad_words(alloc, line, BINDING)? {
+        Some(reason) => Ok(reason),
+        None => bad_order(alloc, bytes, number, line, &words_of(alloc, line)?),
+    }
 }
 
 /// What is said of a reason: with the line as it is meant, where that helps.
@@ -42,24 +51,15 @@ fn with_meant(
     line: &[u8],
     reason: Reason,
 ) -> Result<BadLine, AllocError> {
-    let small = in_small_letters(alloc, line, &words_of(alloc, line)?)?;
-    let meant = match &reason.meant {
-        Some(meant) => Vec::from_slice(alloc, meant)?,
-        None => small,
-    };
+    let meant = reason.meant_for(alloc, line)?;
     if is_cure(alloc, bytes, number, &meant)? {
-        return Ok(BadLine {
-            col: reason.col,
-            answer: FaultAnswer {
-                what: reason.what,
-                facts: String::new(alloc),
-                cure: reason.cure,
-                example: Example::Tried(shown_text(alloc, &meant)?),
-            },
-        });
+        reason.tried(alloc, &meant)
+    } else {
+        reason.answer(
+            alloc,
+            example_of(line, BINDING, "source 0.0 device-instance 5 2"),
+        )
     }
-    let example = example_of(line);
-    reason.answer(alloc, example)
 }
 
 /// Whether the binding has no fault up to a line with another line in its place.
@@ -79,53 +79,53 @@ fn is_behind(fault: &BindFault, last: usize) -> Result<bool, AllocError> {
     }
 }
 
-/// A line of the kind that a line is of.
-fn example_of(line: &[u8]) -> &'static str {
-    let mut words = Words::of(line);
-    let first = words.next();
-    let form = BINDING
-        .iter()
-        .find(|form| Some(form.word.as_bytes()) == first);
-    match form {
-        Some(form) => form.example,
-        None => "source 0.0 device-instance 5 2",
-    }
-}
-
 /// Why a line of good words is bad among the others.
 fn bad_order(
     alloc: Global,
     bytes: &[u8],
     number: usize,
     line: &[u8],
+    words: &[Placed<'_>],
 ) -> Result<Reason, AllocError> {
-    let words = words_of(alloc, line)?;
-    let is_buses = line.starts_with(b"buses ");
-    let col = if is_buses { 1 } else { column_of(&words) };
     let Some((buses, first)) = buses_before(bytes, number) else {
-        let what = String::from_str(alloc, "the number of buses is not said yet")?;
-        let mut reason = Reason::new(alloc, 1, what, "begin with the line `buses N`")?;
-        let buses = bus_of(&words).saturating_add(1);
-        let first = format!(in alloc; "buses {buses}")?;
-        reason.meant = Some(line_before(alloc, first.as_bytes(), line)?);
-        return Ok(reason);
+        return no_buses(alloc, line, bus_of(words));
     };
-    if is_buses {
+    if line.starts_with(b"buses ") {
         let what = format!(in alloc; "the number of buses is said twice, first in line {first}")?;
-        return Reason::new(alloc, col, what, "leave one of the two lines out");
+        return Reason::new(alloc, 1, what, "leave one of the two lines out");
     }
-    let bus = bus_of(&words);
-    if bus >= buses {
-        let last = buses.saturating_sub(1);
-        let what = if buses == 1 {
-            format!(in alloc; "there is no bus {bus}: there is bus 0 alone (line {first})")?
-        } else {
-            format!(in alloc; "there is no bus {bus}: there are 0 to {last} (line {first})")?
-        };
-        let cure = "the first bus is 0; the line `buses` has the number of all buses";
-        return Reason::new(alloc, col, what, cure);
+    if bus_of(words) >= buses {
+        return no_bus(alloc, words, buses, first);
     }
-    given_twice(alloc, bytes, number, line, col)
+    given_twice(alloc, bytes, number, line, words)
+}
+
+/// That the number of buses is not said before a line that names this bus.
+fn no_buses(alloc: Global, line: &[u8], bus: u64) -> Result<Reason, AllocError> {
+    let what = String::from_str(alloc, "the number of buses is not said yet")?;
+    let mut reason = Reason::new(alloc, 1, what, "begin with the line `buses N`")?;
+    let buses = bus.saturating_add(1);
+    let first = format!(in alloc; "buses {buses}")?;
+    reason.meant = Some(line_before(alloc, first.as_bytes(), line)?);
+    Ok(reason)
+}
+
+/// That there is no such bus, where so many are said in line `first`.
+fn no_bus(
+    alloc: Global,
+    words: &[Placed<'_>],
+    buses: u64,
+    first: usize,
+) -> Result<Reason, AllocError> {
+    let bus = bus_of(words);
+    let last = buses.saturating_sub(1);
+    let what = if buses == 1 {
+        format!(in alloc; "there is no bus {bus}: there is bus 0 alone (line {first})")?
+    } else {
+        format!(in alloc; "there is no bus {bus}: there are 0 to {last} (line {first})")?
+    };
+    let cure = "the first bus is 0; the line `buses` has the number of all buses";
+    Reason::new(alloc, column_of(words), what, cure)
 }
 
 /// Where the bus stands that a line names.
@@ -169,28 +169,25 @@ fn given_twice(
     bytes: &[u8],
     number: usize,
     line: &[u8],
-    col: usize,
+    words: &[Placed<'_>],
 ) -> Result<Reason, AllocError> {
-    let words = words_of(alloc, line)?;
-    let bus = bus_of(&words);
+    let col = column_of(words);
     if line.starts_with(b"tries ") {
+        let bus = bus_of(words);
         let first = line_with(bytes, number, b"tries", &[bus]).unwrap_or(number);
         let what = format!(in alloc; "bus {bus} has a line `tries` already, line {first}")?;
         return Reason::new(alloc, col, what, "leave one of the two lines out");
     }
-    let place = match words.get(1) {
-        Some(found) => place_in(found.word),
-        None => None,
-    };
-    let (bus, k) = place.unwrap_or((0, 0));
+    let (bus, k) = place_of(words).unwrap_or((0, 0));
     let first = source_before(bytes, number, (bus, k)).unwrap_or(number);
     let what = format!(in alloc; "the place {bus}.{k} has a source already, in line {first}")?;
-    Reason::new(
-        alloc,
-        col,
-        what,
-        "give each source a place of its own, with another number",
-    )
+    let cure = "give each source a place of its own, with another number";
+    Reason::new(alloc, col, what, cure)
+}
+
+/// The place that a line names.
+fn place_of(words: &[Placed<'_>]) -> Option<(u64, u64)> {
+    place_in(words.get(1)?.word)
 }
 
 /// The number of the line before this one that binds a source at a place.

@@ -41,16 +41,43 @@ impl Reason {
 
     /// What is said of it, with a line of another file.
     pub(crate) fn answer(self, alloc: Global, line: &str) -> Result<BadLine, AllocError> {
-        Ok(BadLine {
+        let example = Example::Other(String::from_str(alloc, line)?);
+        Ok(self.said(alloc, example))
+    }
+
+    /// What is said of it, with the line as it is meant.
+    pub(crate) fn tried(self, alloc: Global, meant: &[u8]) -> Result<BadLine, AllocError> {
+        let example = Example::Tried(shown_text(alloc, meant)?);
+        Ok(self.said(alloc, example))
+    }
+
+    /// What is said of it, with this example.
+    fn said(self, alloc: Global, example: Example) -> BadLine {
+        BadLine {
             col: self.col,
             answer: FaultAnswer {
                 what: self.what,
                 facts: String::new(alloc),
                 cure: self.cure,
-                example: Example::Other(String::from_str(alloc, line)?),
+                example,
             },
-        })
+        }
     }
+
+    /// The line as it is meant: in small letters, where nothing else is known of it.
+    pub(crate) fn meant_for(&self, alloc: Global, line: &[u8]) -> Result<Vec<u8>, AllocError> {
+        match &self.meant {
+            Some(meant) => Vec::from_slice(alloc, meant),
+            None => in_small_letters(alloc, line),
+        }
+    }
+}
+
+/// The line in small letters.
+fn in_small_letters(alloc: Global, line: &[u8]) -> Result<Vec<u8>, AllocError> {
+    line.iter()
+        .map(|byte| byte.to_ascii_lowercase())
+        .collect(alloc)
 }
 
 /// A word of a line, with its place there.
@@ -130,9 +157,30 @@ pub(crate) fn bad_words(
     let Some(first) = words.first() else {
         return Ok(None);
     };
-    match forms.iter().find(|form| form.word.as_bytes() == first.word) {
+    match form_of(forms, first.word) {
         Some(form) => check_words(alloc, form, &words, line.len()),
         None => Ok(Some(unknown(alloc, line, *first, forms)?)),
+    }
+}
+
+/// The form of the lines that begin with a word.
+fn form_of<'a>(forms: &'a [Form], word: &[u8]) -> Option<&'a Form> {
+    for form in forms {
+        if form.word.as_bytes() == word {
+            return Some(form);
+        }
+    }
+    None
+}
+
+/// A line of the kind that a line is of; this one where it is of none.
+pub(crate) fn example_of(line: &[u8], forms: &[Form], other: &'static str) -> &'static str {
+    let Some(word) = Words::of(line).next() else {
+        return other;
+    };
+    match form_of(forms, word) {
+        Some(form) => form.example,
+        None => other,
     }
 }
 
@@ -157,15 +205,12 @@ fn bad_blanks(alloc: Global, line: &[u8]) -> Result<Option<Reason>, AllocError> 
 
 /// A reason of blanks, with the line as it is meant.
 fn spaced(alloc: Global, line: &[u8], at: usize, what: &str) -> Result<Reason, AllocError> {
-    Ok(Reason {
-        col: at.saturating_add(1).min(line.len().max(1)),
-        what: String::from_str(alloc, what)?,
-        cure: String::from_str(
-            alloc,
-            "write one blank between two words, and none elsewhere",
-        )?,
-        meant: Some(single_spaced(alloc, line)?),
-    })
+    let col = at.saturating_add(1).min(line.len().max(1));
+    let what = String::from_str(alloc, what)?;
+    let cure = "write one blank between two words, and none elsewhere";
+    let mut reason = Reason::new(alloc, col, what, cure)?;
+    reason.meant = Some(single_spaced(alloc, line)?);
+    Ok(reason)
 }
 
 /// The words of a line between single blanks.
@@ -190,38 +235,54 @@ fn unknown(
     first: Placed<'_>,
     forms: &[Form],
 ) -> Result<Reason, AllocError> {
-    let found = shown_text(alloc, first.word)?;
-    let is_meant = |form: &&Form| {
-        first.word.eq_ignore_ascii_case(form.word.as_bytes())
-            || is_near(first.word, form.word.as_bytes())
+    let meant = meant_form(forms, first.word);
+    let mut reason = Reason {
+        col: first.at.saturating_add(1),
+        what: no_first_word(alloc, first.word, meant.is_some())?,
+        cure: first_words(alloc, forms)?,
+        meant: None,
     };
-    let meant = match forms.iter().find(is_meant) {
-        Some(form) => Some(replaced(alloc, line, first, form.word.as_bytes())?),
-        None => None,
-    };
-    let is_upper = first.word.iter().any(|byte| byte.is_ascii_uppercase());
-    let what = if is_upper && meant.is_some() {
-        format!(in alloc; "{found} is not in small letters")?
+    if let Some(form) = meant {
+        reason.meant = Some(replaced(alloc, line, first, form.word.as_bytes())?);
+    }
+    Ok(reason)
+}
+
+/// The form whose first word is meant by another one: it is near, or differs in letter case.
+fn meant_form<'a>(forms: &'a [Form], word: &[u8]) -> Option<&'a Form> {
+    for form in forms {
+        let other = form.word.as_bytes();
+        if word.eq_ignore_ascii_case(other) || is_near(word, other) {
+            return Some(form);
+        }
+    }
+    None
+}
+
+/// That a first word is none, though another one may be meant.
+fn no_first_word(alloc: Global, word: &[u8], is_meant: bool) -> Result<String, AllocError> {
+    let found = shown_text(alloc, word)?;
+    if is_meant && word.iter().any(|byte| byte.is_ascii_uppercase()) {
+        format!(in alloc; "{found} is not in small letters")
     } else {
-        format!(in alloc; "no line begins with {found}")?
-    };
-    let mut cure = String::from_str(alloc, "lines begin with ")?;
+        format!(in alloc; "no line begins with {found}")
+    }
+}
+
+/// The words with which lines begin, six on the first line.
+fn first_words(alloc: Global, forms: &[Form]) -> Result<String, AllocError> {
+    let mut text = String::from_str(alloc, "lines begin with ")?;
     for (index, form) in forms.iter().enumerate() {
         let before = match index {
             0 => "",
             6 => ",\n",
             _ => ", ",
         };
-        cure.push_str(before)?;
-        cure.push_str(form.word)?;
+        text.push_str(before)?;
+        text.push_str(form.word)?;
     }
-    cure.push_str(", or # for a comment")?;
-    Ok(Reason {
-        col: first.at.saturating_add(1),
-        what,
-        cure,
-        meant,
-    })
+    text.push_str(", or # for a comment")?;
+    Ok(text)
 }
 
 /// The line with another word in place of one.

@@ -1,11 +1,11 @@
 //! Why a line of a scenario is bad.
 
 use crate::bad_lines::{
-    BadLine, Reason, bad_words, last_line, line_at, line_before, line_with, with_line,
-    without_return, words_of,
+    BadLine, Reason, bad_words, example_of, last_line, line_at, line_before, line_with, with_line,
+    without_return,
 };
-use crate::forms::{SCENARIO, in_small_letters};
-use curing::{Example, FaultAnswer, shown_text};
+use crate::forms::SCENARIO;
+use curing::shown_text;
 use std::alloc::{AllocError, Global};
 use wordlines::{LineCause, LineFault, ScenarioFault, Words, is_skipped, parse};
 
@@ -36,24 +36,12 @@ fn with_meant(
     line: &[u8],
     reason: Reason,
 ) -> Result<BadLine, AllocError> {
-    let small = in_small_letters(alloc, line, &words_of(alloc, line)?)?;
-    let meant = match &reason.meant {
-        Some(meant) => Vec::from_slice(alloc, meant)?,
-        None => small,
-    };
+    let meant = reason.meant_for(alloc, line)?;
     if is_cure(alloc, bytes, number, &meant)? {
-        return Ok(BadLine {
-            col: reason.col,
-            answer: FaultAnswer {
-                what: reason.what,
-                facts: String::new(alloc),
-                cure: reason.cure,
-                example: Example::Tried(shown_text(alloc, &meant)?),
-            },
-        });
+        reason.tried(alloc, &meant)
+    } else {
+        reason.answer(alloc, example_of(line, SCENARIO, "event 0 048402"))
     }
-    let example = example_of(line);
-    reason.answer(alloc, example)
 }
 
 /// Whether the scenario has no fault up to a line with another line in its place.
@@ -70,19 +58,6 @@ fn is_behind(fault: &ScenarioFault, last: usize) -> Result<bool, AllocError> {
     match fault {
         LineFault::Memory => Err(AllocError),
         LineFault::At { line, .. } => Ok(line.number() > last),
-    }
-}
-
-/// A line of the kind that a line is of.
-fn example_of(line: &[u8]) -> &'static str {
-    let mut words = Words::of(line);
-    let first = words.next();
-    let form = SCENARIO
-        .iter()
-        .find(|form| Some(form.word.as_bytes()) == first);
-    match form {
-        Some(form) => form.example,
-        None => "event 0 048402",
     }
 }
 
@@ -114,23 +89,18 @@ fn bad_order(
     if word == b"tick".as_slice() {
         return falls(alloc, bytes, number, numbers.first);
     }
-    if let Some(first) = first_happening(bytes, number) {
-        let word = shown_text(alloc, word)?;
-        let what = format!(in alloc; "{word} behind the first tick or event, in line {first}")?;
-        let cure = "say what is on the buses, and what becomes of frames, before that";
-        return Reason::new(alloc, 1, what, cure);
+    match first_happening(bytes, number) {
+        Some(first) => late(alloc, word, first),
+        None => declared(alloc, bytes, number, line, (word, numbers)),
     }
-    let mut reason = declared(alloc, bytes, number, word, numbers)?;
-    let kind = if word == b"instance".as_slice() {
-        "device"
-    } else {
-        "gear"
-    };
-    let bus = numbers.first;
-    let short = numbers.second;
-    let first = format!(in alloc; "{kind} {bus} {short}")?;
-    reason.meant = Some(line_before(alloc, first.as_bytes(), line)?);
-    Ok(reason)
+}
+
+/// A line behind the first tick or event, which is in line `first`.
+fn late(alloc: Global, word: &[u8], first: usize) -> Result<Reason, AllocError> {
+    let word = shown_text(alloc, word)?;
+    let what = format!(in alloc; "{word} behind the first tick or event, in line {first}")?;
+    let cure = "say what is on the buses, and what becomes of frames, before that";
+    Reason::new(alloc, 1, what, cure)
 }
 
 /// A moment that falls.
@@ -176,36 +146,78 @@ fn declared(
     alloc: Global,
     bytes: &[u8],
     number: usize,
+    line: &[u8],
+    (word, numbers): (&[u8], Numbers),
+) -> Result<Reason, AllocError> {
+    let what = declared_what(alloc, bytes, number, word, numbers)?;
+    let cure = "declare gear, devices and instances once, and before a line that names them";
+    let mut reason = Reason::new(alloc, 1, what, cure)?;
+    let first = declaration(alloc, word, numbers)?;
+    reason.meant = Some(line_before(alloc, first.as_bytes(), line)?);
+    Ok(reason)
+}
+
+/// The line that declares the gear, or the device of an instance.
+fn declaration(alloc: Global, word: &[u8], numbers: Numbers) -> Result<String, AllocError> {
+    let Numbers {
+        first: bus,
+        second: short,
+        ..
+    } = numbers;
+    if word == b"instance".as_slice() {
+        format!(in alloc; "device {bus} {short}")
+    } else {
+        format!(in alloc; "gear {bus} {short}")
+    }
+}
+
+/// What is declared twice, or not before it is named.
+fn declared_what(
+    alloc: Global,
+    bytes: &[u8],
+    number: usize,
     word: &[u8],
     numbers: Numbers,
-) -> Result<Reason, AllocError> {
+) -> Result<String, AllocError> {
     let Numbers {
         first: bus,
         second: short,
         third: instance,
     } = numbers;
-    let what = match word {
-        b"gear" | b"device" => {
-            let found = line_with(bytes, number, word, &[bus, short]).unwrap_or(number);
-            let kind = if word == b"gear".as_slice() {
-                "gear"
-            } else {
-                "device"
-            };
-            format!(in alloc; "{kind} {short} of bus {bus} is declared already, in line {found}")?
+    let found = line_with(bytes, number, word, &[bus, short]).unwrap_or(number);
+    match word {
+        b"gear" => {
+            format!(in alloc; "gear {short} of bus {bus} is declared already, in line {found}")
         }
-        b"reply" => {
-            let found = line_with(bytes, number, word, &[bus, short]).unwrap_or(number);
-            format!(in alloc; "frame {short} of bus {bus} has a line already, line {found}")?
+        b"device" => {
+            format!(in alloc; "device {short} of bus {bus} is declared already, in line {found}")
         }
-        b"instance" => match line_with(bytes, number, word, &[bus, short, instance]) {
-            Some(found) => format!(in alloc;
-                "instance {instance} of device {short} of bus {bus} is declared already, in line {found}"
-            )?,
-            None => format!(in alloc; "there is no device {short} on bus {bus} up to here")?,
-        },
-        _ => format!(in alloc; "there is no gear {short} on bus {bus} up to here")?,
-    };
-    let cure = "declare gear, devices and instances once, and before a line that names them";
-    Reason::new(alloc, 1, what, cure)
+        b"reply" => format!(in alloc;
+            "frame {short} of bus {bus} has a line already, line {found}"
+        ),
+        b"instance" => {
+            let found = line_with(bytes, number, word, &[bus, short, instance]);
+            of_instance(alloc, numbers, found)
+        }
+        _ => format!(in alloc; "there is no gear {short} on bus {bus} up to here"),
+    }
+}
+
+/// An instance that a line declares already, or whose device is not declared.
+fn of_instance(
+    alloc: Global,
+    numbers: Numbers,
+    found: Option<usize>,
+) -> Result<String, AllocError> {
+    let Numbers {
+        first: bus,
+        second: short,
+        third: instance,
+    } = numbers;
+    match found {
+        Some(found) => format!(in alloc;
+            "instance {instance} of device {short} of bus {bus} is declared already, in line {found}"
+        ),
+        None => format!(in alloc; "there is no device {short} on bus {bus} up to here"),
+    }
 }

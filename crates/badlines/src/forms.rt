@@ -1,6 +1,6 @@
 //! The forms of lines of bindings and scenarios, word by word.
 
-use crate::bad_lines::{Placed, Reason, replaced};
+use crate::bad_lines::{Placed, Reason};
 use curing::shown_text;
 use std::alloc::{AllocError, Global};
 use wordlines::{hex_of, number_of, parts_around_dot};
@@ -162,12 +162,7 @@ impl Field {
     fn cure(self, alloc: Global, scheme: &[u8]) -> Result<String, AllocError> {
         let name = self.name(scheme);
         match (self, self.range(scheme)) {
-            (_, Some((least, most))) if most == u64::MAX => {
-                format!(in alloc; "the {name} is a number of decimal digits alone, {least} or more")
-            }
-            (_, Some((least, most))) => {
-                format!(in alloc; "the {name} is {least} to {most}, in decimal digits alone")
-            }
+            (_, Some((least, most))) => number_cure(alloc, name, least, most),
             (Field::Place, None) => String::from_str(
                 alloc,
                 "a place is the number of a bus, a dot and a number of 0 to 63, in one word",
@@ -216,6 +211,15 @@ fn second_name(scheme: &[u8]) -> &'static str {
     match scheme {
         b"instance" | b"device-instance" => "instance number",
         _ => "instance type",
+    }
+}
+
+/// What a word is, which is a number.
+fn number_cure(alloc: Global, name: &str, least: u64, most: u64) -> Result<String, AllocError> {
+    if most == u64::MAX {
+        format!(in alloc; "the {name} is a number of decimal digits alone, {least} or more")
+    } else {
+        format!(in alloc; "the {name} is {least} to {most}, in decimal digits alone")
     }
 }
 
@@ -283,24 +287,53 @@ fn unmet(
     found: Placed<'_>,
     scheme: &[u8],
 ) -> Result<Reason, AllocError> {
-    let word = shown_text(alloc, found.word)?;
-    let name = field.name(scheme);
-    let what = match field.range(scheme) {
-        Some((least, most)) if most == u64::MAX && is_number(found.word) => {
-            format!(in alloc; "the {name} is {word}, and not {least} or more")?
-        }
-        Some((least, most)) if is_number(found.word) => {
-            format!(in alloc; "the {name} is {word}, and not {least} to {most}")?
-        }
-        Some(_) => format!(in alloc; "{word} is no number")?,
-        None if field.meant(found.word).is_some() => {
-            format!(in alloc; "{word} is not in small letters")?
-        }
-        None => format!(in alloc; "{word} is no {name}")?,
-    };
+    let what = unmet_what(alloc, field, found.word, scheme)?;
     let mut reason = Reason::new(alloc, found.at.saturating_add(1), what, "")?;
     reason.cure = field.cure(alloc, scheme)?;
     Ok(reason)
+}
+
+/// What a word is, which is not what it has to be.
+fn unmet_what(
+    alloc: Global,
+    field: Field,
+    word: &[u8],
+    scheme: &[u8],
+) -> Result<String, AllocError> {
+    let name = field.name(scheme);
+    match field.range(scheme) {
+        Some((least, most)) if is_number(word) => outside(alloc, name, word, (least, most)),
+        Some(_) => with_word(alloc, word, "is no number"),
+        None if field.meant(word).is_some() => with_word(alloc, word, "is not in small letters"),
+        None => no_such(alloc, word, name),
+    }
+}
+
+/// That a number is not within its range.
+fn outside(
+    alloc: Global,
+    name: &str,
+    word: &[u8],
+    (least, most): (u64, u64),
+) -> Result<String, AllocError> {
+    let word = shown_text(alloc, word)?;
+    if most == u64::MAX {
+        format!(in alloc; "the {name} is {word}, and not {least} or more")
+    } else {
+        format!(in alloc; "the {name} is {word}, and not {least} to {most}")
+    }
+}
+
+/// A word, and what is said of it.
+fn with_word(alloc: Global, word: &[u8], what: &str) -> Result<String, AllocError> {
+    let word = shown_text(alloc, word)?;
+    format!(in alloc; "{word} {what}")
+}
+
+/// That a word is none of a kind.
+fn no_such(alloc: Global, word: &[u8], name: &str) -> Result<String, AllocError> {
+    let word = shown_text(alloc, word)?;
+    format!(in alloc; "{word} is no {name}")
 }
 
 /// Whether a word is a number.
@@ -310,31 +343,11 @@ fn is_number(word: &[u8]) -> bool {
 
 /// A word too many.
 fn too_many(alloc: Global, more: Placed<'_>) -> Result<Reason, AllocError> {
-    let word = shown_text(alloc, more.word)?;
     let cure = if more.word.starts_with(b"#") {
         "give a comment a line of its own"
     } else {
         "leave out what stands here, or give it a line of its own"
     };
-    let what = format!(in alloc; "{word} is a word too many")?;
+    let what = with_word(alloc, more.word, "is a word too many")?;
     Reason::new(alloc, more.at.saturating_add(1), what, cure)
-}
-
-/// The line with a word in small letters, where that is all that is wrong with it.
-pub(crate) fn in_small_letters(
-    alloc: Global,
-    line: &[u8],
-    words: &[Placed<'_>],
-) -> Result<Vec<u8>, AllocError> {
-    let mut all = Vec::from_slice(alloc, line)?;
-    for word in words {
-        if word.word.iter().any(|byte| byte.is_ascii_uppercase()) {
-            let mut small = Vec::new(alloc);
-            for byte in word.word {
-                small.push(byte.to_ascii_lowercase())?;
-            }
-            all = replaced(alloc, &all, *word, &small)?;
-        }
-    }
-    Ok(all)
 }

@@ -2,7 +2,7 @@
 
 use crate::name_causes::advice_of;
 use crate::said::Said;
-use curing::{AskedText, Edit, Example, FaultAnswer, Spot};
+use curing::{Advice, AskedText, Edit, Example, FaultAnswer, Spot};
 use ilscope::NameCause;
 use iltokens::{AddressKind, Lexed, What, token};
 use std::alloc::{AllocError, Global};
@@ -57,6 +57,14 @@ impl Located {
     }
 }
 
+const NO_TRIGGER: Advice = Advice {
+    what: "a variable that is no trigger",
+    cure: "SINGLE names a variable of VAR_GLOBAL that has an address %IX; for a task\n\
+        that runs again and again write INTERVAL",
+    line: "VAR_GLOBAL pressed AT %IX0.0 : BOOL; END_VAR\n\
+        TASK push (SINGLE := pressed, PRIORITY := 1);",
+};
+
 /// What is said of an address of something that is not there.
 pub(crate) fn answer_address(
     alloc: Global,
@@ -64,13 +72,13 @@ pub(crate) fn answer_address(
     spot: &Spot,
 ) -> Result<Said, AllocError> {
     let Some(located) = located_at(spot) else {
-        return Ok(Said::plain(alloc, no_trigger(alloc)?));
+        return Said::of(alloc, &NO_TRIGGER);
     };
     if located.bus >= u64::from(asked.binding.buses()) {
-        return Ok(Said::plain(alloc, no_bus(alloc, asked, located)?));
+        return no_bus(alloc, asked, located);
     }
     if located.place > located.most() {
-        return Ok(Said::plain(alloc, no_place(alloc, located)?));
+        return no_place(alloc, located);
     }
     match located.source() {
         Some((number, added)) => no_source(alloc, asked, spot, located, number, added),
@@ -92,35 +100,31 @@ fn located_at(spot: &Spot) -> Option<Located> {
     }
 }
 
-/// What is said of SINGLE with a variable that is no trigger.
-fn no_trigger(alloc: Global) -> Result<FaultAnswer, AllocError> {
+/// An answer of these parts.
+fn answer(
+    alloc: Global,
+    what: String,
+    facts: String,
+    cure: &str,
+    line: String,
+) -> Result<FaultAnswer, AllocError> {
     Ok(FaultAnswer {
-        what: String::from_str(alloc, "a variable that is no trigger")?,
-        facts: String::new(alloc),
-        cure: String::from_str(
-            alloc,
-            "SINGLE names a variable of VAR_GLOBAL that has an address %IX; for a task\n\
-             that runs again and again write INTERVAL",
-        )?,
-        example: Example::Other(String::from_str(
-            alloc,
-            "VAR_GLOBAL pressed AT %IX0.0 : BOOL; END_VAR\n\
-             TASK push (SINGLE := pressed, PRIORITY := 1);",
-        )?),
+        what,
+        facts,
+        cure: String::from_str(alloc, cure)?,
+        example: Example::Other(line),
     })
 }
 
 /// What is said of a bus that the binding lacks.
-fn no_bus(alloc: Global, asked: &AskedText, located: Located) -> Result<FaultAnswer, AllocError> {
-    let bus = located.bus;
+fn no_bus(alloc: Global, asked: &AskedText, located: Located) -> Result<Said, AllocError> {
+    let Located { bus, place, .. } = located;
     let word = located.word();
-    let place = located.place;
-    Ok(FaultAnswer {
-        what: format!(in alloc; "there is no bus {bus}")?,
-        facts: buses_told(alloc, asked)?,
-        cure: String::from_str(alloc, bus_cure(asked.is_bound))?,
-        example: Example::Other(format!(in alloc; "{word}0.{place}")?),
-    })
+    let what = format!(in alloc; "there is no bus {bus}")?;
+    let facts = buses_told(alloc, asked)?;
+    let line = format!(in alloc; "{word}0.{place}")?;
+    let answer = answer(alloc, what, facts, bus_cure(asked.is_bound), line)?;
+    Ok(Said::plain(alloc, answer))
 }
 
 /// What helps against a bus that is not there.
@@ -147,11 +151,25 @@ fn buses_told(alloc: Global, asked: &AskedText) -> Result<String, AllocError> {
 }
 
 /// What is said of a number behind the dot that is too big.
-fn no_place(alloc: Global, located: Located) -> Result<FaultAnswer, AllocError> {
+fn no_place(alloc: Global, located: Located) -> Result<Said, AllocError> {
     let word = located.word();
     let most = located.most();
     let bus = located.bus;
-    let cure = match located.kind {
+    let what = format!(in alloc; "the number behind the dot of {word} is at most {most}")?;
+    let line = format!(in alloc; "{word}{bus}.{most}")?;
+    let answer = answer(
+        alloc,
+        what,
+        String::new(alloc),
+        place_cure(located.kind),
+        line,
+    )?;
+    Ok(Said::plain(alloc, answer))
+}
+
+/// What helps against a number behind the dot that is too big.
+fn place_cure(kind: AddressKind) -> &'static str {
+    match kind {
         AddressKind::OutputByte => {
             "levels are 0 to 63 of short addresses, 64 to 79 of the groups 0 to 15, and\n\
              80 of all gear"
@@ -161,13 +179,7 @@ fn no_place(alloc: Global, located: Located) -> Result<FaultAnswer, AllocError> 
              191 and counts 192 to 255 of the sources 0 to 63"
         }
         AddressKind::InputBit => "triggers are 0 to 63, as the sources of the binding",
-    };
-    Ok(FaultAnswer {
-        what: format!(in alloc; "the number behind the dot of {word} is at most {most}")?,
-        facts: String::new(alloc),
-        cure: String::from_str(alloc, cure)?,
-        example: Example::Other(format!(in alloc; "{word}{bus}.{most}")?),
-    })
+    }
 }
 
 /// What is said of a source that the binding lacks.
@@ -179,14 +191,21 @@ fn no_source(
     number: u64,
     added: u64,
 ) -> Result<Said, AllocError> {
-    let bus = located.bus;
-    let answer = FaultAnswer {
-        what: format!(in alloc; "there is no source {bus}.{number}")?,
-        facts: sources_told(alloc, asked)?,
-        cure: String::from_str(alloc, source_cure(asked.is_bound))?,
-        example: Example::Other(format!(in alloc; "source {bus}.{number} device-instance 5 2")?),
-    };
+    let answer = source_answer(alloc, asked, located.bus, number)?;
     Ok(Said::with_edits(answer, source_edits(alloc, asked, spot, located, added)?))
+}
+
+/// What is said of this source, which the binding lacks.
+fn source_answer(
+    alloc: Global,
+    asked: &AskedText,
+    bus: u64,
+    number: u64,
+) -> Result<FaultAnswer, AllocError> {
+    let what = format!(in alloc; "there is no source {bus}.{number}")?;
+    let facts = sources_told(alloc, asked)?;
+    let line = format!(in alloc; "source {bus}.{number} device-instance 5 2")?;
+    answer(alloc, what, facts, source_cure(asked.is_bound), line)
 }
 
 /// What helps against a source that is not there.
@@ -206,6 +225,11 @@ fn sources_told(alloc: Global, asked: &AskedText) -> Result<String, AllocError> 
     if asked.binding.sources().is_empty() {
         return String::from_str(alloc, "the binding has no source of events\n");
     }
+    sources_listed(alloc, asked)
+}
+
+/// The sources of the binding, as a line.
+fn sources_listed(alloc: Global, asked: &AskedText) -> Result<String, AllocError> {
     let mut text = String::from_str(alloc, "the binding has the sources ")?;
     for (index, bound) in asked.binding.sources().iter().enumerate() {
         if index >= MOST_TOLD {

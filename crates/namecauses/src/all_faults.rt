@@ -21,13 +21,24 @@ pub(crate) fn all_faults(
 ) -> Result<Vec<Found>, AllocError> {
     let scope = Scope::of(alloc, source, binding)?;
     let mut faults = Faults::new(alloc);
-    let types = add_declared(alloc, &mut faults, &scope, binding)?;
-    add_functions(alloc, &mut faults, &scope)?;
-    let stored = add_programs(alloc, &mut faults, &scope, &types)?;
-    if let Some(configuration) = source.configuration() {
-        add_written_twice(alloc, &mut faults, &scope, configuration, &stored)?;
-    }
+    add_all(alloc, &mut faults, &scope, binding)?;
     faults.in_order(alloc)
+}
+
+/// Adds the faults of a text.
+fn add_all(
+    alloc: Global,
+    faults: &mut Faults,
+    scope: &Scope,
+    binding: &Binding,
+) -> Result<(), AllocError> {
+    let types = add_declared(alloc, faults, scope, binding)?;
+    add_functions(alloc, faults, scope)?;
+    let stored = add_programs(alloc, faults, scope, &types)?;
+    match scope.source().configuration() {
+        Some(configuration) => add_written_twice(alloc, faults, scope, configuration, &stored),
+        None => Ok(()),
+    }
 }
 
 /// Adds the faults of declarations; what each type means.

@@ -4,7 +4,7 @@ use crate::said::Said;
 use curing::{Advice, AskedText, Edit, FaultAnswer, Spot, line_number, line_of, part, shown_text};
 use ilsource::{
     Configuration, Constant, Declaration, Declared, Element, GlobalDeclaration, Name, Source,
-    Specification, TaskDeclaration,
+    SourceFunction, Specification, TaskDeclaration,
 };
 use iltokens::{Delimiter, Lexed, What, token};
 use std::alloc::{AllocError, Global};
@@ -72,6 +72,15 @@ const LOCATED: Advice = Advice {
     line: "lamp AT %QB0.5 : USINT (0..254);",
 };
 
+/// What is wrong with a declaration.
+#[derive(Clone, Copy)]
+enum Bad {
+    /// What advice says.
+    Advised(&'static Advice),
+    /// The type differs from that of VAR_GLOBAL.
+    Different,
+}
+
 /// What is said of a bad declaration at a place, where it is known.
 pub(crate) fn answer_declaration(
     alloc: Global,
@@ -79,80 +88,83 @@ pub(crate) fn answer_declaration(
     source: &Source,
     spot: &Spot,
 ) -> Result<Option<Said>, AllocError> {
-    if let Some(configuration) = source.configuration() {
-        if let Some(task) = task_at(configuration, spot.at) {
-            return Ok(Some(Said::of(alloc, of_task(task))?));
-        }
-        if let Some(global) = global_at(configuration, spot.at) {
-            return of_advice(alloc, of_global(global));
-        }
-    }
-    for element in source.elements() {
-        if let Element::Program(program) = element {
-            if let Some(found) = declaration_at(program.declarations(), spot.at) {
-                return of_declaration(alloc, asked, source, spot, found);
-            }
-        }
-        let advice = of_type_or_function(element, spot.at);
-        if advice.is_some() {
-            return of_advice(alloc, advice);
-        }
-    }
-    Ok(None)
-}
-
-/// What is said of a type of the text, or of a function's result, inputs and variables, where the
-/// name stands at a place.
-fn of_type_or_function(element: &Element, at: usize) -> Option<Advice> {
-    match element {
-        Element::DerivedType(one) if one.name.from == at => {
-            of_variable(one.specification, one.initial)
-        }
-        Element::Function(function) if function.name().from == at => match function.inputs() {
-            // What is at fault there is that the function has no input.
-            [] => None,
-            _ => of_variable(function.result_type(), None),
-        },
-        Element::Function(function) => {
-            let found = declaration_at(function.inputs(), at);
-            match found
-                .or(declaration_at(function.variables(), at))?
-                .declared_kind()
-            {
-                Declared::Variables {
-                    specification,
-                    initial,
-                } => of_variable(specification, initial),
-                _ => None,
-            }
-        }
-        _ => None,
-    }
-}
-
-/// What advice says, where there is one.
-fn of_advice(alloc: Global, advice: Option<Advice>) -> Result<Option<Said>, AllocError> {
-    match advice {
-        Some(advice) => Ok(Some(Said::of(alloc, advice)?)),
+    match bad_at(source, spot.at) {
+        Some(Bad::Advised(advice)) => Ok(Some(Said::of(alloc, advice)?)),
+        Some(Bad::Different) => different(alloc, asked, source, spot),
         None => Ok(None),
     }
 }
 
-/// What is said of a declaration of a program.
-fn of_declaration(
-    alloc: Global,
-    asked: &AskedText,
-    source: &Source,
-    spot: &Spot,
-    declaration: &Declaration,
-) -> Result<Option<Said>, AllocError> {
-    match declaration.declared_kind() {
-        Declared::External(_) => different(alloc, asked, source, spot),
+/// What is wrong with the declaration at a place, where it is known.
+fn bad_at(source: &Source, at: usize) -> Option<Bad> {
+    if let Some(configuration) = source.configuration() {
+        if let Some(task) = task_at(configuration, at) {
+            return Some(Bad::Advised(of_task(task)));
+        }
+        if let Some(global) = global_at(configuration, at) {
+            return Some(Bad::Advised(of_global(global)?));
+        }
+    }
+    for element in source.elements() {
+        if let Some(declaration) = declaration_in(element, at) {
+            return bad_in_program(declaration);
+        }
+        if let Some(advice) = of_type_or_function(element, at) {
+            return Some(Bad::Advised(advice));
+        }
+    }
+    None
+}
+
+/// The declaration of a program of which a name stands at a place, where the element is a program.
+fn declaration_in(element: &Element, at: usize) -> Option<&Declaration> {
+    match element {
+        Element::Program(program) => declaration_at(program.declarations(), at),
+        _ => None,
+    }
+}
+
+/// What is wrong with a type of the text, or with a function's result, inputs and variables, where
+/// the name stands at a place.
+fn of_type_or_function(element: &Element, at: usize) -> Option<&'static Advice> {
+    match element {
+        Element::DerivedType(one) if one.name.from == at => {
+            of_variable(one.specification, one.initial)
+        }
+        Element::Function(function) => of_function(function, at),
+        _ => None,
+    }
+}
+
+/// What is wrong with a function's result, inputs and variables, where the name stands at a place.
+fn of_function(function: &SourceFunction, at: usize) -> Option<&'static Advice> {
+    if function.name().from == at {
+        // Without an input, that is what is at fault there.
+        return if function.inputs().is_empty() {
+            None
+        } else {
+            of_variable(function.result_type(), None)
+        };
+    }
+    let found = declaration_at(function.inputs(), at).or(declaration_at(function.variables(), at));
+    match found?.declared_kind() {
         Declared::Variables {
             specification,
             initial,
-        } => of_advice(alloc, of_variable(specification, initial)),
-        Declared::Blocks(_) => Ok(None),
+        } => of_variable(specification, initial),
+        _ => None,
+    }
+}
+
+/// What is wrong with a declaration of a program.
+fn bad_in_program(declaration: &Declaration) -> Option<Bad> {
+    match declaration.declared_kind() {
+        Declared::External(_) => Some(Bad::Different),
+        Declared::Variables {
+            specification,
+            initial,
+        } => Some(Bad::Advised(of_variable(specification, initial)?)),
+        Declared::Blocks(_) => None,
     }
 }
 
@@ -183,32 +195,32 @@ fn has_name(names: &[Name], at: usize) -> bool {
 }
 
 /// What is said of a task.
-fn of_task(task: &TaskDeclaration) -> Advice {
+fn of_task(task: &TaskDeclaration) -> &'static Advice {
     match (task.single, task.interval) {
-        (None, None) => NEITHER,
-        (Some(_), Some(_)) => BOTH,
-        (None, Some(0)) => NO_INTERVAL,
-        _ => PRIORITIES,
+        (None, None) => &NEITHER,
+        (Some(_), Some(_)) => &BOTH,
+        (None, Some(0)) => &NO_INTERVAL,
+        _ => &PRIORITIES,
     }
 }
 
 /// What is said of a variable of this type that begins so.
-fn of_variable(specification: Specification, initial: Option<Constant>) -> Option<Advice> {
+fn of_variable(specification: Specification, initial: Option<Constant>) -> Option<&'static Advice> {
     match (specification, initial) {
-        (Specification::Subrange { low, high, .. }, _) if low > high => Some(EXCHANGED),
-        (Specification::Bool, Some(_)) => Some(NO_TRUTH),
+        (Specification::Subrange { low, high, .. }, _) if low > high => Some(&EXCHANGED),
+        (Specification::Bool, Some(_)) => Some(&NO_TRUTH),
         (Specification::Bool, None) | (Specification::Named(_), None) => None,
-        (_, Some(Constant::Bool(_))) => Some(NO_NUMBER),
-        (Specification::Subrange { .. }, _) | (_, Some(_)) => Some(OUTSIDE),
+        (_, Some(Constant::Bool(_))) => Some(&NO_NUMBER),
+        (Specification::Subrange { .. }, _) | (_, Some(_)) => Some(&OUTSIDE),
         _ => None,
     }
 }
 
 /// What is said of global variables.
-fn of_global(global: &GlobalDeclaration) -> Option<Advice> {
+fn of_global(global: &GlobalDeclaration) -> Option<&'static Advice> {
     match (global.address(), global.specification()) {
-        (Some(_), Specification::Subrange { low, high, .. }) if low > high => Some(EXCHANGED),
-        (Some(_), _) => Some(LOCATED),
+        (Some(_), Specification::Subrange { low, high, .. }) if low > high => Some(&EXCHANGED),
+        (Some(_), _) => Some(&LOCATED),
         (None, specification) => of_variable(specification, global.initial()),
     }
 }
@@ -221,22 +233,38 @@ fn different(
     source: &Source,
     spot: &Spot,
 ) -> Result<Option<Said>, AllocError> {
-    let Some(name) = global_named(source, spot) else {
-        return Ok(None);
-    };
-    let line = line_number(asked.text, name.from);
+    match global_named(source, spot) {
+        Some(name) => {
+            let edit = type_edit(alloc, asked, spot, name)?;
+            let facts = global_line(alloc, asked, name)?;
+            let answer = FaultAnswer::of(alloc, DIFFERENT)?;
+            Ok(Some(Said::with_edit(alloc, answer.with_facts(facts), edit)?))
+        }
+        None => Ok(None),
+    }
+}
+
+/// The line of a global variable.
+fn global_line(alloc: Global, asked: &AskedText, global: Name) -> Result<String, AllocError> {
+    let line = line_number(asked.text, global.from);
     let found = shown_text(alloc, line_of(asked.text, line))?;
-    let answer = FaultAnswer::of(alloc, DIFFERENT)?.with_facts(format!(in alloc;
-        "in VAR_GLOBAL:\n{line:>6} | {found}\n"
-    )?);
+    format!(in alloc; "in VAR_GLOBAL:\n{line:>6} | {found}\n")
+}
+
+/// The type of a global variable in place of the one that is declared at a place.
+fn type_edit(
+    alloc: Global,
+    asked: &AskedText,
+    spot: &Spot,
+    global: Name,
+) -> Result<Edit, AllocError> {
     let (from, to) = type_behind(asked.text, spot.at);
-    let (first, last) = type_behind(asked.text, name.from);
-    let edit = Edit::new(alloc, from, to, part(asked.text, first, last))?;
-    Ok(Some(Said::with_edit(alloc, answer, edit)?))
+    let (first, last) = type_behind(asked.text, global.from);
+    Edit::new(alloc, from, to, part(asked.text, first, last))
 }
 
 /// The global variable that has the name at a place.
-fn global_named(source: &Source, spot: &Spot) -> Option<Name> {
+pub(crate) fn global_named(source: &Source, spot: &Spot) -> Option<Name> {
     let configuration = source.configuration()?;
     for global in configuration.globals() {
         for name in global.names() {

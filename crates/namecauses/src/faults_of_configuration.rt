@@ -27,26 +27,53 @@ pub(crate) fn add_configuration(
 ) -> Result<(), AllocError> {
     add_globals(faults, lower, types, configuration.globals())?;
     add_addresses(alloc, faults, binding, scope.globals())?;
+    add_tasks(faults, scope, configuration)?;
+    add_names(alloc, faults, lower, scope, configuration)
+}
+
+/// Adds the faults of tasks and of program instances.
+fn add_tasks(
+    faults: &mut Faults,
+    scope: &Scope,
+    configuration: &Configuration,
+) -> Result<(), AllocError> {
     for task in configuration.tasks() {
         add_task(faults, scope, task)?;
     }
     for instance in configuration.instances() {
         add_instance(faults, scope, instance)?;
     }
-    let globals: Vec<Name> = scope.globals().iter().map(|one| one.name).collect(alloc)?;
-    let tasks: Vec<Name> = configuration
-        .tasks()
-        .iter()
-        .map(|one| one.name)
-        .collect(alloc)?;
-    let instances: Vec<Name> = configuration
-        .instances()
-        .iter()
-        .map(|one| one.name)
-        .collect(alloc)?;
-    add_twice(alloc, faults, lower, &globals)?;
-    add_twice(alloc, faults, lower, &tasks)?;
-    add_twice(alloc, faults, lower, &instances)
+    Ok(())
+}
+
+/// Adds the faults of names that are given twice in a configuration.
+fn add_names(
+    alloc: Global,
+    faults: &mut Faults,
+    lower: &[u8],
+    scope: &Scope,
+    configuration: &Configuration,
+) -> Result<(), AllocError> {
+    add_twice(alloc, faults, lower, &globals_of(alloc, scope)?)?;
+    add_twice(alloc, faults, lower, &tasks_of(alloc, configuration)?)?;
+    add_twice(alloc, faults, lower, &instances_of(alloc, configuration)?)
+}
+
+/// The names of the global variables.
+fn globals_of(alloc: Global, scope: &Scope) -> Result<Vec<Name>, AllocError> {
+    scope.globals().iter().map(|one| one.name).collect(alloc)
+}
+
+/// The names of the tasks.
+fn tasks_of(alloc: Global, configuration: &Configuration) -> Result<Vec<Name>, AllocError> {
+    let tasks = configuration.tasks().iter();
+    tasks.map(|one| one.name).collect(alloc)
+}
+
+/// The names of the program instances.
+fn instances_of(alloc: Global, configuration: &Configuration) -> Result<Vec<Name>, AllocError> {
+    let instances = configuration.instances().iter();
+    instances.map(|one| one.name).collect(alloc)
 }
 
 /// Adds the faults of what global variables are declared as.

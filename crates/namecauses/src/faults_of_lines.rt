@@ -70,23 +70,37 @@ pub(crate) fn add_lines(
 ) -> Result<(), AllocError> {
     let labels = add_labels(alloc, faults, scope, lines)?;
     for (number, line) in lines.iter().enumerate() {
-        match &line.instruction {
-            Some(Instruction::Jump(_, label)) => {
-                add_jump(faults, number, *label, labels.get(scope.spelling(*label)))?;
-            }
-            Some(Instruction::Call { arguments, .. }) => {
-                add_ports(alloc, faults, scope, arguments.as_slice())?;
-            }
-            Some(Instruction::Invoke { function, operands }) => {
-                add_call(faults, scope, known, *function, operands.as_slice().len())?;
-            }
-            Some(Instruction::Deferred { nested, .. }) => {
-                add_calls_in(faults, scope, known, nested.pieces())?;
-            }
-            _ => {}
+        if let Some(instruction) = &line.instruction {
+            add_instruction(alloc, faults, scope, known, (number, instruction), &labels)?;
         }
     }
     Ok(())
+}
+
+/// Adds the faults of an instruction, of the line with this number, where these labels stand.
+fn add_instruction(
+    alloc: Global,
+    faults: &mut Faults,
+    scope: &Scope,
+    known: &KnownNames,
+    (number, instruction): (usize, &Instruction<Symbol, Name>),
+    labels: &Names<usize>,
+) -> Result<(), AllocError> {
+    match instruction {
+        Instruction::Jump(_, label) => {
+            add_jump(faults, number, *label, labels.get(scope.spelling(*label)))
+        }
+        Instruction::Call { arguments, .. } => {
+            add_ports(alloc, faults, scope, arguments.as_slice())
+        }
+        Instruction::Invoke { function, operands } => {
+            add_call(faults, scope, known, *function, operands.as_slice().len())
+        }
+        Instruction::Deferred { nested, .. } => {
+            add_calls_in(faults, scope, known, nested.pieces())
+        }
+        _ => Ok(()),
+    }
 }
 
 /// Adds the faults of labels that are given again; the number of the first line of each label.

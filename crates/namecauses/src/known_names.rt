@@ -34,16 +34,12 @@ impl KnownNames {
         types: &DeclaredTypes,
         program: &ProgramScope,
     ) -> Result<KnownNames, AllocError> {
-        let mut variables = Names::new(alloc);
-        add_variables(alloc, scope, &mut variables, 0, program.variables())?;
-        Ok(KnownNames {
-            variables,
-            inputs: 0,
-            externals: externals_of(alloc, scope, program.externals())?,
-            blocks: blocks_of(alloc, scope, program.blocks())?,
-            unsure: unsure_in(alloc, scope, types, program.program().declarations())?,
-            functions: program.functions(),
-        })
+        let mut known = KnownNames::none(alloc, program.functions());
+        known.add_variables(alloc, scope, 0, program.variables())?;
+        known.add_externals(alloc, scope, program.externals())?;
+        known.add_blocks(alloc, scope, program.blocks())?;
+        known.add_unsure(alloc, scope, types, program.program().declarations())?;
+        Ok(known)
     }
 
     /// Those of a function.
@@ -53,17 +49,84 @@ impl KnownNames {
         function: &FunctionScope,
     ) -> Result<KnownNames, AllocError> {
         let inputs = function.inputs().len();
-        let mut variables = Names::new(alloc);
-        add_variables(alloc, scope, &mut variables, 0, function.inputs())?;
-        add_variables(alloc, scope, &mut variables, inputs, function.variables())?;
-        Ok(KnownNames {
-            variables,
-            inputs,
+        let mut known = KnownNames::none(alloc, function.functions());
+        known.inputs = inputs;
+        known.add_variables(alloc, scope, 0, function.inputs())?;
+        known.add_variables(alloc, scope, inputs, function.variables())?;
+        Ok(known)
+    }
+
+    /// None, below so many functions.
+    fn none(alloc: Global, functions: usize) -> KnownNames {
+        KnownNames {
+            variables: Names::new(alloc),
+            inputs: 0,
             externals: Names::new(alloc),
             blocks: Names::new(alloc),
             unsure: Names::new(alloc),
-            functions: function.functions(),
-        })
+            functions,
+        }
+    }
+
+    /// Adds the numbers of variables, which begin with this one, under their names.
+    fn add_variables(
+        &mut self,
+        alloc: Global,
+        scope: &Scope,
+        first: usize,
+        variables: &[DeclaredVariable],
+    ) -> Result<(), AllocError> {
+        for (place, variable) in variables.iter().enumerate() {
+            let number = first.saturating_add(place);
+            self.variables
+                .add(alloc, scope.spelling(variable.name), number)?;
+        }
+        Ok(())
+    }
+
+    /// Adds the numbers of the global variables that externals name.
+    fn add_externals(
+        &mut self,
+        alloc: Global,
+        scope: &Scope,
+        externals: &[DeclaredExternal],
+    ) -> Result<(), AllocError> {
+        for external in externals {
+            let global = scope.global_number(external.name);
+            self.externals
+                .add(alloc, scope.spelling(external.name), global)?;
+        }
+        Ok(())
+    }
+
+    /// Adds the kinds of block instances.
+    fn add_blocks(
+        &mut self,
+        alloc: Global,
+        scope: &Scope,
+        blocks: &[DeclaredBlock],
+    ) -> Result<(), AllocError> {
+        for block in blocks {
+            self.blocks
+                .add(alloc, scope.spelling(block.name), block.kind)?;
+        }
+        Ok(())
+    }
+
+    /// Adds the names that are declared with a type that is none of these.
+    fn add_unsure(
+        &mut self,
+        alloc: Global,
+        scope: &Scope,
+        types: &DeclaredTypes,
+        declarations: &[Declaration],
+    ) -> Result<(), AllocError> {
+        for declaration in declarations {
+            if is_unsure(scope, types, declaration.declared_kind()) {
+                add_each(alloc, scope, &mut self.unsure, declaration.names())?;
+            }
+        }
+        Ok(())
     }
 
     /// Whether something that a line may name so is declared. A port that a call of an unknown
@@ -172,64 +235,6 @@ impl KnownNames {
             None => false,
         }
     }
-}
-
-/// Adds the numbers of variables, which begin with this one, under their names.
-fn add_variables(
-    alloc: Global,
-    scope: &Scope,
-    names: &mut Names<usize>,
-    first: usize,
-    variables: &[DeclaredVariable],
-) -> Result<(), AllocError> {
-    for (place, variable) in variables.iter().enumerate() {
-        let number = first.saturating_add(place);
-        names.add(alloc, scope.spelling(variable.name), number)?;
-    }
-    Ok(())
-}
-
-/// The numbers of the global variables that externals name.
-fn externals_of(
-    alloc: Global,
-    scope: &Scope,
-    externals: &[DeclaredExternal],
-) -> Result<Names<Option<usize>>, AllocError> {
-    let mut names = Names::new(alloc);
-    for external in externals {
-        let global = scope.global_number(external.name);
-        names.add(alloc, scope.spelling(external.name), global)?;
-    }
-    Ok(names)
-}
-
-/// The kinds of block instances.
-fn blocks_of(
-    alloc: Global,
-    scope: &Scope,
-    blocks: &[DeclaredBlock],
-) -> Result<Names<BlockKind>, AllocError> {
-    let mut names = Names::new(alloc);
-    for block in blocks {
-        names.add(alloc, scope.spelling(block.name), block.kind)?;
-    }
-    Ok(names)
-}
-
-/// The names that are declared with a type that is none of these.
-fn unsure_in(
-    alloc: Global,
-    scope: &Scope,
-    types: &DeclaredTypes,
-    declarations: &[Declaration],
-) -> Result<Names<()>, AllocError> {
-    let mut names = Names::new(alloc);
-    for declaration in declarations {
-        if is_unsure(scope, types, declaration.declared_kind()) {
-            add_each(alloc, scope, &mut names, declaration.names())?;
-        }
-    }
-    Ok(names)
 }
 
 /// Whether a type is named that is none of these.

@@ -2,8 +2,8 @@
 //! which faults a text has besides the least.
 //!
 //! What crosses the boundary: [`answer_name`], of a cause at a place, and [`OtherFaults`]. Names
-//! that other languages have stand in a row each (src/name_habits.rt). What is printed is fixed by
-//! worked rows (crates/rows); of the code it is proved that it is safe and ends.
+//! that other languages have stand in short tables (src/name_habits.rt). What is printed is fixed
+//! by worked rows (crates/rows); of the code it is proved that it is safe and ends.
 //!
 //! ```text
 //! let answer = answer_name(alloc, &asked, at, NameCause::Unknown)?;

@@ -113,37 +113,37 @@ const BAD_DECLARATION: Advice = Advice {
 };
 
 /// What is said of too many tasks or instances, where one of them stands at a place.
-pub(crate) fn count_advice(source: &Source, at: usize) -> Option<Advice> {
+pub(crate) fn count_advice(source: &Source, at: usize) -> Option<&'static Advice> {
     let configuration = source.configuration()?;
     let is_task = |task: &TaskDeclaration| task.name.from == at;
     let is_instance = |instance: &InstanceDeclaration| instance.name.from == at;
     if configuration.tasks().iter().skip(MOST_TASKS).any(is_task) {
-        Some(TASKS)
+        Some(&TASKS)
     } else if configuration
         .instances()
         .iter()
         .skip(MOST_INSTANCES)
         .any(is_instance)
     {
-        Some(INSTANCES)
+        Some(&INSTANCES)
     } else {
         None
     }
 }
 
 /// What is said of a cause.
-pub(crate) fn advice_of(cause: NameCause) -> Advice {
+pub(crate) fn advice_of(cause: NameCause) -> &'static Advice {
     match cause {
-        NameCause::Unknown => UNKNOWN,
-        NameCause::Twice => TWICE,
-        NameCause::UnknownLabel => UNKNOWN_LABEL,
-        NameCause::BackwardJump => BACKWARD_JUMP,
-        NameCause::BadAddress => BAD_ADDRESS,
-        NameCause::InputRangeTooSmall => INPUT_RANGE_TOO_SMALL,
-        NameCause::WrittenTwice => WRITTEN_TWICE,
-        NameCause::WritesInput => WRITES_INPUT,
-        NameCause::NoTask => NO_TASK,
-        NameCause::TooMany => TOO_MANY,
-        NameCause::BadDeclaration => BAD_DECLARATION,
+        NameCause::Unknown => &UNKNOWN,
+        NameCause::Twice => &TWICE,
+        NameCause::UnknownLabel => &UNKNOWN_LABEL,
+        NameCause::BackwardJump => &BACKWARD_JUMP,
+        NameCause::BadAddress => &BAD_ADDRESS,
+        NameCause::InputRangeTooSmall => &INPUT_RANGE_TOO_SMALL,
+        NameCause::WrittenTwice => &WRITTEN_TWICE,
+        NameCause::WritesInput => &WRITES_INPUT,
+        NameCause::NoTask => &NO_TASK,
+        NameCause::TooMany => &TOO_MANY,
+        NameCause::BadDeclaration => &BAD_DECLARATION,
     }
 }

@@ -2,8 +2,16 @@
 
 use curing::Advice;
 
-/// A name in small letters, what to write in its place if one word does, and what is said of it.
-pub(crate) type NameHabit = (&'static str, &'static str, Advice);
+/// Names that other languages have for one thing.
+#[derive(Clone, Copy)]
+pub(crate) struct NameHabit {
+    /// The names in small letters.
+    names: &'static [&'static str],
+    /// What to write in their place; empty where no word does.
+    pub word: &'static str,
+    /// What is said of them.
+    pub advice: Advice,
+}
 
 const TOF: Advice = Advice {
     what: "there is no TOF, a delay at switching off",
@@ -107,64 +115,176 @@ const INSTRUCTION: Advice = Advice {
     line: "LD button",
 };
 
-/// The names, a row each.
-const NAMES: &[NameHabit] = &[
-    ("tof", "", TOF),
-    ("tp", "", TP),
-    ("rs", "", LATCH),
-    ("sr", "", LATCH),
-    ("ctd", "", DOWN),
-    ("ctud", "", DOWN),
-    ("f_trig", "", FALLING),
-    ("real", "DINT", REAL),
-    ("lreal", "DINT", REAL),
-    ("byte", "USINT", BYTE),
-    ("word", "UINT", BYTE),
-    ("dword", "UDINT", BYTE),
-    ("lword", "UDINT", LONG),
-    ("lint", "DINT", LONG),
-    ("ulint", "UDINT", LONG),
-    ("string", "", STRING),
-    ("wstring", "", STRING),
-    ("char", "", STRING),
-    ("date", "", DATE),
-    ("tod", "", DATE),
-    ("time_of_day", "", DATE),
-    ("dt", "", DATE),
-    ("date_and_time", "", DATE),
-    ("if", "", STRUCTURED),
-    ("else", "", STRUCTURED),
-    ("end_if", "", STRUCTURED),
-    ("elsif", "", STRUCTURED),
-    ("case", "", STRUCTURED),
-    ("end_case", "", STRUCTURED),
-    ("for", "", LOOP),
-    ("end_for", "", LOOP),
-    ("while", "", LOOP),
-    ("end_while", "", LOOP),
-    ("repeat", "", LOOP),
-    ("until", "", LOOP),
-    ("end_repeat", "", LOOP),
-    ("goto", "JMP", INSTRUCTION),
-    ("jump", "JMP", INSTRUCTION),
-    ("return", "RET", INSTRUCTION),
-    ("load", "LD", INSTRUCTION),
-    ("store", "ST", INSTRUCTION),
-    ("set", "S", INSTRUCTION),
-    ("reset", "R", INSTRUCTION),
-    ("call", "CAL", INSTRUCTION),
-    ("sel", "", SELECT),
-    ("mux", "", SELECT),
-    ("shl", "", SHIFT),
-    ("shr", "", SHIFT),
-    ("rol", "", ROTATION),
-    ("ror", "", ROTATION),
+/// Function blocks that other languages have.
+const BLOCKS: &[NameHabit] = &[
+    NameHabit {
+        names: &["tof"],
+        word: "",
+        advice: TOF,
+    },
+    NameHabit {
+        names: &["tp"],
+        word: "",
+        advice: TP,
+    },
+    NameHabit {
+        names: &["rs", "sr"],
+        word: "",
+        advice: LATCH,
+    },
+    NameHabit {
+        names: &["ctd", "ctud"],
+        word: "",
+        advice: DOWN,
+    },
+    NameHabit {
+        names: &["f_trig"],
+        word: "",
+        advice: FALLING,
+    },
+];
+
+/// Types that other languages have.
+const TYPES: &[NameHabit] = &[
+    NameHabit {
+        names: &["real", "lreal"],
+        word: "DINT",
+        advice: REAL,
+    },
+    NameHabit {
+        names: &["byte"],
+        word: "USINT",
+        advice: BYTE,
+    },
+    NameHabit {
+        names: &["word"],
+        word: "UINT",
+        advice: BYTE,
+    },
+    NameHabit {
+        names: &["dword"],
+        word: "UDINT",
+        advice: BYTE,
+    },
+    NameHabit {
+        names: &["lint"],
+        word: "DINT",
+        advice: LONG,
+    },
+    NameHabit {
+        names: &["lword", "ulint"],
+        word: "UDINT",
+        advice: LONG,
+    },
+    NameHabit {
+        names: &["string", "wstring", "char"],
+        word: "",
+        advice: STRING,
+    },
+    NameHabit {
+        names: &["date", "tod", "time_of_day", "dt", "date_and_time"],
+        word: "",
+        advice: DATE,
+    },
+];
+
+/// Statements and functions that other languages have.
+const STATEMENTS: &[NameHabit] = &[
+    NameHabit {
+        names: &["if", "else", "end_if", "elsif", "case", "end_case"],
+        word: "",
+        advice: STRUCTURED,
+    },
+    NameHabit {
+        names: &[
+            "for",
+            "end_for",
+            "while",
+            "end_while",
+            "repeat",
+            "until",
+            "end_repeat",
+        ],
+        word: "",
+        advice: LOOP,
+    },
+    NameHabit {
+        names: &["sel", "mux"],
+        word: "",
+        advice: SELECT,
+    },
+    NameHabit {
+        names: &["shl", "shr"],
+        word: "",
+        advice: SHIFT,
+    },
+    NameHabit {
+        names: &["rol", "ror"],
+        word: "",
+        advice: ROTATION,
+    },
+];
+
+/// Instructions by the names that they have elsewhere.
+const INSTRUCTIONS: &[NameHabit] = &[
+    NameHabit {
+        names: &["goto", "jump"],
+        word: "JMP",
+        advice: INSTRUCTION,
+    },
+    NameHabit {
+        names: &["return"],
+        word: "RET",
+        advice: INSTRUCTION,
+    },
+    NameHabit {
+        names: &["load"],
+        word: "LD",
+        advice: INSTRUCTION,
+    },
+    NameHabit {
+        names: &["store"],
+        word: "ST",
+        advice: INSTRUCTION,
+    },
+    NameHabit {
+        names: &["set"],
+        word: "S",
+        advice: INSTRUCTION,
+    },
+    NameHabit {
+        names: &["reset"],
+        word: "R",
+        advice: INSTRUCTION,
+    },
+    NameHabit {
+        names: &["call"],
+        word: "CAL",
+        advice: INSTRUCTION,
+    },
 ];
 
 /// What is said of a name that is not declared, where other languages have it.
-pub(crate) fn name_habit(found: &[u8]) -> Option<NameHabit> {
-    let habit = NAMES
+pub(crate) fn name_habit(found: &[u8]) -> Option<&'static NameHabit> {
+    habit_among(BLOCKS, found)
+        .or(habit_among(TYPES, found))
+        .or(habit_among(STATEMENTS, found))
+        .or(habit_among(INSTRUCTIONS, found))
+}
+
+/// The first of some that has a name.
+fn habit_among(habits: &'static [NameHabit], found: &[u8]) -> Option<&'static NameHabit> {
+    for habit in habits {
+        if has_name(habit.names, found) {
+            return Some(habit);
+        }
+    }
+    None
+}
+
+/// Whether a name is one of several.
+fn has_name(names: &[&str], found: &[u8]) -> bool {
+    names
         .iter()
-        .find(|habit| found.eq_ignore_ascii_case(habit.0.as_bytes()));
-    habit.copied()
+        .any(|name| found.eq_ignore_ascii_case(name.as_bytes()))
 }

@@ -62,14 +62,24 @@ fn is_given(place: &Place) -> bool {
 
 /// The line of a label, as a line.
 pub(crate) fn label_line(alloc: Global, spot: &Spot) -> Result<String, AllocError> {
+    match label_before(alloc, spot)? {
+        Some(from) => {
+            let line = line_number(spot.text, from);
+            format!(in alloc; "the label stands in line {line}\n")
+        }
+        None => Ok(String::new(alloc)),
+    }
+}
+
+/// Where the label stands in what is open at the place, before that.
+fn label_before(alloc: Global, spot: &Spot) -> Result<Option<usize>, AllocError> {
     let start = Surroundings::of(spot.text, spot.at).from;
     for place in &places_of(alloc, spot, start)? {
         if place.from < spot.at && matches!(place.behind, Some(What::Delimiter(Delimiter::Colon))) {
-            let line = line_number(spot.text, place.from);
-            return format!(in alloc; "the label stands in line {line}\n");
+            return Ok(Some(place.from));
         }
     }
-    Ok(String::new(alloc))
+    Ok(None)
 }
 
 /// The lines that store to a variable, as a line.
@@ -77,14 +87,9 @@ pub(crate) fn lines_of_stores(alloc: Global, spot: &Spot) -> Result<String, Allo
     let mut text = String::new(alloc);
     let mut told: usize = 0;
     for place in &places_of(alloc, spot, 0)? {
-        let is_store = matches!(
-            place.before,
-            Some(What::Keyword(Keyword::St | Keyword::Stn | Keyword::S | Keyword::R))
-        );
-        if is_store && told < MOST_LINES {
-            let line = line_number(spot.text, place.from);
-            text.push_str(if told == 0 { "stored in line " } else { ", " })?;
-            text.push_str(&format!(in alloc; "{line}")?)?;
+        if is_store(place) && told < MOST_LINES {
+            let before = if told == 0 { "stored in line " } else { ", " };
+            push_line(alloc, &mut text, before, line_number(spot.text, place.from))?;
             told = told.saturating_add(1);
         }
     }
@@ -92,6 +97,25 @@ pub(crate) fn lines_of_stores(alloc: Global, spot: &Spot) -> Result<String, Allo
         text.push_str("\n")?;
     }
     Ok(text)
+}
+
+/// Adds the number of a line, and what stands before it.
+fn push_line(
+    alloc: Global,
+    text: &mut String,
+    before: &str,
+    line: usize,
+) -> Result<(), AllocError> {
+    text.push_str(before)?;
+    text.push_str(&format!(in alloc; "{line}")?)
+}
+
+/// Whether an instruction stores to what stands at a place.
+fn is_store(place: &Place) -> bool {
+    matches!(
+        place.before,
+        Some(What::Keyword(Keyword::St | Keyword::Stn | Keyword::S | Keyword::R))
+    )
 }
 
 /// The places behind `start` at which the word stands that was found.

@@ -52,7 +52,17 @@ impl OtherFaults {
             at: place_of(asked.text, line, col),
             cause,
         };
-        let found = all_faults(alloc, &source, asked.binding)?;
+        OtherFaults::behind(alloc, asked, &source, first)
+    }
+
+    /// Those of a text behind this fault, where it is the least.
+    fn behind(
+        alloc: Global,
+        asked: &AskedText,
+        source: &Source,
+        first: Found,
+    ) -> Result<OtherFaults, AllocError> {
+        let found = all_faults(alloc, source, asked.binding)?;
         let is_least = is_least(first, &found);
         let mut all = OtherFaults {
             named: Vec::new(alloc),
@@ -60,7 +70,7 @@ impl OtherFaults {
         };
         for other in &found {
             if is_least && !is_same(*other, first) {
-                all.add(alloc, asked, &source, *other)?;
+                all.add(alloc, asked, source, *other)?;
             }
         }
         Ok(all)
@@ -74,17 +84,18 @@ impl OtherFaults {
         source: &Source,
         found: Found,
     ) -> Result<(), AllocError> {
-        if self.named.len() < MOST_NAMED {
-            if let NameFault::At { line, col, cause } = report_of(asked.text, found) {
-                self.named.push(NamedFault {
-                    line,
-                    col,
-                    cause,
-                    what: what_of(alloc, asked, source, found.at, cause)?,
-                })?;
-            }
-        } else {
+        if self.named.len() >= MOST_NAMED {
             self.more = self.more.saturating_add(1);
+            return Ok(());
+        }
+        if let NameFault::At { line, col, cause } = report_of(asked.text, found) {
+            let what = what_of(alloc, asked, source, found.at, cause)?;
+            self.named.push(NamedFault {
+                line,
+                col,
+                cause,
+                what,
+            })?;
         }
         Ok(())
     }

@@ -29,8 +29,8 @@ impl Said {
     }
 
     /// What advice says, with no change.
-    pub(crate) fn of(alloc: Global, advice: Advice) -> Result<Said, AllocError> {
-        Ok(Said::plain(alloc, FaultAnswer::of(alloc, advice)?))
+    pub(crate) fn of(alloc: Global, advice: &Advice) -> Result<Said, AllocError> {
+        Ok(Said::plain(alloc, FaultAnswer::of(alloc, *advice)?))
     }
 
     /// An answer, with what is near to what was found.

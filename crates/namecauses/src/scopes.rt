@@ -1,6 +1,6 @@
 //! Names that are not declared, by where they stand: ports, blocks, global variables, types.
 
-use crate::declarations::type_behind;
+use crate::declarations::{global_named, type_behind};
 use crate::said::Said;
 use curing::{Advice, Edit, Example, FaultAnswer, Spot, Surroundings, part, shown_text};
 use ilblocks::BlockKind;
@@ -19,6 +19,18 @@ const IN_CONFIGURATION: Advice = Advice {
     cure: "SINGLE names a variable of VAR_GLOBAL, WITH a task of the configuration, and\n\
         behind the colon stands a program of the text",
     line: "TASK clock (INTERVAL := T#100ms, PRIORITY := 1);\nPROGRAM hall WITH clock : light;",
+};
+
+const NO_PORT: Advice = Advice {
+    what: "a port that the block does not have",
+    cure: "write one of its ports",
+    line: "LD rest.Q",
+};
+
+const NO_EXTERNAL: Advice = Advice {
+    what: "a global variable that the program does not name",
+    cure: "name it in VAR_EXTERNAL of this program, with its type",
+    line: "VAR_EXTERNAL lamp : USINT (0..254); END_VAR",
 };
 
 const NO_VARIABLE: Advice = Advice {
@@ -45,73 +57,95 @@ const NO_INSTRUCTION: Advice = Advice {
     line: "LD light",
 };
 
+/// What a name is that is not declared.
+#[derive(Clone, Copy)]
+enum Undeclared {
+    /// A name of the configuration, or a type: another one may be near.
+    Misspelled(&'static Advice),
+    /// A port of a block of this kind.
+    Port(BlockKind),
+    /// Something that asks for a word before it.
+    WithoutWord(&'static Advice, &'static str),
+    /// Something else than is asked for.
+    Other(&'static Advice),
+    /// A global variable.
+    Global(Name),
+}
+
 /// What is said of a name that is not declared, by where it stands.
 pub(crate) fn answer_scope(
     alloc: Global,
     source: &Source,
     spot: &Spot,
 ) -> Result<Option<Said>, AllocError> {
-    let around = Surroundings::of(spot.text, spot.at);
-    let next = token_at(spot.text, spot.found_to());
-    if around.is_in_configuration() && around.block.is_none() {
-        return Ok(Some(Said::with_near(FaultAnswer::of(alloc, IN_CONFIGURATION)?)));
-    }
-    if around.block.is_some() && is_type(spot, &around) {
-        return Ok(Some(Said::with_near(FaultAnswer::of(alloc, NO_TYPE)?)));
-    }
-    let declarations = declarations_at(source, spot.at);
-    if next == Some(What::Delimiter(Delimiter::Dot)) {
-        if let Some(kind) = block_named(declarations, spot, spot.token()) {
-            return Ok(Some(Said::plain(alloc, no_port(alloc, kind)?)));
-        }
-    }
-    if next == Some(What::Delimiter(Delimiter::Assign)) && around.open > 0 {
-        let called = part(spot.text, around.from, spot.at);
-        if let Some(kind) = called_block(declarations, spot, called) {
-            return Ok(Some(Said::plain(alloc, no_port(alloc, kind)?)));
-        }
-    }
-    of_variable(alloc, source, spot, declarations)
-}
-
-/// What is said of a name that is one of something else, or of the configuration.
-fn of_variable(
-    alloc: Global,
-    source: &Source,
-    spot: &Spot,
-    declarations: &[Declaration],
-) -> Result<Option<Said>, AllocError> {
-    let is_first = spot.first_word() == spot.token();
-    if block_named(declarations, spot, spot.token()).is_some() {
-        return if is_first {
-            with_word(alloc, spot, NO_CALL, "CAL ")
-        } else {
-            Ok(Some(Said::of(alloc, NO_VARIABLE)?))
-        };
-    }
-    if is_named(declarations, spot) {
-        return if is_first {
-            with_word(alloc, spot, NO_INSTRUCTION, "LD ")
-        } else {
-            Ok(Some(Said::of(alloc, NO_BLOCK)?))
-        };
-    }
-    match global_named(source, spot) {
-        Some(name) => Ok(Some(Said::plain(alloc, no_external(alloc, spot, name)?))),
+    match undeclared_at(source, spot) {
+        Some(found) => Ok(Some(said_of(alloc, spot, found)?)),
         None => Ok(None),
     }
 }
 
+/// What is said of a name that is not declared.
+fn said_of(alloc: Global, spot: &Spot, found: Undeclared) -> Result<Said, AllocError> {
+    match found {
+        Undeclared::Misspelled(advice) => Ok(Said::with_near(FaultAnswer::of(alloc, *advice)?)),
+        Undeclared::Port(kind) => no_port(alloc, kind),
+        Undeclared::WithoutWord(advice, word) => with_word(alloc, spot, advice, word),
+        Undeclared::Other(advice) => Said::of(alloc, advice),
+        Undeclared::Global(name) => no_external(alloc, spot, name),
+    }
+}
+
+/// What the name is that was found, by where it stands.
+fn undeclared_at(source: &Source, spot: &Spot) -> Option<Undeclared> {
+    let around = Surroundings::of(spot.text, spot.at);
+    if around.is_in_configuration() && around.block.is_none() {
+        return Some(Undeclared::Misspelled(&IN_CONFIGURATION));
+    }
+    if around.block.is_some() && is_type(spot, &around) {
+        return Some(Undeclared::Misspelled(&NO_TYPE));
+    }
+    let declarations = declarations_at(source, spot.at);
+    match port_of(declarations, spot, &around) {
+        Some(kind) => Some(Undeclared::Port(kind)),
+        None => declared_as(source, spot, declarations),
+    }
+}
+
+/// The kind of the block instance of which a port was found.
+fn port_of(declarations: &[Declaration], spot: &Spot, around: &Surroundings) -> Option<BlockKind> {
+    match token_at(spot.text, spot.found_to())? {
+        What::Delimiter(Delimiter::Dot) => block_named(declarations, spot, spot.token()),
+        What::Delimiter(Delimiter::Assign) if around.open > 0 => {
+            called_block(declarations, spot, part(spot.text, around.from, spot.at))
+        }
+        _ => None,
+    }
+}
+
+/// What has the name that was found: something else, or what stands in the configuration.
+fn declared_as(source: &Source, spot: &Spot, declarations: &[Declaration]) -> Option<Undeclared> {
+    let is_first = spot.first_word() == spot.token();
+    if block_named(declarations, spot, spot.token()).is_some() {
+        return Some(if is_first {
+            Undeclared::WithoutWord(&NO_CALL, "CAL ")
+        } else {
+            Undeclared::Other(&NO_VARIABLE)
+        });
+    }
+    if is_named(declarations, spot) {
+        return Some(if is_first {
+            Undeclared::WithoutWord(&NO_INSTRUCTION, "LD ")
+        } else {
+            Undeclared::Other(&NO_BLOCK)
+        });
+    }
+    Some(Undeclared::Global(global_named(source, spot)?))
+}
+
 /// What advice says, with a word before what was found.
-fn with_word(
-    alloc: Global,
-    spot: &Spot,
-    advice: Advice,
-    word: &str,
-) -> Result<Option<Said>, AllocError> {
+fn with_word(alloc: Global, spot: &Spot, advice: &Advice, word: &str) -> Result<Said, AllocError> {
     let edit = Edit::new(alloc, spot.at, spot.at, word.as_bytes())?;
-    let answer = FaultAnswer::of(alloc, advice)?;
-    Ok(Some(Said::with_edit(alloc, answer, edit)?))
+    Said::with_edit(alloc, FaultAnswer::of(alloc, *advice)?, edit)
 }
 
 /// Whether a type stands at a place in a block of variables: behind a colon.
@@ -161,19 +195,6 @@ fn has_name(names: &[Name], spot: &Spot, name: &[u8]) -> bool {
         .any(|one| one.text(spot.text).eq_ignore_ascii_case(name))
 }
 
-/// The global variable that has the name that was found.
-fn global_named(source: &Source, spot: &Spot) -> Option<Name> {
-    let configuration = source.configuration()?;
-    for global in configuration.globals() {
-        for name in global.names() {
-            if name.text(spot.text).eq_ignore_ascii_case(spot.token()) {
-                return Some(*name);
-            }
-        }
-    }
-    None
-}
-
 /// The kind of the block instance that is called last in a text.
 fn called_block(declarations: &[Declaration], spot: &Spot, text: &[u8]) -> Option<BlockKind> {
     let mut kind = None;
@@ -209,34 +230,35 @@ fn token_at(text: &[u8], at: usize) -> Option<What> {
     }
 }
 
-/// What is said of a port that a block does not have.
-fn no_port(alloc: Global, kind: BlockKind) -> Result<FaultAnswer, AllocError> {
+/// What is said of a port that a block of a kind does not have.
+fn no_port(alloc: Global, kind: BlockKind) -> Result<Said, AllocError> {
+    let answer = FaultAnswer::of(alloc, NO_PORT)?;
+    Ok(Said::plain(alloc, answer.with_facts(ports_of(alloc, kind)?)))
+}
+
+/// The ports of a block, as a line.
+fn ports_of(alloc: Global, kind: BlockKind) -> Result<String, AllocError> {
     let mut facts = String::from_str(alloc, "its ports: ")?;
     for (index, port) in kind.ports().iter().enumerate() {
         facts.push_str(if index == 0 { "" } else { ", " })?;
         facts.push_str(shown_text(alloc, port.name.spelling())?.as_str())?;
     }
     facts.push_str("\n")?;
-    Ok(FaultAnswer {
-        what: String::from_str(alloc, "a port that the block does not have")?,
-        facts,
-        cure: String::from_str(alloc, "write one of its ports")?,
-        example: Example::Other(String::from_str(alloc, "LD rest.Q")?),
-    })
+    Ok(facts)
 }
 
 /// What is said of a global variable that the program does not name in VAR_EXTERNAL.
-fn no_external(alloc: Global, spot: &Spot, name: Name) -> Result<FaultAnswer, AllocError> {
+fn no_external(alloc: Global, spot: &Spot, name: Name) -> Result<Said, AllocError> {
+    let example = Example::Other(external_line(alloc, spot, name)?);
+    let mut answer = FaultAnswer::of(alloc, NO_EXTERNAL)?;
+    answer.example = example;
+    Ok(Said::plain(alloc, answer))
+}
+
+/// The declaration of a global variable in VAR_EXTERNAL.
+fn external_line(alloc: Global, spot: &Spot, name: Name) -> Result<String, AllocError> {
     let (from, to) = type_behind(spot.text, name.from);
     let declared = shown_text(alloc, spot.part(from, to))?;
     let found = shown_text(alloc, name.text(spot.text))?;
-    Ok(FaultAnswer {
-        what: String::from_str(alloc, "a global variable that the program does not name")?,
-        facts: String::new(alloc),
-        cure: String::from_str(
-            alloc,
-            "name it in VAR_EXTERNAL of this program, with its type",
-        )?,
-        example: Example::Other(format!(in alloc; "VAR_EXTERNAL {found} : {declared}; END_VAR")?),
-    })
+    format!(in alloc; "VAR_EXTERNAL {found} : {declared}; END_VAR")
 }

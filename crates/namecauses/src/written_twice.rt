@@ -36,11 +36,13 @@ pub(crate) fn add_written_twice(
 ) -> Result<(), AllocError> {
     let programs = tasks_of_programs(alloc, scope, configuration.instances())?;
     let mut globals = vec![in alloc; Tasks::None; scope.globals().len()]?;
-    for (tasks, numbers) in programs.iter().zip(stored.iter()) {
-        add_tasks(&mut globals, numbers, *tasks);
+    for (number, tasks) in programs.iter().enumerate() {
+        if let Some(numbers) = stored.get(number) {
+            add_tasks(&mut globals, numbers, *tasks);
+        }
     }
-    for (global, tasks) in scope.globals().iter().zip(globals.iter()) {
-        let is_twice = matches!(tasks, Tasks::Several);
+    for (number, global) in scope.globals().iter().enumerate() {
+        let is_twice = matches!(globals.get(number), Some(Tasks::Several));
         faults.add_where(is_twice, global.name.from, NameCause::WrittenTwice)?;
     }
     Ok(())

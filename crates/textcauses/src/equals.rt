@@ -1,5 +1,6 @@
 //! What is said of `=` and of `=>` where `:=` may stand.
 
+use crate::examples::is_call;
 use crate::text_causes::EQUALS;
 use crate::unexpected::{Standing, is_cure};
 use curing::{Advice, Edit, FaultAnswer, Spot, part, shown_text};
@@ -26,28 +27,42 @@ pub(crate) fn answer_equals(
     if spot.token() != b"=".as_slice() {
         return Ok(None);
     }
-    let sign = shown_text(alloc, part(spot.rest(), 0, sign_len(spot.rest())))?;
-    let what = format!(in alloc; "{sign} where := is asked for")?;
-    let to = spot.at.saturating_add(sign.len());
-    let one = Edit::new(alloc, spot.at, to, b":=")?;
-    if is_cure(alloc, standing, &one)? {
-        return Ok(Some(named(alloc, EQUALS, what)?.with_tried(alloc, spot.text, &one)?));
-    }
-    let all = all_of_line(alloc, spot)?;
-    if is_cure(alloc, standing, &all)? {
-        return Ok(Some(named(alloc, EQUALS, what)?.with_tried(alloc, spot.text, &all)?));
+    if let Some(edit) = helpful(alloc, standing)? {
+        let answer = named(alloc, EQUALS, spot)?;
+        return Ok(Some(answer.with_tried(alloc, spot.text, &edit)?));
     }
     if is_in_call(standing) {
-        return Ok(Some(named(alloc, INPUTS, what)?));
+        return Ok(Some(named(alloc, INPUTS, spot)?));
     }
     Ok(None)
 }
 
-/// What advice says, where this is wrong.
-fn named(alloc: Global, advice: Advice, what: String) -> Result<FaultAnswer, AllocError> {
+/// The first change that helps: of the sign at the place, or of each up to the end of the line.
+fn helpful(alloc: Global, standing: &Standing) -> Result<Option<Edit>, AllocError> {
+    let spot = &standing.spot;
+    let to = spot.at.saturating_add(sign_len(spot.rest()));
+    let one = Edit::new(alloc, spot.at, to, b":=")?;
+    if is_cure(alloc, standing, &one)? {
+        return Ok(Some(one));
+    }
+    let all = all_of_line(alloc, spot)?;
+    if is_cure(alloc, standing, &all)? {
+        return Ok(Some(all));
+    }
+    Ok(None)
+}
+
+/// What advice says of the sign at a place.
+fn named(alloc: Global, advice: Advice, spot: &Spot) -> Result<FaultAnswer, AllocError> {
     let mut answer = FaultAnswer::of(alloc, advice)?;
-    answer.what = what;
+    answer.what = wrong_sign(alloc, spot)?;
     Ok(answer)
+}
+
+/// That the sign at a place stands for another one.
+fn wrong_sign(alloc: Global, spot: &Spot) -> Result<String, AllocError> {
+    let sign = shown_text(alloc, part(spot.rest(), 0, sign_len(spot.rest())))?;
+    format!(in alloc; "{sign} where := is asked for")
 }
 
 /// How many bytes `=`, `==`, `=>` or `=:` has that stands first.
@@ -60,28 +75,28 @@ fn sign_len(bytes: &[u8]) -> usize {
 
 /// `:=` in place of each `=` that is no part of another sign, up to a comment or the line's end.
 fn all_of_line(alloc: Global, spot: &Spot) -> Result<Edit, AllocError> {
-    let rest = spot.rest();
+    let code = part(spot.rest(), 0, code_len(spot.rest()));
     let mut with = Vec::new(alloc);
     let mut is_skipped = false;
     let mut last = b' ';
-    let mut len: usize = 0;
-    for byte in rest {
-        let behind = part(rest, len, rest.len());
-        if behind.starts_with(b"(*") {
-            return Edit::new(alloc, spot.at, spot.at.saturating_add(len), &with);
-        }
+    for (index, byte) in code.iter().enumerate() {
         if is_skipped {
             is_skipped = false;
         } else if *byte == b'=' && !matches!(last, b':' | b'<' | b'>') {
             with.extend_from_slice(b":=")?;
-            is_skipped = sign_len(behind) == 2;
+            is_skipped = sign_len(part(code, index, code.len())) == 2;
         } else {
             with.push(*byte)?;
         }
         last = *byte;
-        len = len.saturating_add(1);
     }
-    Edit::new(alloc, spot.at, spot.line_to, &with)
+    Edit::new(alloc, spot.at, spot.at.saturating_add(code.len()), &with)
+}
+
+/// How many bytes stand before a comment.
+fn code_len(line: &[u8]) -> usize {
+    let comment = line.windows(2).position(|pair| pair == b"(*".as_slice());
+    comment.unwrap_or(line.len())
 }
 
 /// Whether the inputs of a call of a block stand there.
@@ -89,9 +104,5 @@ fn is_in_call(standing: &Standing) -> bool {
     let Some(open) = standing.around.parenthesis else {
         return false;
     };
-    let word = Spot::of(standing.spot.text, open).first_word();
-    let is_call = word.eq_ignore_ascii_case(b"CAL")
-        || word.eq_ignore_ascii_case(b"CALC")
-        || word.eq_ignore_ascii_case(b"CALCN");
-    is_call && standing.around.is_in_body()
+    is_call(&Spot::of(standing.spot.text, open)) && standing.around.is_in_body()
 }

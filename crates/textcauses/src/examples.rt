@@ -1,7 +1,7 @@
 //! Lines as they read where nothing is wrong, by where they stand.
 
 use curing::{Advice, Spot, Surroundings, part};
-use iltokens::{Keyword, Lexed, What, token};
+use iltokens::{Keyword, Lexed, What, keyword_of, token};
 
 const BODY: Advice = Advice {
     what: "",
@@ -101,45 +101,45 @@ const HEAD: Advice = Advice {
 };
 
 /// What stands at a place where nothing is wrong.
-pub(crate) fn example_of(spot: &Spot, around: &Surroundings) -> Advice {
+pub(crate) fn example_of(spot: &Spot, around: &Surroundings) -> &'static Advice {
     if let Some(block) = around.block {
         return of_block(block.word);
     }
     let Some(unit) = around.unit else {
-        return UNIT;
+        return &UNIT;
     };
     match unit.word {
-        Keyword::Type => NEW_TYPE,
+        Keyword::Type => &NEW_TYPE,
         Keyword::Configuration => in_configuration(spot, part(spot.text, unit.at, spot.at)),
-        Keyword::Function if !around.is_in_body() => HEAD,
-        _ if is_jump(spot) => JUMP,
-        _ if is_call(spot) => CALL,
-        _ => BODY,
+        Keyword::Function if !around.is_in_body() => &HEAD,
+        _ if is_jump(spot) => &JUMP,
+        _ if is_call(spot) => &CALL,
+        _ => &BODY,
     }
 }
 
 /// What stands in a block of variables.
-fn of_block(word: Keyword) -> Advice {
+fn of_block(word: Keyword) -> &'static Advice {
     match word {
-        Keyword::VarGlobal => GLOBAL,
-        Keyword::VarExternal => EXTERNAL,
-        Keyword::VarInput => INPUT,
-        _ => VARIABLE,
+        Keyword::VarGlobal => &GLOBAL,
+        Keyword::VarExternal => &EXTERNAL,
+        Keyword::VarInput => &INPUT,
+        _ => &VARIABLE,
     }
 }
 
 /// What stands in a configuration, outside its variables, where this stands in it before the place.
-fn in_configuration(spot: &Spot, front: &[u8]) -> Advice {
+fn in_configuration(spot: &Spot, front: &[u8]) -> &'static Advice {
     if has_word(front, Keyword::Program) && spot.token().eq_ignore_ascii_case(b"TASK") {
-        LATE_TASK
+        &LATE_TASK
     } else if is_word(spot, b"TASK") {
-        TASK
+        &TASK
     } else if is_word(spot, b"PROGRAM") && !has_word(front, Keyword::Task) {
-        FIRST_INSTANCE
+        &FIRST_INSTANCE
     } else if is_word(spot, b"PROGRAM") {
-        INSTANCE
+        &INSTANCE
     } else {
-        CONFIGURATION
+        &CONFIGURATION
     }
 }
 
@@ -173,12 +173,18 @@ fn is_keyword(what: What, word: Keyword) -> bool {
 
 /// Whether the line begins with a jump.
 fn is_jump(spot: &Spot) -> bool {
-    is_word(spot, b"JMP") || is_word(spot, b"JMPC") || is_word(spot, b"JMPCN")
+    matches!(
+        keyword_of(spot.first_word()),
+        Some(Keyword::Jmp | Keyword::Jmpc | Keyword::Jmpcn)
+    )
 }
 
 /// Whether the line begins with a call of a block.
-fn is_call(spot: &Spot) -> bool {
-    is_word(spot, b"CAL") || is_word(spot, b"CALC") || is_word(spot, b"CALCN")
+pub(crate) fn is_call(spot: &Spot) -> bool {
+    matches!(
+        keyword_of(spot.first_word()),
+        Some(Keyword::Cal | Keyword::Calc | Keyword::Calcn)
+    )
 }
 
 /// Whether the line begins with a word.

@@ -11,37 +11,41 @@ pub(crate) fn edit_of(
     spot: &Spot,
     around: &Surroundings,
 ) -> Result<Option<Edit>, AllocError> {
-    let from = spot.literal_from();
+    if let Some(((from, to), with)) = replacement(fix, spot, around) {
+        return Ok(Some(Edit::new(alloc, from, to, with.as_bytes())?));
+    }
     match fix {
-        Fix::Nothing => Ok(None),
         Fix::LeaveOut => Ok(Some(left_out(alloc, spot)?)),
-        Fix::LeaveOutBefore => {
-            let (before, _) = around.before;
-            Ok(Some(Edit::new(alloc, before, spot.at, b"")?))
-        }
-        Fix::Replace(word) => {
-            let (from, to) = first_word_of(spot);
-            Ok(Some(Edit::new(alloc, from, to, word.as_bytes())?))
-        }
         Fix::Comment => Ok(Some(commented(alloc, spot)?)),
-        Fix::Front(len, word) => {
-            let to = from.saturating_add(len);
-            Ok(Some(Edit::new(alloc, from, to, word.as_bytes())?))
-        }
-        Fix::Literal(word) => {
-            let to = spot.literal_to();
-            Ok(Some(Edit::new(alloc, from, to, word.as_bytes())?))
-        }
-        Fix::Untyped => {
-            let literal = spot.part(from, spot.literal_to());
-            let typed = literal.iter().take_while(|byte| **byte != b'#').count();
-            let to = from.saturating_add(typed).saturating_add(1);
-            Ok(Some(Edit::new(alloc, from, to, b"")?))
-        }
         Fix::Milliseconds => with_milliseconds(alloc, spot),
         Fix::Bare => Ok(Some(bare(alloc, spot)?)),
         Fix::LoadAndStore => load_and_store(alloc, spot),
+        _ => Ok(None),
     }
+}
+
+/// Which bytes are replaced, and by what, where that does not depend on them.
+fn replacement(
+    fix: Fix,
+    spot: &Spot,
+    around: &Surroundings,
+) -> Option<((usize, usize), &'static str)> {
+    let from = spot.literal_from();
+    match fix {
+        Fix::LeaveOutBefore => Some(((around.before.0, spot.at), "")),
+        Fix::Replace(word) => Some((first_word_of(spot), word)),
+        Fix::Front(len, word) => Some(((from, from.saturating_add(len)), word)),
+        Fix::Literal(word) => Some(((from, spot.literal_to()), word)),
+        Fix::Untyped => Some(((from, from.saturating_add(type_len(spot))), "")),
+        _ => None,
+    }
+}
+
+/// How many bytes the number has up to the `#` behind its type.
+fn type_len(spot: &Spot) -> usize {
+    let literal = spot.part(spot.literal_from(), spot.literal_to());
+    let typed = literal.iter().take_while(|byte| **byte != b'#').count();
+    typed.saturating_add(1)
 }
 
 /// Without what was found, and without the blanks before it where it is the last of its line.

@@ -166,82 +166,136 @@ pub(crate) const UNNAMED: Advice = Advice {
     line: "PROGRAM hall\nVAR count : UINT; END_VAR",
 };
 
-/// What people write in texts that don't read, the first that fits.
-pub(crate) const HABITS: &[Habit] = &[
-    (Where::Begins, "//", Fix::Comment, COMMENT),
-    (Where::Begins, "{", Fix::Comment, COMMENT),
-    (Where::Before, "array", Fix::Nothing, ARRAY),
-    (Where::Begins, "[", Fix::Nothing, ARRAY),
-    (Where::Begins, "'", Fix::Nothing, QUOTED),
-    (Where::Begins, "\"", Fix::Nothing, QUOTED),
-    (Where::Found, "then", Fix::Nothing, CONTROL),
-    (Where::First, "if", Fix::Nothing, CONTROL),
-    (Where::First, "elsif", Fix::Nothing, CONTROL),
-    (Where::First, "end_if", Fix::Nothing, CONTROL),
-    (Where::First, "case", Fix::Nothing, CONTROL),
-    (Where::First, "end_case", Fix::Nothing, CONTROL),
-    (Where::First, "for", Fix::Nothing, LOOP),
-    (Where::First, "end_for", Fix::Nothing, LOOP),
-    (Where::First, "while", Fix::Nothing, LOOP),
-    (Where::First, "end_while", Fix::Nothing, LOOP),
-    (Where::First, "repeat", Fix::Nothing, LOOP),
-    (Where::First, "end_repeat", Fix::Nothing, LOOP),
-    (Where::First, "until", Fix::Nothing, LOOP),
-    (Where::InBody, ":=", Fix::LoadAndStore, ASSIGNMENT),
-    (Where::InBody, ";", Fix::LeaveOut, SEMICOLON),
-    (Where::InBody, "var ", Fix::Nothing, LATE),
-    (Where::InBody, "var_external", Fix::Nothing, LATE),
-    (Where::InGlobal, "at", Fix::Nothing, ONE_ADDRESS),
-    (Where::InOther, "at", Fix::Nothing, GLOBAL_ADDRESS),
-    (Where::Called, "(", Fix::Bare, CALLED),
-    (Where::Literal, "0x", Fix::Front(2, "16#"), BASED),
-    (Where::Literal, "0b", Fix::Front(2, "2#"), BASED),
-    (Where::Dotted, "t#", Fix::Milliseconds, DOTTED),
-    (Where::Dotted, "time#", Fix::Milliseconds, DOTTED),
-    (Where::Literal, "int#", Fix::Untyped, TYPED),
-    (Where::Literal, "uint#", Fix::Untyped, TYPED),
-    (Where::Literal, "sint#", Fix::Untyped, TYPED),
-    (Where::Literal, "usint#", Fix::Untyped, TYPED),
-    (Where::Literal, "dint#", Fix::Untyped, TYPED),
-    (Where::Literal, "udint#", Fix::Untyped, TYPED),
-    (Where::Whole, "bool#1", Fix::Literal("TRUE"), TRUTH),
-    (Where::Whole, "bool#true", Fix::Literal("TRUE"), TRUTH),
-    (Where::Whole, "bool#0", Fix::Literal("FALSE"), TRUTH),
-    (Where::Whole, "bool#false", Fix::Literal("FALSE"), TRUTH),
-    (Where::Literal, "bool#", Fix::Nothing, TRUTH),
-    (Where::Literal, "real#", Fix::Nothing, FRACTION),
-    (Where::Literal, "lreal#", Fix::Nothing, FRACTION),
-    (Where::Literal, "byte#", Fix::Untyped, TYPED),
-    (Where::Literal, "word#", Fix::Untyped, TYPED),
-    (Where::Unit, "ms", Fix::Front(0, "T#"), UNIT),
-    (Where::Unit, "s", Fix::Front(0, "T#"), UNIT),
-    (Where::Unit, "m", Fix::Front(0, "T#"), UNIT),
-    (Where::Unit, "h", Fix::Front(0, "T#"), UNIT),
-    (Where::Unit, "d", Fix::Front(0, "T#"), UNIT),
-    (Where::Address, "%", Fix::Nothing, NAMED),
-    (Where::Literal, "%", Fix::Nothing, NO_ADDRESS),
-    (Where::Before, "retain", Fix::LeaveOutBefore, RETAINED),
-    (Where::Before, "non_retain", Fix::LeaveOutBefore, RETAINED),
-    (Where::Before, "persistent", Fix::LeaveOutBefore, RETAINED),
-    (Where::Before, "constant", Fix::LeaveOutBefore, CONSTANT),
-    (Where::Found, "function_block", Fix::Nothing, OWN_BLOCK),
-    (Where::Found, "end_function_block", Fix::Nothing, OWN_BLOCK),
-    (Where::Found, "var_output", Fix::Nothing, OTHER_VARIABLES),
-    (Where::Found, "var_in_out", Fix::Nothing, OTHER_VARIABLES),
-    (Where::First, "var_output", Fix::Nothing, OTHER_VARIABLES),
-    (Where::First, "var_in_out", Fix::Nothing, OTHER_VARIABLES),
+/// Comments, arrays and quotes.
+pub(crate) const QUOTES: &[Habit] = &[
+    (Where::Begins, &["//", "{"], Fix::Comment, COMMENT),
+    (Where::Before, &["array"], Fix::Nothing, ARRAY),
+    (Where::Begins, &["["], Fix::Nothing, ARRAY),
+    (Where::Begins, &["'", "\""], Fix::Nothing, QUOTED),
+];
+
+/// Statements of other languages.
+pub(crate) const STATEMENTS: &[Habit] = &[
+    (Where::Found, &["then"], Fix::Nothing, CONTROL),
     (
         Where::First,
-        "var_temp",
+        &["if", "elsif", "end_if", "case", "end_case"],
+        Fix::Nothing,
+        CONTROL,
+    ),
+    (
+        Where::First,
+        &[
+            "for",
+            "end_for",
+            "while",
+            "end_while",
+            "repeat",
+            "end_repeat",
+            "until",
+        ],
+        Fix::Nothing,
+        LOOP,
+    ),
+    (Where::InBody, &[":="], Fix::LoadAndStore, ASSIGNMENT),
+    (Where::InBody, &[";"], Fix::LeaveOut, SEMICOLON),
+];
+
+/// What the language has, where it cannot stand.
+pub(crate) const PLACES: &[Habit] = &[
+    (Where::InBody, &["var ", "var_external"], Fix::Nothing, LATE),
+    (Where::InGlobal, &["at"], Fix::Nothing, ONE_ADDRESS),
+    (Where::InOther, &["at"], Fix::Nothing, GLOBAL_ADDRESS),
+    (Where::Called, &["("], Fix::Bare, CALLED),
+];
+
+/// Numbers and times.
+pub(crate) const NUMBERS: &[Habit] = &[
+    (Where::Literal, &["0x"], Fix::Front(2, "16#"), BASED),
+    (Where::Literal, &["0b"], Fix::Front(2, "2#"), BASED),
+    (Where::Dotted, &["t#", "time#"], Fix::Milliseconds, DOTTED),
+    (
+        Where::Literal,
+        &["int#", "uint#", "sint#", "usint#", "dint#", "udint#"],
+        Fix::Untyped,
+        TYPED,
+    ),
+];
+
+/// Values with a type before them or a unit behind them.
+pub(crate) const TYPED_VALUES: &[Habit] = &[
+    (
+        Where::Whole,
+        &["bool#1", "bool#true"],
+        Fix::Literal("TRUE"),
+        TRUTH,
+    ),
+    (
+        Where::Whole,
+        &["bool#0", "bool#false"],
+        Fix::Literal("FALSE"),
+        TRUTH,
+    ),
+    (Where::Literal, &["bool#"], Fix::Nothing, TRUTH),
+    (Where::Literal, &["real#", "lreal#"], Fix::Nothing, FRACTION),
+    (Where::Literal, &["byte#", "word#"], Fix::Untyped, TYPED),
+    (
+        Where::Unit,
+        &["ms", "s", "m", "h", "d"],
+        Fix::Front(0, "T#"),
+        UNIT,
+    ),
+];
+
+/// Addresses, and words that say more of variables.
+pub(crate) const ADDRESSES: &[Habit] = &[
+    (Where::Address, &["%"], Fix::Nothing, NAMED),
+    (Where::Literal, &["%"], Fix::Nothing, NO_ADDRESS),
+    (
+        Where::Before,
+        &["retain", "non_retain", "persistent"],
+        Fix::LeaveOutBefore,
+        RETAINED,
+    ),
+    (Where::Before, &["constant"], Fix::LeaveOutBefore, CONSTANT),
+];
+
+/// Blocks that are not there.
+pub(crate) const BLOCKS: &[Habit] = &[
+    (
+        Where::Found,
+        &["function_block", "end_function_block"],
+        Fix::Nothing,
+        OWN_BLOCK,
+    ),
+    (
+        Where::Found,
+        &["var_output", "var_in_out"],
+        Fix::Nothing,
+        OTHER_VARIABLES,
+    ),
+    (
+        Where::First,
+        &["var_output", "var_in_out"],
+        Fix::Nothing,
+        OTHER_VARIABLES,
+    ),
+    (
+        Where::First,
+        &["var_temp"],
         Fix::Replace("VAR"),
         OTHER_VARIABLES,
     ),
-    (Where::Before, "struct", Fix::Nothing, STRUCTURE),
-    (Where::Begins, "=", Fix::Nothing, LOGIC_SIGN),
-    (Where::Begins, "<", Fix::Nothing, LOGIC_SIGN),
-    (Where::Begins, ">", Fix::Nothing, LOGIC_SIGN),
-    (Where::Begins, "*", Fix::Nothing, LOGIC_SIGN),
-    (Where::Begins, "/", Fix::Nothing, LOGIC_SIGN),
-    (Where::InBody, "+", Fix::Nothing, LOGIC_SIGN),
-    (Where::InBody, "-", Fix::Nothing, LOGIC_SIGN),
+    (Where::Before, &["struct"], Fix::Nothing, STRUCTURE),
+];
+
+/// Operators that are signs.
+pub(crate) const OPERATORS: &[Habit] = &[
+    (
+        Where::Begins,
+        &["=", "<", ">", "*", "/"],
+        Fix::Nothing,
+        LOGIC_SIGN,
+    ),
+    (Where::InBody, &["+", "-"], Fix::Nothing, LOGIC_SIGN),
 ];

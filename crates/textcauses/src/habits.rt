@@ -1,16 +1,18 @@
 //! What people write who come from other languages, and what to write in its place.
 
-use crate::habit_rows::HABITS;
+use crate::habit_rows::{
+    ADDRESSES, BLOCKS, NUMBERS, OPERATORS, PLACES, QUOTES, STATEMENTS, TYPED_VALUES,
+};
 use crate::proposals::is_bracket;
 use curing::{Advice, Spot, Surroundings};
 use iltokens::{Keyword, Lexed, What, keyword_of, token};
 
-/// Something that people write and the language does not have: where it stands, how it is written
-/// in small letters, how it is changed, and what is said of it.
-pub(crate) type Habit = (Where, &'static str, Fix, Advice);
+/// Something that people write and the language does not have: where it stands, how it may be
+/// written in small letters, how it is changed, and what is said of it.
+pub(crate) type Habit = (Where, &'static [&'static str], Fix, Advice);
 
 /// Where something stands that people write.
-#[derive(Clone, Copy, PartialEq, Eq)]
+#[derive(Clone, Copy)]
 pub(crate) enum Where {
     /// It is what was found.
     Found,
@@ -67,9 +69,30 @@ pub(crate) enum Fix {
     LoadAndStore,
 }
 
-/// What people write that stands at a place, if something does.
+/// What people write that stands at a place, if something does: the first that fits.
 pub(crate) fn habit_at(spot: &Spot, around: &Surroundings) -> Option<&'static Habit> {
-    HABITS.iter().find(|habit| stands(*habit, spot, around))
+    first_of(QUOTES, spot, around)
+        .or(first_of(STATEMENTS, spot, around))
+        .or(first_of(PLACES, spot, around))
+        .or(first_of(NUMBERS, spot, around))
+        .or(first_of(TYPED_VALUES, spot, around))
+        .or(first_of(ADDRESSES, spot, around))
+        .or(first_of(BLOCKS, spot, around))
+        .or(first_of(OPERATORS, spot, around))
+}
+
+/// The first of some that stands at a place.
+fn first_of(
+    habits: &'static [Habit],
+    spot: &Spot,
+    around: &Surroundings,
+) -> Option<&'static Habit> {
+    for habit in habits {
+        if stands(habit, spot, around) {
+            return Some(habit);
+        }
+    }
+    None
 }
 
 /// Whether a program is open that has no name where one is asked for: something else stands on a
@@ -87,7 +110,13 @@ pub(crate) fn is_unnamed(spot: &Spot, around: &Surroundings) -> bool {
 /// Whether something that people write stands at a place.
 fn stands(habit: &Habit, spot: &Spot, around: &Surroundings) -> bool {
     let (at, spelled, ..) = *habit;
-    let spelled = spelled.as_bytes();
+    spelled
+        .iter()
+        .any(|one| is_at(at, one.as_bytes(), spot, around))
+}
+
+/// Whether this is written at a place.
+fn is_at(at: Where, spelled: &[u8], spot: &Spot, around: &Surroundings) -> bool {
     let (from, to) = around.before;
     let literal = spot.part(spot.literal_from(), spot.literal_to());
     match at {

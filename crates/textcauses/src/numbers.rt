@@ -55,15 +55,27 @@ pub(crate) fn answer_number(
     if let Some(place) = number.iter().position(|byte| *byte == b'#') {
         return based(alloc, standing, (from, to), place);
     }
-    if let Some(decimal) = Decimal::of(number) {
-        return Ok(Some(of_decimal(alloc, standing, (from, to), decimal)?));
-    }
+    let answer = match Decimal::of(number) {
+        Some(decimal) => of_decimal(alloc, standing, (from, to), decimal)?,
+        None => of_other(alloc, standing, from, number)?,
+    };
+    Ok(Some(answer))
+}
+
+/// What is said of a number with other characters than digits, which begins at a place: it may be
+/// a time.
+fn of_other(
+    alloc: Global,
+    standing: &Standing,
+    from: usize,
+    number: &[u8],
+) -> Result<FaultAnswer, AllocError> {
     let timed = Edit::new(alloc, from, from, b"T#")?;
     if is_cure(alloc, standing, &timed)? {
-        let answer = FaultAnswer::of(alloc, UNIT)?;
-        return Ok(Some(answer.with_tried(alloc, spot.text, &timed)?));
+        FaultAnswer::of(alloc, UNIT)?.with_tried(alloc, standing.spot.text, &timed)
+    } else {
+        FaultAnswer::of(alloc, *of_letters(number))
     }
-    Ok(Some(FaultAnswer::of(alloc, of_letters(number))?))
 }
 
 /// Whether a range with two dots is meant at one.
@@ -97,15 +109,38 @@ fn of_decimal(
 }
 
 /// What is said of a number with other characters than digits.
-fn of_letters(number: &[u8]) -> Advice {
+fn of_letters(number: &[u8]) -> &'static Advice {
     let has_dot = number.contains(&b'.');
     match number {
-        [.., b'%'] => PERCENT,
-        [.., b's' | b'S' | b'm' | b'M' | b'h' | b'H'] if has_dot => DOTTED,
-        [.., b'h' | b'H'] => BASED,
-        _ if has_dot => FRACTION,
-        _ => LETTERS,
+        [.., b'%'] => &PERCENT,
+        [.., b's' | b'S' | b'm' | b'M' | b'h' | b'H'] if has_dot => &DOTTED,
+        [.., b'h' | b'H'] => &BASED,
+        _ if has_dot => &FRACTION,
+        _ => &LETTERS,
     }
+}
+
+/// A base, with its digits in words and a line with such a number.
+#[derive(Clone, Copy)]
+struct Base {
+    number: u8,
+    digits: &'static str,
+    line: &'static str,
+}
+
+/// The base that stands before `#`, where it is one.
+fn base_of(written: &[u8]) -> Option<Base> {
+    let (number, digits, line) = match written {
+        b"2" => (2, "0 and 1", "LD 2#101"),
+        b"8" => (8, "0 to 7", "LD 8#17"),
+        b"16" => (16, "0 to 9 and A to F", "LD 16#C8"),
+        _ => return None,
+    };
+    Some(Base {
+        number,
+        digits,
+        line,
+    })
 }
 
 /// What is said of a number with `#` at a place: of the first character behind it that is no digit
@@ -119,30 +154,48 @@ fn based(
     let spot = &standing.spot;
     let number = spot.part(from, to);
     let digits = part(number, place.saturating_add(1), number.len());
-    let (base, names, line) = match part(number, 0, place) {
-        b"2" => (2, "0 and 1", "LD 2#101"),
-        b"8" => (8, "0 to 7", "LD 8#17"),
-        b"16" => (16, "0 to 9 and A to F", "LD 16#C8"),
-        _ => return Ok(Some(of_other_base(alloc, standing, (from, to), place)?)),
+    let Some(base) = base_of(part(number, 0, place)) else {
+        return Ok(Some(of_other_base(alloc, standing, (from, to), place)?));
     };
-    let bad = digits.iter().position(|byte| !is_digit(base, *byte));
-    let what = match bad {
-        Some(index) if digits.get(index) == Some(&b'.') => {
-            return Ok(Some(FaultAnswer::of(alloc, FRACTION)?));
-        }
+    match digits.iter().position(|byte| !is_digit(base.number, *byte)) {
+        Some(index) if digits.get(index) == Some(&b'.') => Ok(Some(FaultAnswer::of(
+            alloc, FRACTION,
+        )?)),
         Some(index) => {
-            let digit = shown_text(alloc, part(digits, index, index.saturating_add(1)))?;
-            format!(in alloc; "{digit} is no digit of base {base}")?
+            let what = bad_digit(alloc, base, part(digits, index, index.saturating_add(1)))?;
+            Ok(Some(of_base(alloc, base, what)?))
         }
-        None if digits.is_empty() => format!(in alloc; "no digit stands behind {base}#")?,
-        None => return Ok(None),
-    };
-    Ok(Some(FaultAnswer {
+        None if digits.is_empty() => Ok(Some(of_base(alloc, base, no_digit(alloc, base)?)?)),
+        None => Ok(None),
+    }
+}
+
+/// That a character is no digit of a base.
+fn bad_digit(alloc: Global, base: Base, digit: &[u8]) -> Result<String, AllocError> {
+    let digit = shown_text(alloc, digit)?;
+    let base = base.number;
+    format!(in alloc; "{digit} is no digit of base {base}")
+}
+
+/// That no digit stands behind a base.
+fn no_digit(alloc: Global, base: Base) -> Result<String, AllocError> {
+    let base = base.number;
+    format!(in alloc; "no digit stands behind {base}#")
+}
+
+/// What is said of a number of a base, where this is wrong.
+fn of_base(alloc: Global, base: Base, what: String) -> Result<FaultAnswer, AllocError> {
+    let Base {
+        number,
+        digits,
+        line,
+    } = base;
+    Ok(FaultAnswer {
         what,
         facts: String::new(alloc),
-        cure: format!(in alloc; "behind {base}# stand the digits {names}")?,
+        cure: format!(in alloc; "behind {number}# stand the digits {digits}")?,
         example: Example::Other(String::from_str(alloc, line)?),
-    }))
+    })
 }
 
 /// What is said of a number of a base that is not there; one of base 10 has no base before it.

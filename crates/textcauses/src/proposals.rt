@@ -17,6 +17,34 @@ pub(crate) struct Proposal {
     pub edit: Edit,
 }
 
+impl Proposal {
+    /// A change, with what helps in these words.
+    fn new(
+        alloc: Global,
+        what: String,
+        cure: &str,
+        edit: Edit,
+    ) -> Result<Option<Proposal>, AllocError> {
+        Ok(Some(Proposal {
+            what,
+            cure: String::from_str(alloc, cure)?,
+            edit,
+        }))
+    }
+}
+
+/// What was found, and what is said of it.
+pub(crate) fn with_found(alloc: Global, found: &[u8], what: &str) -> Result<String, AllocError> {
+    let found = shown_text(alloc, found)?;
+    format!(in alloc; "{found} {what}")
+}
+
+/// That something was found where something else is asked for.
+pub(crate) fn in_place_of(alloc: Global, found: &[u8], asked: &str) -> Result<String, AllocError> {
+    let found = shown_text(alloc, found)?;
+    format!(in alloc; "{found} where {asked} is asked for")
+}
+
 /// A kind of change.
 #[derive(Clone, Copy)]
 pub(crate) enum Kind {
@@ -117,13 +145,18 @@ fn end(
     if !possible.has_word(word) || !is_end && keyword_of(spot.token()).is_none() {
         return Ok(None);
     }
-    let title = title_of(alloc, spot, opened)?;
-    let edit = before_line(alloc, spot, word)?;
     Ok(Some(Proposal {
-        what: format!(in alloc; "{word} of {title} is missing")?,
+        what: missing_end(alloc, spot, opened)?,
         cure: format!(in alloc; "write {word} before what follows")?,
-        edit,
+        edit: before_line(alloc, spot, word)?,
     }))
+}
+
+/// That the end of something is missing.
+fn missing_end(alloc: Global, spot: &Spot, opened: OpenConstruct) -> Result<String, AllocError> {
+    let (_, word) = opened.words();
+    let title = title_of(alloc, spot, opened)?;
+    format!(in alloc; "{word} of {title} is missing")
 }
 
 /// How something that is open is called.
@@ -170,18 +203,23 @@ fn close(alloc: Global, standing: &Standing) -> Result<Option<Proposal>, AllocEr
         return Ok(None);
     }
     let line = line_number(spot.text, opened);
+    let edit = closing(alloc, spot, around.open)?;
+    let what = format!(in alloc; "the ( of line {line} is not closed")?;
+    Proposal::new(
+        alloc,
+        what,
+        "close it before this line, with ) on a line of its own",
+        edit,
+    )
+}
+
+/// So many parentheses that close, each on a line of its own before the line.
+fn closing(alloc: Global, spot: &Spot, count: usize) -> Result<Edit, AllocError> {
     let mut with = Vec::new(alloc);
-    for _ in 0..around.open {
+    for _ in 0..count {
         with.extend_from_slice(b")\n")?;
     }
-    Ok(Some(Proposal {
-        what: format!(in alloc; "the ( of line {line} is not closed")?,
-        cure: String::from_str(
-            alloc,
-            "close it before this line, with ) on a line of its own",
-        )?,
-        edit: Edit::new(alloc, spot.line_from, spot.line_from, &with)?,
-    }))
+    Edit::new(alloc, spot.line_from, spot.line_from, &with)
 }
 
 /// Another name in place of a reserved word.
@@ -194,14 +232,25 @@ fn renamed(
     if !is_reserved || !possible.has(Group::Name) {
         return Ok(None);
     }
-    let found = shown_text(alloc, spot.token())?;
+    let edit = renaming(alloc, spot)?;
+    let what = with_found(
+        alloc,
+        spot.token(),
+        "is a word of the language, and no name",
+    )?;
+    Proposal::new(
+        alloc,
+        what,
+        "choose another name, here and wherever it is meant",
+        edit,
+    )
+}
+
+/// What was found with a number behind it.
+fn renaming(alloc: Global, spot: &Spot) -> Result<Edit, AllocError> {
     let mut with = Vec::from_slice(alloc, spot.token())?;
     with.extend_from_slice(b"_1")?;
-    Ok(Some(Proposal {
-        what: format!(in alloc; "{found} is a word of the language, and no name")?,
-        cure: String::from_str(alloc, "choose another name, here and wherever it is meant")?,
-        edit: Edit::new(alloc, spot.at, spot.found_to(), &with)?,
-    }))
+    Edit::new(alloc, spot.at, spot.found_to(), &with)
 }
 
 /// A reserved word in place of one that is near to it.
@@ -215,9 +264,8 @@ fn near(
     let Some(word) = near_word(found) else {
         return Ok(None);
     };
-    let found = shown_text(alloc, found)?;
     Ok(Some(Proposal {
-        what: format!(in alloc; "{found} is no word of the language")?,
+        what: with_found(alloc, found, "is no word of the language")?,
         cure: format!(in alloc; "the word that is near to it is {word}")?,
         edit: Edit::new(alloc, from, to, word.as_bytes())?,
     }))
@@ -230,16 +278,21 @@ fn timed(alloc: Global, spot: &Spot, possible: &Possible) -> Result<Option<Propo
     if !is_number || !is_time || spot.token().is_empty() {
         return Ok(None);
     }
+    let edit = timing(alloc, spot)?;
+    let what = String::from_str(alloc, "a number where a time is asked for")?;
+    Proposal::new(
+        alloc,
+        what,
+        "write T# before it, and its unit behind it: d, h, m, s or ms",
+        edit,
+    )
+}
+
+/// So many milliseconds in place of the number that was found.
+fn timing(alloc: Global, spot: &Spot) -> Result<Edit, AllocError> {
     let number = shown_text(alloc, spot.token())?;
     let with = format!(in alloc; "T#{number}ms")?;
-    Ok(Some(Proposal {
-        what: String::from_str(alloc, "a number where a time is asked for")?,
-        cure: String::from_str(
-            alloc,
-            "write T# before it, and its unit behind it: d, h, m, s or ms",
-        )?,
-        edit: Edit::new(alloc, spot.at, spot.found_to(), with.as_bytes())?,
-    }))
+    Edit::new(alloc, spot.at, spot.found_to(), with.as_bytes())
 }
 
 /// The one word that could stand there in place of another one.
@@ -247,9 +300,8 @@ fn only(alloc: Global, spot: &Spot, possible: &Possible) -> Result<Option<Propos
     let (Some(word), Some(_)) = (possible.only_word(), keyword_of(spot.token())) else {
         return Ok(None);
     };
-    let found = shown_text(alloc, spot.token())?;
     Ok(Some(Proposal {
-        what: format!(in alloc; "{found} where {word} is asked for")?,
+        what: in_place_of(alloc, spot.token(), word)?,
         cure: format!(in alloc; "write {word}")?,
         edit: Edit::new(alloc, spot.at, spot.found_to(), word.as_bytes())?,
     }))
@@ -268,6 +320,14 @@ fn with_sign(
     if !possible.has_word(sign) {
         return Ok(None);
     }
+    let name = sign_name(sign);
+    let edit = sign_edit(alloc, standing, sign)?;
+    let what = format!(in alloc; "{name} is missing")?;
+    Proposal::new(alloc, what, "write it before what was found", edit)
+}
+
+/// This sign behind what stands before the place.
+fn sign_edit(alloc: Global, standing: &Standing, sign: &str) -> Result<Edit, AllocError> {
     let spot = &standing.spot;
     let (_, from) = standing.around.before;
     let mut with = Vec::new(alloc);
@@ -285,12 +345,7 @@ fn with_sign(
     } else {
         with.extend_from_slice(spot.part(from, spot.at))?;
     }
-    let name = sign_name(sign);
-    Ok(Some(Proposal {
-        what: format!(in alloc; "{name} is missing")?,
-        cure: String::from_str(alloc, "write it before what was found")?,
-        edit: Edit::new(alloc, from, to, &with)?,
-    }))
+    Edit::new(alloc, from, to, &with)
 }
 
 /// How long the line is up to the last byte before the place that is no blank.
@@ -318,11 +373,9 @@ fn broken(
         return Ok(None);
     }
     let from = spot.line_from.saturating_add(front_len(spot));
-    Ok(Some(Proposal {
-        what: String::from_str(alloc, "two instructions on one line")?,
-        cure: String::from_str(alloc, "write each on a line of its own")?,
-        edit: Edit::new(alloc, from, spot.at, b"\n")?,
-    }))
+    let edit = Edit::new(alloc, from, spot.at, b"\n")?;
+    let what = String::from_str(alloc, "two instructions on one line")?;
+    Proposal::new(alloc, what, "write each on a line of its own", edit)
 }
 
 /// The line without what was found.
@@ -335,12 +388,9 @@ fn without(
     if spot.token().is_empty() || is_needed || is_inside(spot) {
         return Ok(None);
     }
-    let found = shown_text(alloc, spot.token())?;
-    Ok(Some(Proposal {
-        what: format!(in alloc; "{found} is too much here")?,
-        cure: String::from_str(alloc, "leave it out, or end the line before it")?,
-        edit: left_out(alloc, spot)?,
-    }))
+    let edit = left_out(alloc, spot)?;
+    let what = with_found(alloc, spot.token(), "is too much here")?;
+    Proposal::new(alloc, what, "leave it out, or end the line before it", edit)
 }
 
 /// Whether what was found is part of something longer: characters of a word, or of a number, stand
@@ -409,10 +459,9 @@ fn instead(
     if !possible.has_word(sign) || spot.token().is_empty() {
         return Ok(None);
     }
-    let found = shown_text(alloc, spot.token())?;
     let name = sign_name(sign);
     Ok(Some(Proposal {
-        what: format!(in alloc; "{found} where {name} is asked for")?,
+        what: in_place_of(alloc, spot.token(), name)?,
         cure: format!(in alloc; "write {name} in its place")?,
         edit: Edit::new(alloc, spot.at, spot.found_to(), sign.as_bytes())?,
     }))

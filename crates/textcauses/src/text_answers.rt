@@ -3,12 +3,12 @@
 use crate::equals::answer_equals;
 use crate::fixes::{edit_of, left_out};
 use crate::habit_rows::UNNAMED;
-use crate::habits::{habit_at, is_unnamed};
+use crate::habits::{Fix, habit_at, is_unnamed};
 use crate::numbers::answer_number;
 use crate::proposals::is_inside;
 use crate::text_causes::{BYTE_ORDER_MARK, advice_of, number_advice};
 use crate::unexpected::{Standing, answer_unexpected, is_cure};
-use curing::{AskedText, Edit, EditOutcome, Example, FaultAnswer, Spot, Surroundings, shown_text};
+use curing::{Advice, AskedText, Edit, EditOutcome, FaultAnswer, Spot, Surroundings, shown_text};
 use iltext::TextCause;
 use std::alloc::{AllocError, Global};
 
@@ -31,9 +31,9 @@ pub fn answer_text(
             None => habitual(alloc, &standing, cause),
         },
         TextCause::NotAscii => not_ascii(alloc, &standing),
-        TextCause::BadNumber => FaultAnswer::of(alloc, number_advice(standing.spot.token())),
+        TextCause::BadNumber => FaultAnswer::of(alloc, *number_advice(standing.spot.token())),
         TextCause::CommentOpen => comment(alloc, &standing),
-        TextCause::TooDeep | TextCause::TooLong => FaultAnswer::of(alloc, advice_of(cause)),
+        TextCause::TooDeep | TextCause::TooLong => FaultAnswer::of(alloc, *advice_of(cause)),
     }
 }
 
@@ -46,16 +46,34 @@ fn habitual(
     if is_unnamed(&standing.spot, &standing.around) {
         return FaultAnswer::of(alloc, UNNAMED);
     }
-    let Some(habit) = habit_at(&standing.spot, &standing.around) else {
-        if let Some(answer) = answer_number(alloc, standing)? {
-            return Ok(answer);
-        }
-        return match cause {
-            TextCause::BadToken => bad_token(alloc, standing),
-            _ => answer_unexpected(alloc, standing),
-        };
-    };
-    let (_, _, fix, advice) = *habit;
+    match habit_at(&standing.spot, &standing.around) {
+        Some((_, _, fix, advice)) => of_habit(alloc, standing, *fix, *advice),
+        None => of_other(alloc, standing, cause),
+    }
+}
+
+/// What is said of a number, or of another thing that cannot stand there.
+fn of_other(
+    alloc: Global,
+    standing: &Standing,
+    cause: TextCause,
+) -> Result<FaultAnswer, AllocError> {
+    if let Some(answer) = answer_number(alloc, standing)? {
+        return Ok(answer);
+    }
+    match cause {
+        TextCause::BadToken => bad_token(alloc, standing),
+        _ => answer_unexpected(alloc, standing),
+    }
+}
+
+/// What advice says of what people write, with the change that is meant, where it helps.
+fn of_habit(
+    alloc: Global,
+    standing: &Standing,
+    fix: Fix,
+    advice: Advice,
+) -> Result<FaultAnswer, AllocError> {
     let answer = FaultAnswer::of(alloc, advice)?;
     match edit_of(alloc, fix, &standing.spot, &standing.around)? {
         Some(edit) if is_cure(alloc, standing, &edit)? => {
@@ -67,18 +85,18 @@ fn habitual(
 
 /// What is said of a character that begins nothing.
 fn bad_token(alloc: Global, standing: &Standing) -> Result<FaultAnswer, AllocError> {
-    let advice = advice_of(TextCause::BadToken);
-    let found = shown_text(alloc, standing.spot.token())?;
-    let answer = FaultAnswer {
-        what: format!(in alloc; "the sign {found} begins nothing")?,
-        facts: String::new(alloc),
-        cure: String::from_str(alloc, advice.cure)?,
-        example: Example::Other(String::from_str(alloc, advice.line)?),
-    };
+    let mut answer = FaultAnswer::of(alloc, *advice_of(TextCause::BadToken))?;
+    answer.what = begins_nothing(alloc, standing.spot.token())?;
     if is_inside(&standing.spot) || has_digit_beside(&standing.spot) {
         return Ok(answer);
     }
     with_edit(alloc, standing, answer, &left_out(alloc, &standing.spot)?)
+}
+
+/// That a sign begins nothing.
+fn begins_nothing(alloc: Global, sign: &[u8]) -> Result<String, AllocError> {
+    let found = shown_text(alloc, sign)?;
+    format!(in alloc; "the sign {found} begins nothing")
 }
 
 /// Whether a digit stands right before what was found, or right behind it.
@@ -94,7 +112,7 @@ fn not_ascii(alloc: Global, standing: &Standing) -> Result<FaultAnswer, AllocErr
         let answer = FaultAnswer::of(alloc, BYTE_ORDER_MARK)?;
         return with_edit(alloc, standing, answer, &Edit::new(alloc, 0, 3, b"")?);
     }
-    FaultAnswer::of(alloc, advice_of(TextCause::NotAscii))
+    FaultAnswer::of(alloc, *advice_of(TextCause::NotAscii))
 }
 
 /// An answer with a change, where that is a cure.
@@ -113,7 +131,7 @@ fn with_edit(
 
 /// What is said of a comment without end: it could end with its line.
 fn comment(alloc: Global, standing: &Standing) -> Result<FaultAnswer, AllocError> {
-    let answer = FaultAnswer::of(alloc, advice_of(TextCause::CommentOpen))?;
+    let answer = FaultAnswer::of(alloc, *advice_of(TextCause::CommentOpen))?;
     let to = standing.spot.line_to;
     let edit = Edit::new(alloc, to, to, b" *)")?;
     match edit.outcome(alloc, standing.asked)? {

@@ -38,54 +38,75 @@ const BIG_NUMBER: Advice = Advice {
     line: "LD 9223372036854775807",
 };
 
+/// What is said of a byte that is not ASCII.
+const NOT_ASCII: Advice = Advice {
+    what: "a character that is not ASCII",
+    cure: "write names without accents; in comments any character may stand",
+    line: "PROGRAM cafe",
+};
+
+/// What is said of a sign that begins nothing.
+const BAD_TOKEN: Advice = Advice {
+    what: "a sign that begins nothing",
+    cure: "leave it out: words, numbers, times, addresses and , : ; := . .. ( ) &\n\
+        are all",
+    line: "LD a",
+};
+
+/// What is said of what cannot stand where it does.
+const UNEXPECTED: Advice = Advice {
+    what: "something that cannot stand there",
+    cure: "an instruction stands on a line of its own, with its operand behind it",
+    line: "LD lamp",
+};
+
+/// What is said of a parenthesis too many.
+const TOO_DEEP: Advice = Advice {
+    what: "a parenthesis too many: at most 32 are open at once",
+    cure: "store what is computed so far in a variable, and go on with that",
+    line: "ST part",
+};
+
+/// What is said of a word that stands only outside parentheses.
+const NOT_NESTED: Advice = Advice {
+    what: "a word that stands only outside parentheses",
+    cure: "close the parenthesis before it, on a line of its own",
+    line: ")",
+};
+
+/// What is said of a comment without end.
+const COMMENT_OPEN: Advice = Advice {
+    what: "a comment without end",
+    cure: "end it; (*) opens a comment too, and does not close it",
+    line: "(* the stairs *)",
+};
+
+/// What is said of a text that is too long.
+const TOO_LONG: Advice = Advice {
+    what: "a text of over 1,048,576 bytes",
+    cure: "leave out comments, or divide the house among two controllers",
+    line: "PROGRAM stairs",
+};
+
 /// What is said of a number, a time or an address that is too big.
-pub(crate) fn number_advice(found: &[u8]) -> Advice {
+pub(crate) fn number_advice(found: &[u8]) -> &'static Advice {
     match found {
-        [b'T' | b't', ..] => LONG_TIME,
-        [b'%', ..] => BIG_ADDRESS,
-        _ => BIG_NUMBER,
+        [b'T' | b't', ..] => &LONG_TIME,
+        [b'%', ..] => &BIG_ADDRESS,
+        _ => &BIG_NUMBER,
     }
 }
 
 /// What is said of a cause.
-pub(crate) fn advice_of(cause: TextCause) -> Advice {
+pub(crate) fn advice_of(cause: TextCause) -> &'static Advice {
     match cause {
-        TextCause::NotAscii => Advice {
-            what: "a character that is not ASCII",
-            cure: "write names without accents; in comments any character may stand",
-            line: "PROGRAM cafe",
-        },
-        TextCause::BadToken => Advice {
-            what: "a sign that begins nothing",
-            cure: "leave it out: words, numbers, times, addresses and , : ; := . .. ( ) &\n\
-                are all",
-            line: "LD a",
-        },
-        TextCause::Unexpected => Advice {
-            what: "something that cannot stand there",
-            cure: "an instruction stands on a line of its own, with its operand behind it",
-            line: "LD lamp",
-        },
-        TextCause::BadNumber => BIG_NUMBER,
-        TextCause::TooDeep => Advice {
-            what: "a parenthesis too many: at most 32 are open at once",
-            cure: "store what is computed so far in a variable, and go on with that",
-            line: "ST part",
-        },
-        TextCause::NotNested => Advice {
-            what: "a word that stands only outside parentheses",
-            cure: "close the parenthesis before it, on a line of its own",
-            line: ")",
-        },
-        TextCause::CommentOpen => Advice {
-            what: "a comment without end",
-            cure: "end it; (*) opens a comment too, and does not close it",
-            line: "(* the stairs *)",
-        },
-        TextCause::TooLong => Advice {
-            what: "a text of over 1,048,576 bytes",
-            cure: "leave out comments, or divide the house among two controllers",
-            line: "PROGRAM stairs",
-        },
+        TextCause::NotAscii => &NOT_ASCII,
+        TextCause::BadToken => &BAD_TOKEN,
+        TextCause::Unexpected => &UNEXPECTED,
+        TextCause::BadNumber => &BIG_NUMBER,
+        TextCause::TooDeep => &TOO_DEEP,
+        TextCause::NotNested => &NOT_NESTED,
+        TextCause::CommentOpen => &COMMENT_OPEN,
+        TextCause::TooLong => &TOO_LONG,
     }
 }

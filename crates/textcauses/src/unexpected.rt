@@ -1,10 +1,9 @@
 //! What is said where something cannot stand: what could, and a change of the line that is tried.
 
 use crate::examples::example_of;
-use crate::proposals::{PROPOSALS, Proposal, propose};
+use crate::proposals::{PROPOSALS, Proposal, in_place_of, propose, with_found};
 use curing::{
     AskedText, Edit, EditOutcome, Example, FaultAnswer, Possible, Spot, Surroundings, list_words,
-    shown_text,
 };
 use std::alloc::{AllocError, Global};
 
@@ -27,18 +26,30 @@ pub(crate) fn answer_unexpected(
         return plain(alloc, standing);
     };
     let facts = facts_of(alloc, standing, &possible)?;
-    for kind in PROPOSALS {
-        if let Some(proposal) = propose(alloc, *kind, standing, &possible)? {
-            if is_cure_up_to(alloc, standing, &proposal.edit, kind.is_bold())? {
-                return Ok(tried(alloc, standing, proposal)?.with_facts(facts));
-            }
-        }
+    if let Some(proposal) = helpful(alloc, standing, &possible)? {
+        return Ok(tried(alloc, standing, proposal)?.with_facts(facts));
     }
     let mut answer = plain(alloc, standing)?.with_facts(facts);
     if let Some(what) = asked_for(alloc, standing, &possible)? {
         answer.what = what;
     }
     Ok(answer)
+}
+
+/// The first change that helps.
+fn helpful(
+    alloc: Global,
+    standing: &Standing,
+    possible: &Possible,
+) -> Result<Option<Proposal>, AllocError> {
+    for kind in PROPOSALS {
+        if let Some(proposal) = propose(alloc, *kind, standing, possible)? {
+            if is_cure_up_to(alloc, standing, &proposal.edit, kind.is_bold())? {
+                return Ok(Some(proposal));
+            }
+        }
+    }
+    Ok(None)
 }
 
 /// What is wrong, where one thing alone could stand there.
@@ -54,8 +65,7 @@ fn asked_for(
     if standing.spot.token().is_empty() {
         return Ok(None);
     }
-    let found = shown_text(alloc, standing.spot.token())?;
-    Ok(Some(format!(in alloc; "{found} where {only} is asked for")?))
+    Ok(Some(in_place_of(alloc, standing.spot.token(), only)?))
 }
 
 /// What could stand at the place, as a line.
@@ -109,20 +119,19 @@ fn tried(
 
 /// What is said where no change helps.
 fn plain(alloc: Global, standing: &Standing) -> Result<FaultAnswer, AllocError> {
-    let found = standing.spot.token();
-    let what = if standing.spot.at >= standing.spot.text.len() {
-        String::from_str(alloc, "the text ends too early")?
-    } else if found.is_empty() {
-        String::from_str(alloc, "the line ends too early")?
-    } else {
-        let found = shown_text(alloc, found)?;
-        format!(in alloc; "{found} cannot stand here")?
-    };
     let advice = example_of(&standing.spot, &standing.around);
-    Ok(FaultAnswer {
-        what,
-        facts: String::new(alloc),
-        cure: String::from_str(alloc, advice.cure)?,
-        example: Example::Other(String::from_str(alloc, advice.line)?),
-    })
+    let mut answer = FaultAnswer::of(alloc, *advice)?;
+    answer.what = cannot_stand(alloc, &standing.spot)?;
+    Ok(answer)
+}
+
+/// That what was found cannot stand there.
+fn cannot_stand(alloc: Global, spot: &Spot) -> Result<String, AllocError> {
+    if spot.at >= spot.text.len() {
+        String::from_str(alloc, "the text ends too early")
+    } else if spot.token().is_empty() {
+        String::from_str(alloc, "the line ends too early")
+    } else {
+        with_found(alloc, spot.token(), "cannot stand here")
+    }
 }
