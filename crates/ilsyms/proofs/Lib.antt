@@ -42,6 +42,7 @@ pub mod Standing
 pub mod TaskCases
 pub mod TaskInstances
 pub mod TaskNames
+pub mod TaskPartLists
 pub mod TaskSets
 pub mod TextBodies
 pub mod UsesAlike

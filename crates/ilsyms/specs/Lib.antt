@@ -7,6 +7,7 @@ pub mod Placed
 pub mod PlanningSteps
 pub mod Resolved
 pub mod SlotSteps
+pub mod TaskPartSteps
 pub mod TaskSetSteps
 pub mod TaskSteps
 pub mod Tasks

@@ -12,18 +12,17 @@ ghost use Rattle.ilscope.specs.Declarations.{declared_functions, declared_progra
 ghost use Rattle.ilsyms.specs.Faults.{AreTooDeep, IsTooMany, IsTooManyIn};
 ghost use Rattle.ilsyms.specs.Faults.{IsTooManyOfFunctions};
 ghost use Rattle.ilsyms.specs.Faults.{instance_names, place_of_slot};
-ghost use Rattle.ilsyms.specs.FunctionSteps.{IsPast, are_used, marked, needs_of};
-ghost use Rattle.ilsyms.specs.TaskSteps.{AreInstancesOfTasks, AreThere, instances_of};
+ghost use Rattle.ilsyms.specs.FunctionSteps.{IsPast, marked, needs_of};
+ghost use Rattle.ilsyms.specs.TaskPartSteps.{AreParts, ArePartsOfTasks};
+ghost use Rattle.ilsyms.specs.TaskSteps.{instances_of};
 ghost use Rattle.ilsyms.specs.WordSteps.{places_at, places_of_program};
 ghost use Rattle.ilsyms.specs.Tasks.{tasks_of};
 
-use crate::blocks::blocks_of;
-use crate::counting::Counted;
-use crate::needs::{Needs, calls_of_programs, needs_of_functions};
+use crate::needs::Needs;
 use crate::past::{Past, slot_past_functions, word_past_functions};
-use crate::slots::slots_of;
-use crate::tasks::{TaskInstance, TaskInstances};
-use crate::usage::{depths, used_functions};
+use crate::task_parts::TaskParts;
+use crate::tasks::TaskInstance;
+use crate::usage::depths;
 use crate::words::{WordPlaces, word_past, words_of_programs};
 use ilplan::{FunctionBlock, Slot, SlotOwner};
 use ilscope::{
@@ -35,20 +34,23 @@ use limits::{
 };
 use std::alloc::{AllocError, Global};
 
-/// The least fault of what exceeds a limit.
+/// The least fault of what exceeds a limit. `needs` are those of each function, and `tasks` the
+/// parts of each task.
 pub(crate) fn too_many(
     alloc: Global,
     scope: &Scope<'_>,
-    tasks: &[TaskInstances],
+    needs: &[Needs],
+    tasks: &[TaskParts<'_>],
 ) -> Result<Option<Found>, AllocError>
-    requires { AreInstancesOfTasks scope.now.tree tasks.now }
+    requires needs { needs.now
+        ≡ map (needs_of scope.now.tree) (declared_functions scope.now.tree) }
+    requires tasks { ArePartsOfTasks scope.now.tree tasks.now }
     ensures { IfOk result (λ found.
         IsLeastOf (OfCause TooMany (IsTooMany scope.now.tree)) found) }
 {
-    let needs = needs_of_functions(alloc, scope)?;
     let declared = lesser_of(exceeding(task_past(scope)), exceeding(instance_past(scope)));
-    let within = too_many_in_tasks(alloc, scope, &needs, tasks)?;
-    let functions = too_many_functions(alloc, scope, &needs)?;
+    let within = too_many_in_tasks(alloc, scope, needs, tasks)?;
+    let functions = too_many_functions(alloc, scope, needs)?;
     Ok(lesser_of(declared, lesser_of(within, functions)))
 }
 
@@ -57,56 +59,46 @@ fn too_many_in_tasks(
     alloc: Global,
     scope: &Scope<'_>,
     needs: &[Needs],
-    tasks: &[TaskInstances],
+    tasks: &[TaskParts<'_>],
 ) -> Result<Option<Found>, AllocError>
-    requires tasks { AreInstancesOfTasks scope.now.tree tasks.now }
     requires needs { needs.now
         ≡ map (needs_of scope.now.tree) (declared_functions scope.now.tree) }
+    requires tasks { ArePartsOfTasks scope.now.tree tasks.now }
     ensures { IfOk result (λ found. IsLeastOf (OfCause TooMany (λ place. SomeOf
         (λ t. IsTooManyIn scope.now.tree place t.instances) (tasks_of scope.now.tree))) found) }
 {
     let words = words_of_programs(alloc, scope)?;
-    let calls = calls_of_programs(alloc, scope)?;
     let mut least = None;
-    for instances in tasks {
-        let used = used_functions(alloc, scope, &calls, needs, instances.as_slice())?;
-        let fault = too_many_in(alloc, scope, &words, needs, instances.as_slice(), &used)?;
-        least = lesser_of(least, fault);
+    for task in tasks {
+        least = lesser_of(least, too_many_in(scope, &words, needs, task));
     }
     Ok(least)
 }
 
-/// The least such fault in a task with these instances, which uses these functions. `words` are
-/// those of each program, and `needs` those of each function.
+/// The least such fault in a task with these parts. `words` are those of each program, and `needs`
+/// those of each function.
 fn too_many_in(
-    alloc: Global,
     scope: &Scope<'_>,
     words: &[WordPlaces],
     needs: &[Needs],
-    instances: &[TaskInstance],
-    used: &[bool],
-) -> Result<Option<Found>, AllocError>
-    requires there { AreThere scope.now.tree instances.now }
+    task: &TaskParts<'_>,
+) -> Option<Found>
     requires words { words.now ≡ map places_of_program (declared_programs scope.now.tree) }
     requires needs { needs.now
         ≡ map (needs_of scope.now.tree) (declared_functions scope.now.tree) }
-    requires used { used.now
-        ≡ are_used scope.now.tree (instances_of scope.now.tree instances.now) }
-    ensures { IfOk result (λ found. IsLeastOf (OfCause TooMany (λ place.
-        IsTooManyIn scope.now.tree place (instances_of scope.now.tree instances.now))) found) }
+    requires task { AreParts scope.now.tree task.now }
+    ensures { IsLeastOf (OfCause TooMany (λ place. IsTooManyIn scope.now.tree place
+        (instances_of scope.now.tree task.now.instances.now))) result }
 {
-    let slots = slots_of(alloc, scope, instances)?;
-    let blocks = blocks_of(alloc, scope, instances)?;
-    let counted = Counted::of(alloc, scope, instances, used, needs)?;
     let declared = lesser_of(
-        exceeding(slot_past(scope, &slots, used, needs)),
-        exceeding(block_past(&blocks)),
+        exceeding(slot_past(scope, &task.slots, &task.used, needs)),
+        exceeding(block_past(&task.blocks)),
     );
     let written = lesser_of(
-        exceeding(all_words_past(words, instances, used, needs)),
-        exceeding(counted.excess),
+        exceeding(all_words_past(words, task.instances, &task.used, needs)),
+        exceeding(task.counted.excess),
     );
-    Ok(lesser_of(declared, written))
+    lesser_of(declared, written)
 }
 
 /// The place of the instruction with the word that exceeds the greatest number.

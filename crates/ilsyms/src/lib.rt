@@ -29,6 +29,7 @@ mod planning;
 mod plans;
 mod resolving;
 mod slots;
+mod task_parts;
 mod task_sets;
 mod tasks;
 mod usage;

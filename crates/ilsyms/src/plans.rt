@@ -6,24 +6,16 @@ ghost use Rattle.std.specs.Prelude.{◌<◌, length, string_bytes};
 ghost use Rattle.std.specs.List.{AllByRecursion};
 ghost use Rattle.ilplan.specs.Plans.{KeepsLimits};
 ghost use Rattle.ilsyms.specs.Faults.{IsWellNamed};
-ghost use Rattle.ilsyms.specs.TaskSteps.{AreInstancesOfTask, AreInstancesOfTasks, AreThere};
-ghost use Rattle.ilsyms.specs.TaskSteps.{instances_of, task_with};
-ghost use Rattle.ilscope.specs.Declarations.{declared_functions, declared_programs};
-ghost use Rattle.ilsyms.specs.FunctionSteps.{calls_of_program, needs_of};
-ghost use Rattle.ilsyms.specs.Resolved.{constants_of, plan_of_tree, planned_functions};
-ghost use Rattle.ilsyms.specs.Resolved.{planned_task};
+ghost use Rattle.ilsyms.specs.TaskPartSteps.{AreParts, ArePartsOfTasks};
+ghost use Rattle.ilsyms.specs.TaskSteps.{AreInstancesOfTask, instances_of, task_with};
+ghost use Rattle.ilsyms.specs.Resolved.{plan_of_tree, planned_functions, planned_task};
 ghost use Rattle.ilsyms.specs.Tasks.{activation_of, priority_of, tasks_of};
 
-use crate::blocks::blocks_of;
-use crate::counting::Counted;
 use crate::functions::plan_functions;
 use crate::globals::plan_globals;
-use crate::needs::{Needs, ProgramCalls, calls_of_programs, needs_of_functions};
 use crate::planning::plan_instances;
-use crate::slots::slots_of;
-use crate::tasks::{TaskInstance, TaskInstances};
-use crate::usage::used_functions;
-use ilplan::{Activation, Constants, DeclaredName, Plan, Task};
+use crate::task_parts::TaskParts;
+use ilplan::{Activation, DeclaredName, Plan, Task};
 use ilscope::Scope;
 use ilsource::{Configuration, TaskDeclaration};
 use iluses::trigger_number;
@@ -36,22 +28,21 @@ const INTERVAL: u32 = 100;
 /// The priority of the task `main` (profile).
 const PRIORITY: u16 = 0;
 
-/// The plan of a source program that has no fault with the binding. `tasks` are the instances of
-/// each task.
+/// The plan of a source program that has no fault with the binding. `tasks` are the parts of each
+/// task.
 pub(crate) fn plan_of(
     alloc: Global,
     scope: &Scope<'_>,
     binding: &Binding,
-    tasks: &[TaskInstances],
+    tasks: Vec<TaskParts<'_>>,
 ) -> Result<Plan, AllocError>
     requires named { IsWellNamed scope.now.tree scope.now.wiring }
     requires wiring { binding.now ≡ scope.now.wiring }
-    requires tasks { AreInstancesOfTasks scope.now.tree tasks.now }
+    requires tasks { ArePartsOfTasks scope.now.tree tasks.items }
     ensures { IfOk result (λ plan. plan ≡ plan_of_tree scope.now.tree scope.now.wiring) }
 {
     let buses = binding.buses();
-    let needs = needs_of_functions(alloc, scope)?;
-    let tasks = plan_tasks(alloc, scope, &needs, tasks)?;
+    let tasks = plan_tasks(alloc, scope, tasks)?;
     let functions = plan_functions(alloc, scope)?;
     let globals = plan_globals(alloc, scope)?;
     let text = Vec::from_slice(alloc, scope.source().text())?;
@@ -60,75 +51,44 @@ pub(crate) fn plan_of(
     Ok(Plan::new(text, buses, sources, tries, globals, functions, tasks))
 }
 
-/// The tasks. `needs` are those of each function.
+/// The tasks, which have these parts.
 fn plan_tasks(
     alloc: Global,
     scope: &Scope<'_>,
-    needs: &[Needs],
-    tasks: &[TaskInstances],
+    tasks: Vec<TaskParts<'_>>,
 ) -> Result<Vec<Task>, AllocError>
     requires named { IsWellNamed scope.now.tree scope.now.wiring }
-    requires needs { needs.now
-        ≡ map (needs_of scope.now.tree) (declared_functions scope.now.tree) }
-    requires tasks { AreInstancesOfTasks scope.now.tree tasks.now }
+    requires tasks { ArePartsOfTasks scope.now.tree tasks.items }
     ensures tasks { IfOk result (λ v.
         v.items ≡ map (planned_task scope.now.tree) (tasks_of scope.now.tree)) }
     ensures limits { IfOk result (λ v.
         AllByRecursion (KeepsLimits (planned_functions scope.now.tree)) v.items) }
 {
-    let calls = calls_of_programs(alloc, scope)?;
     let mut planned = Vec::new(alloc);
-    for (number, instances) in tasks.iter().enumerate() {
-        let instances = instances.as_slice();
-        let constants = constants_of(alloc, scope, &calls, needs, instances)?;
-        planned.push(plan_task(alloc, scope, number, instances, constants)?)?;
+    for parts in tasks {
+        let number = planned.len();
+        planned.push(plan_task(alloc, scope, number, parts)?)?;
     }
     Ok(planned)
 }
 
-/// The constants of a task with these instances, and of the functions that it uses. `calls` are
-/// those of each program, and `needs` those of each function.
-fn constants_of(
-    alloc: Global,
-    scope: &Scope<'_>,
-    calls: &[ProgramCalls],
-    needs: &[Needs],
-    instances: &[TaskInstance],
-) -> Result<Constants, AllocError>
-    requires there { AreThere scope.now.tree instances.now }
-    requires calls { calls.now
-        ≡ map (calls_of_program scope.now.tree) (declared_programs scope.now.tree) }
-    requires needs { needs.now
-        ≡ map (needs_of scope.now.tree) (declared_functions scope.now.tree) }
-    ensures { IfOk result (λ constants. constants
-        ≡ constants_of scope.now.tree (instances_of scope.now.tree instances.now)) }
-{
-    let used = used_functions(alloc, scope, calls, needs, instances)?;
-    let counted = Counted::of(alloc, scope, instances, &used, needs)?;
-    Ok(counted.constants)
-}
-
-/// The task of this number, which has these instances and constants.
+/// The task of this number, which has these parts.
 fn plan_task(
     alloc: Global,
     scope: &Scope<'_>,
     number: usize,
-    instances: &[TaskInstance],
-    constants: Constants,
+    parts: TaskParts<'_>,
 ) -> Result<Task, AllocError>
     requires named { IsWellNamed scope.now.tree scope.now.wiring }
-    requires task { AreInstancesOfTask scope.now.tree number instances.now }
-    requires constants { constants
-        ≡ constants_of scope.now.tree (instances_of scope.now.tree instances.now) }
+    requires task { AreInstancesOfTask scope.now.tree number parts.instances.now }
+    requires parts { AreParts scope.now.tree parts }
     ensures task { IfOk result (λ task. option_map (planned_task scope.now.tree)
         (slice_get (tasks_of scope.now.tree) number) ≡ Some task) }
     ensures limits { IfOk result (KeepsLimits (planned_functions scope.now.tree)) }
 {
     match scope.source().configuration() {
-        Some(configuration) => {
-            plan_declared(alloc, scope, configuration, number, instances, constants)
-        }
-        None => plan_main(alloc, scope, number, instances, constants),
+        Some(configuration) => plan_declared(alloc, scope, configuration, number, parts),
+        None => plan_main(alloc, scope, number, parts),
     }
 }
 
@@ -138,14 +98,12 @@ fn plan_declared(
     scope: &Scope<'_>,
     configuration: &Configuration,
     number: usize,
-    instances: &[TaskInstance],
-    constants: Constants,
+    parts: TaskParts<'_>,
 ) -> Result<Task, AllocError>
     requires named { IsWellNamed scope.now.tree scope.now.wiring }
     requires configuration { scope.now.tree.configuration ≡ Some configuration.now }
-    requires task { AreInstancesOfTask scope.now.tree number instances.now }
-    requires constants { constants
-        ≡ constants_of scope.now.tree (instances_of scope.now.tree instances.now) }
+    requires task { AreInstancesOfTask scope.now.tree number parts.instances.now }
+    requires parts { AreParts scope.now.tree parts }
     ensures task { IfOk result (λ task. option_map (planned_task scope.now.tree)
         (slice_get (tasks_of scope.now.tree) number) ≡ Some task) }
     ensures limits { IfOk result (KeepsLimits (planned_functions scope.now.tree)) }
@@ -157,9 +115,7 @@ fn plan_declared(
     let name = name.to_string(alloc)?;
     let activation = activation_of(scope, declared);
     let priority = priority_of(declared);
-    task_with(
-        alloc, scope, name, activation, priority, instances, constants,
-    )
+    task_with(alloc, scope, name, activation, priority, parts)
 }
 
 /// The declaration of the task of this number, below the number of tasks.
@@ -198,51 +154,49 @@ fn plan_main(
     alloc: Global,
     scope: &Scope<'_>,
     number: usize,
-    instances: &[TaskInstance],
-    constants: Constants,
+    parts: TaskParts<'_>,
 ) -> Result<Task, AllocError>
     requires named { IsWellNamed scope.now.tree scope.now.wiring }
     requires configuration { scope.now.tree.configuration ≡ None }
-    requires task { AreInstancesOfTask scope.now.tree number instances.now }
-    requires constants { constants
-        ≡ constants_of scope.now.tree (instances_of scope.now.tree instances.now) }
+    requires task { AreInstancesOfTask scope.now.tree number parts.instances.now }
+    requires parts { AreParts scope.now.tree parts }
     ensures task { IfOk result (λ task. option_map (planned_task scope.now.tree)
         (slice_get (tasks_of scope.now.tree) number) ≡ Some task) }
     ensures limits { IfOk result (KeepsLimits (planned_functions scope.now.tree)) }
 {
     let name = String::from_str(alloc, "main")?;
     let activation = Activation::Cyclic { interval: INTERVAL };
-    task_with(
-        alloc, scope, name, activation, PRIORITY, instances, constants,
-    )
+    task_with(alloc, scope, name, activation, PRIORITY, parts)
 }
 
-/// The task of this name with these instances and constants, which is one of the text's.
+/// The task of this name with these parts, which is one of the text's.
 fn task_with(
     alloc: Global,
     scope: &Scope<'_>,
     name: String,
     activation: Activation,
     priority: u16,
-    instances: &[TaskInstance],
-    constants: Constants,
+    parts: TaskParts<'_>,
 ) -> Result<Task, AllocError>
     requires named { IsWellNamed scope.now.tree scope.now.wiring }
-    requires there { AreThere scope.now.tree instances.now }
-    requires constants { constants
-        ≡ constants_of scope.now.tree (instances_of scope.now.tree instances.now) }
+    requires parts { AreParts scope.now.tree parts }
     requires task { (number : ℕ) × (slice_get (tasks_of scope.now.tree) number
         ≡ Some (task_with (string_bytes name) activation priority
-        (instances_of scope.now.tree instances.now))) }
+        (instances_of scope.now.tree parts.instances.now))) }
     ensures task { IfOk result (λ task. task ≡ planned_task scope.now.tree
         (task_with (string_bytes name) activation priority
-        (instances_of scope.now.tree instances.now))) }
+        (instances_of scope.now.tree parts.entry.instances.now))) }
     ensures limits { IfOk result (KeepsLimits (planned_functions scope.now.tree)) }
 {
-    let slots = slots_of(alloc, scope, instances)?;
-    let blocks = blocks_of(alloc, scope, instances)?;
-    let planned = plan_instances(alloc, scope, instances, &slots, &blocks)?;
+    let planned = plan_instances(alloc, scope, parts.instances, &parts.slots, &parts.blocks)?;
     Task::new(
-        alloc, name, activation, priority, slots, blocks, constants, planned,
+        alloc,
+        name,
+        activation,
+        priority,
+        parts.slots,
+        parts.blocks,
+        parts.counted.constants,
+        planned,
     )
 }

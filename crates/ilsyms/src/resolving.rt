@@ -11,7 +11,9 @@ ghost use Rattle.ilsyms.specs.Resolved.{plan_of_tree, planned_functions, planned
 ghost use Rattle.ilsyms.specs.Tasks.{SourceTask};
 
 use crate::faults::least_of;
+use crate::needs::needs_of_functions;
 use crate::plans::plan_of;
+use crate::task_parts::parts_of_tasks;
 use crate::tasks::instances_of_tasks;
 use ilplan::Plan;
 use ilscope::{NameFault, Scope, report_of};
@@ -61,9 +63,11 @@ fn plan_in_scope(alloc: Global, scope: &Scope<'_>, binding: &Binding) -> Result<
     ensures fault { IfErr result (λ fault. IsMemoryOrReportsLeast scope.now.tree.text
         (IsFault scope.now.tree scope.now.wiring) fault) }
 {
-    let tasks = instances_of_tasks(alloc, scope)?;
-    if let Some(found) = least_of(alloc, scope, &tasks)? {
+    let instances = instances_of_tasks(alloc, scope)?;
+    let needs = needs_of_functions(alloc, scope)?;
+    let tasks = parts_of_tasks(alloc, scope, &needs, &instances)?;
+    if let Some(found) = least_of(alloc, scope, &instances, &needs, &tasks)? {
         return Err(report_of(scope.source().text(), found));
     }
-    Ok(plan_of(alloc, scope, binding, &tasks)?)
+    Ok(plan_of(alloc, scope, binding, tasks)?)
 }

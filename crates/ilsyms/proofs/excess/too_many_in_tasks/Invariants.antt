@@ -5,10 +5,10 @@ use Rattle.ilsyms.specs.Faults.{IsTooManyIn}
 use Rattle.ilsyms.specs.Tasks.{tasks_of}
 use Rattle.ilsyms.proofs.excess.too_many_in_tasks.Given as goal
 
-abbrev pub invariant-loop-instances : goal.invariant-loop-instances
-invariant-loop-instances l =
+abbrev pub invariant-loop-task : goal.invariant-loop-task
+invariant-loop-task l =
     IsLeastOf
     (λ place cause.
     SomeOf (λ t. OfCause TooMany (λ at. IsTooManyIn l.fn.scope.tree at t.instances) place cause)
-    (take l.instances-index (tasks_of l.fn.scope.tree)))
+    (take l.task-index (tasks_of l.fn.scope.tree)))
     l.least

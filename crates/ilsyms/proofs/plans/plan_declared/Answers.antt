@@ -8,12 +8,12 @@ use Rattle.ilscope.proofs.Sound.{not_below}
 use Rattle.ilsyms.specs.TaskSteps.{instances_of, task_with}
 use Rattle.ilsyms.specs.Tasks.{declared_task, tasks_of}
 use Rattle.ilsyms.proofs.PlanLimits.{not_bad}
-use Rattle.ilsyms.proofs.PlanTasks.{they_are, they_are_there, task_declared, task_below, planned_at, if_ok}
+use Rattle.ilsyms.proofs.PlanTasks.{they_are, task_declared, task_below, planned_at, if_ok}
 use Rattle.ilsyms.proofs.plans.plan_declared.Goals as goal
 
 pub task_declared-declared-requires : goal.task_declared-declared-requires
 task_declared-declared-requires c =
-    task_below c.args.scope.now.tree c.args.number c.args.instances.now c.requires.task c.args.configuration.now
+    task_below c.args.scope.now.tree c.args.number c.args.parts.instances.now c.requires.task c.args.configuration.now
     c.requires.configuration
 
 pub priority_of-priority-requires : goal.priority_of-priority-requires
@@ -26,30 +26,17 @@ priority_of-priority-requires c =
       last = not_below (pos 65535) c.task_declared-declared.result.priority (λ bad. good (inr (inr bad)));
     }
 
-pub task_with-requires-clause-there : goal.task_with-requires-clause-there
-task_with-requires-clause-there c =
-    let tree = c.args.scope.now.tree in
-    let configuration = c.args.configuration.now in
-    let declared = c.task_declared-declared.result in
-    let at =
-    task_declared tree c.args.number c.args.instances.now c.requires.task configuration c.requires.configuration
-    ∙ ap (option_map (λ (d : TaskDeclaration). declared_task tree configuration (c.args.number, d)))
-    c.task_declared-declared.ensures
-    in
-    they_are_there tree c.args.number c.args.instances.now c.requires.task
-    (declared_task tree configuration (c.args.number, declared)) at
-
 pub task_with-requires-clause-task : goal.task_with-requires-clause-task
 task_with-requires-clause-task c =
     let tree = c.args.scope.now.tree in
     let configuration = c.args.configuration.now in
     let declared = c.task_declared-declared.result in
     let at =
-    task_declared tree c.args.number c.args.instances.now c.requires.task configuration c.requires.configuration
+    task_declared tree c.args.number c.args.parts.instances.now c.requires.task configuration c.requires.configuration
     ∙ ap (option_map (λ (d : TaskDeclaration). declared_task tree configuration (c.args.number, d)))
     c.task_declared-declared.ensures
     in
-    let are = they_are tree c.args.number c.args.instances.now c.requires.task
+    let are = they_are tree c.args.number c.args.parts.instances.now c.requires.task
     (declared_task tree configuration (c.args.number, declared)) at
     in
     let name : string_bytes c.in_ok-name.name ≡ printed_name (text_of tree.text declared.name) =
@@ -71,11 +58,11 @@ returns c =
     let configuration = c.args.configuration.now in
     let declared = c.task_declared-declared.result in
     let at =
-    task_declared tree c.args.number c.args.instances.now c.requires.task configuration c.requires.configuration
+    task_declared tree c.args.number c.args.parts.instances.now c.requires.task configuration c.requires.configuration
     ∙ ap (option_map (λ (d : TaskDeclaration). declared_task tree configuration (c.args.number, d)))
     c.task_declared-declared.ensures
     in
-    let are = they_are tree c.args.number c.args.instances.now c.requires.task
+    let are = they_are tree c.args.number c.args.parts.instances.now c.requires.task
     (declared_task tree configuration (c.args.number, declared)) at
     in
     let name : string_bytes c.in_ok-name.name ≡ printed_name (text_of tree.text declared.name) =
@@ -86,7 +73,7 @@ returns c =
     (c.text.ensures.value ∙ ap (λ (t : Tree). t.text) c.source.ensures.value))
     in
     let t = task_with (string_bytes c.in_ok-name.name) c.activation_of-activation.result c.priority_of-priority.result
-    (instances_of tree c.args.instances.now)
+    (instances_of tree c.args.parts.instances.now)
     in
     let here : slice_get (tasks_of tree) c.args.number ≡ Some t =
     at ∙ (λ i. Some (task_with (sym name i) (sym c.activation_of-activation.ensures i)

@@ -35,4 +35,4 @@ new-requires c =
     (lawful tree c.args.scope.now.wiring short limits c.requires.named keep functions)
 
 pub returns : goal.returns
-returns c = c.new.ensures ∙ parts c.before.before
+returns c = c.new.ensures ∙ parts c.before
