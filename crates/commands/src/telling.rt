@@ -7,13 +7,13 @@ use commandline::{Files, Question};
 use exits::{ExitStatus, PlayStop};
 use explaining::{AskedText, explain_binding, explain_load, explain_scenario};
 use ilcompile::Setup;
-use iltext::parse;
+use ilsource::Source;
 use listing::{Played, write_load, write_notes, write_played_notes, write_task};
-use plantload::load;
+use plantload::{LoadFault, source_and_plan};
 use std::alloc::Global;
 use std::io;
 use std::io::{BufWriter, Write};
-use wordlines::{Binding, Scenario};
+use wordlines::Binding;
 
 /// What the files hold that a question is about.
 #[derive(Drop)]
@@ -76,8 +76,8 @@ fn report<W: Write>(
 ) -> io::Result<ExitStatus> {
     match question {
         Question::Faults { scenario } => explain(alloc, out, files, scenario, sheets),
-        Question::Notes => match setup_of(alloc, sheets) {
-            Ok(setup) => tell_notes(alloc, out, &setup, &sheets.text),
+        Question::Notes => match noted_of(alloc, sheets) {
+            Ok((setup, source)) => tell_notes(alloc, out, &setup, &source),
             Err(stop) => tell_stop(out, &stop),
         },
         Question::Words { task } => match setup_of(alloc, sheets) {
@@ -97,6 +97,32 @@ fn setup_of(alloc: Global, sheets: &Sheets) -> Result<Setup, Stop> {
     check(alloc, &binding, &sheets.text)
 }
 
+/// The setup of the text under the binding and the source program, of both of which notes speak.
+///
+/// # Errors
+///
+/// The binding's fault, else what stands against the text.
+fn noted_of(alloc: Global, sheets: &Sheets) -> Result<(Setup, Source), Stop> {
+    let binding = binding_of(alloc, sheets.binding.as_deref())?;
+    Ok(load_with_source(alloc, &sheets.text, &binding)?)
+}
+
+/// The setup of a text and its source program: the text is read once for both. The source program
+/// takes memory while codes are verified, so who asks for no notes takes [`check`].
+///
+/// # Errors
+///
+/// What stands against the text, or that the allocator is out of memory.
+fn load_with_source(
+    alloc: Global,
+    text: &[u8],
+    binding: &Binding,
+) -> Result<(Setup, Source), LoadFault> {
+    let (source, plan) = source_and_plan(alloc, text, binding)?;
+    let setup = plantload::setup_of(alloc, plan)?;
+    Ok((setup, source))
+}
+
 /// Writes what stands against the text, as `check` does.
 fn tell_stop<W: Write>(out: &mut W, stop: &Stop) -> io::Result<ExitStatus> {
     writeln!(out, "{stop}")?;
@@ -108,15 +134,10 @@ fn tell_notes<W: Write>(
     alloc: Global,
     out: &mut W,
     setup: &Setup,
-    text: &[u8],
+    source: &Source,
 ) -> io::Result<ExitStatus> {
-    match parse(alloc, text) {
-        Ok(source) => {
-            write_notes(alloc, out, setup, &source)?;
-            Ok(ExitStatus::Accepted)
-        }
-        Err(_) => Err(io::Error::from(io::ErrorKind::OutOfMemory)),
-    }
+    write_notes(alloc, out, setup, source)?;
+    Ok(ExitStatus::Accepted)
 }
 
 /// Writes the words of a task, or of all and what they ask of the buses.
@@ -202,10 +223,10 @@ fn explain_text<W: Write>(
     scenario: Option<&str>,
     sheets: &Sheets,
 ) -> io::Result<ExitStatus> {
-    match load(alloc, asked.text, asked.binding) {
-        Ok(setup) => match (&sheets.scenario, scenario) {
-            (Some(bytes), Some(path)) => explain_played(alloc, out, sheets, &setup, path, bytes),
-            _ => explain_nothing(alloc, out, sheets, &setup),
+    match load_with_source(alloc, asked.text, asked.binding) {
+        Ok((setup, source)) => match (&sheets.scenario, scenario) {
+            (Some(bytes), Some(path)) => explain_played(alloc, out, &setup, &source, path, bytes),
+            _ => explain_nothing(alloc, out, &setup, &source),
         },
         Err(fault) => {
             explain_load(alloc, out, asked, &fault)?;
@@ -218,13 +239,19 @@ fn explain_text<W: Write>(
 fn explain_played<W: Write>(
     alloc: Global,
     out: &mut W,
-    sheets: &Sheets,
     setup: &Setup,
+    source: &Source,
     path: &str,
     bytes: &[u8],
 ) -> io::Result<ExitStatus> {
     match simbus::parse(alloc, bytes) {
-        Ok(scenario) => explain_playable(alloc, out, sheets, setup, bytes, &scenario),
+        Ok(scenario) => {
+            let played = Played {
+                bytes,
+                scenario: &scenario,
+            };
+            explain_playable(alloc, out, setup, source, played)
+        }
         Err(fault) => {
             explain_scenario(alloc, out, path, bytes, &fault)?;
             let stop = PlayStop::from(fault);
@@ -237,28 +264,22 @@ fn explain_played<W: Write>(
 fn explain_nothing<W: Write>(
     alloc: Global,
     out: &mut W,
-    sheets: &Sheets,
     setup: &Setup,
+    source: &Source,
 ) -> io::Result<ExitStatus> {
     writeln!(out, "nothing stands against it")?;
-    tell_notes(alloc, out, setup, &sheets.text)
+    tell_notes(alloc, out, setup, source)
 }
 
 /// Says that nothing stands against the files, and writes the notes, also those on the scenario.
 fn explain_playable<W: Write>(
     alloc: Global,
     out: &mut W,
-    sheets: &Sheets,
     setup: &Setup,
-    bytes: &[u8],
-    scenario: &Scenario,
+    source: &Source,
+    played: Played,
 ) -> io::Result<ExitStatus> {
     writeln!(out, "nothing stands against it")?;
-    match parse(alloc, &sheets.text) {
-        Ok(source) => {
-            write_played_notes(alloc, out, setup, &source, Played { bytes, scenario })?;
-            Ok(ExitStatus::Accepted)
-        }
-        Err(_) => Err(io::Error::from(io::ErrorKind::OutOfMemory)),
-    }
+    write_played_notes(alloc, out, setup, source, played)?;
+    Ok(ExitStatus::Accepted)
 }

@@ -2,10 +2,10 @@
 
 ghost use Rattle.std.specs.Prelude.{◌<◌, length};
 
+use crate::facts::TaskFacts;
 use crate::names::{At, LineStarts, shown};
 use crate::stars::count_at;
-use crate::uses::{Use, naming_tasks, uses_of};
-use ilcompile::Setup;
+use crate::uses::{Use, naming_tasks};
 use ilplan::{Activation, Location, Plan, SlotOwner};
 use iltypes::{IlType, Range};
 use std::alloc::Global;
@@ -14,13 +14,14 @@ use std::io::Write;
 
 /// Writes a note for each trigger that a task reads though another event starts it, or the clock.
 pub(crate) fn write_trigger_notes<W: Write>(
-    alloc: Global,
     out: &mut W,
-    setup: &Setup,
+    plan: &Plan,
+    facts: &[TaskFacts],
 ) -> io::Result<()> {
-    for task in 0..setup.plan().tasks() {
-        let uses = uses_of(alloc, setup.code(task).code())?;
-        write_triggers_of(out, setup.plan(), task, &uses)?;
+    for (task, of_task) in facts.iter().enumerate() {
+        if task < plan.tasks() {
+            write_triggers_of(out, plan, task, &of_task.uses)?;
+        }
     }
     Ok(())
 }

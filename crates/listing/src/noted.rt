@@ -2,12 +2,12 @@
 
 ghost use Rattle.std.specs.Prelude.{◌<◌, length};
 
+use crate::facts::TaskFacts;
 use crate::globals::write_use;
 use crate::names::{LineStarts, shown};
 use crate::stars::is_marked;
 use crate::task_names::name_in;
-use crate::uses::{Use, uses_of};
-use ilcompile::Setup;
+use crate::uses::Use;
 use ilplan::{Place, Plan, SlotOwner, UserFunction};
 use ilsource::{Line, Name, Operand, Purpose};
 use iltypes::Value;
@@ -59,18 +59,20 @@ impl Noted {
 pub(crate) fn write_own_notes<W: Write>(
     alloc: Global,
     out: &mut W,
-    setup: &Setup,
+    plan: &Plan,
     lines: &LineStarts,
+    facts: &[TaskFacts],
     used: &[bool],
 ) -> io::Result<()> {
     let mut noted = IndexMap::new(alloc);
-    note_functions(alloc, &mut noted, setup.plan(), used)?;
-    for task in 0..setup.plan().tasks() {
-        let uses = uses_of(alloc, setup.code(task).code())?;
-        note_task(&mut noted, setup.plan(), task, &uses)?;
+    note_functions(alloc, &mut noted, plan, used)?;
+    for (task, of_task) in facts.iter().enumerate() {
+        if task < plan.tasks() {
+            note_task(&mut noted, plan, task, &of_task.uses)?;
+        }
     }
     for (_, variable) in &noted {
-        write_note(out, setup.plan().text(), lines, variable)?;
+        write_note(out, plan.text(), lines, variable)?;
     }
     Ok(())
 }

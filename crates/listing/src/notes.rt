@@ -65,8 +65,8 @@ fn write_all_notes<W: Write>(
 ) -> io::Result<()> {
     let mut notes = Vec::new(alloc);
     let lines = LineStarts::of(alloc, source.text())?;
-    write_usage_notes(alloc, &mut notes, setup, source, &lines)?;
     let facts = facts_of(alloc, setup)?;
+    write_usage_notes(alloc, &mut notes, setup, source, &lines, &facts)?;
     write_house_notes(alloc, &mut notes, setup, &lines, &facts)?;
     if let Some(played) = played {
         write_scenario_notes(alloc, &mut notes, setup.plan(), &facts, played)?;
@@ -84,17 +84,19 @@ fn write_usage_notes<W: Write>(
     setup: &Setup,
     source: &Source,
     lines: &LineStarts,
+    facts: &[TaskFacts],
 ) -> io::Result<()> {
-    let used = functions_of_tasks(alloc, setup.plan())?;
-    let uses = global_uses(alloc, setup)?;
-    write_trigger_notes(alloc, out, setup)?;
-    write_global_notes(alloc, out, setup.plan(), lines, &uses)?;
-    write_own_notes(alloc, out, setup, lines, &used)?;
-    write_function_notes(out, setup.plan(), lines, &used)?;
+    let plan = setup.plan();
+    let used = functions_of_tasks(alloc, plan)?;
+    let uses = global_uses(alloc, plan, facts)?;
+    write_trigger_notes(out, plan, facts)?;
+    write_global_notes(alloc, out, plan, lines, &uses)?;
+    write_own_notes(alloc, out, plan, lines, facts, &used)?;
+    write_function_notes(out, plan, lines, &used)?;
     write_program_notes(out, source, lines)?;
-    write_idle_notes(out, setup.plan(), source)?;
+    write_idle_notes(out, plan, source)?;
     write_unreached(alloc, out, setup)?;
-    write_source_notes(alloc, out, setup.plan())
+    write_source_notes(alloc, out, plan)
 }
 
 /// Writes the notes on what goes wrong in a house.

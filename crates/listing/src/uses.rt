@@ -2,9 +2,9 @@
 
 ghost use Rattle.std.specs.Prelude.{◌<◌, length};
 
+use crate::facts::TaskFacts;
 use crate::stars::{add_at, all_unused};
 use ilcode::{Code, Target, Word, WordOperand};
-use ilcompile::Setup;
 use ilplan::{Plan, SlotOwner};
 use std::alloc::{AllocError, Global};
 
@@ -103,15 +103,19 @@ fn add_slot(uses: &mut Vec<Use>, place: usize, other: Use) {
 }
 
 /// How each global variable is used by all tasks.
-pub(crate) fn global_uses(alloc: Global, setup: &Setup) -> Result<Vec<Use>, AllocError> {
-    let plan = setup.plan();
+pub(crate) fn global_uses(
+    alloc: Global,
+    plan: &Plan,
+    facts: &[TaskFacts],
+) -> Result<Vec<Use>, AllocError> {
     let mut all = Vec::new(alloc);
     for _ in 0..plan.globals() {
         all.push(UNUSED)?;
     }
-    for task in 0..plan.tasks() {
-        let uses = uses_of(alloc, setup.code(task).code())?;
-        add_globals(&mut all, plan, task, &uses);
+    for (task, of_task) in facts.iter().enumerate() {
+        if task < plan.tasks() {
+            add_globals(&mut all, plan, task, &of_task.uses);
+        }
     }
     Ok(all)
 }

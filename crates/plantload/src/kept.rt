@@ -10,12 +10,11 @@ ghost use Rattle.plantload.specs.KeptLoading.{IsKeptPlan, IsKeptPlanFault, IsKep
 ghost use Rattle.plantload.specs.declared.fault.LoadFault.{LoadFault};
 
 use crate::fault::LoadFault;
-use crate::loading::setup_of;
+use crate::loading::{setup_of, source_and_plan};
 use ilcompile::Setup;
 use ilplan::Plan;
 use ilsource::Source;
 use ilsyms::resolve;
-use iltext::parse;
 use keeping::{Kept, LeftOut, with_kept};
 use std::alloc::Global;
 use wordlines::Binding;
@@ -81,7 +80,6 @@ fn source_of(alloc: Global, text: &[u8], binding: &Binding) -> Result<Source, Lo
     ensures named { IfOk result (λ source. IsWellNamed source binding.now) }
     ensures fault { IfErr result (IsLoadFaultOrMemory (IsPlanFault binding.now text.now)) }
 {
-    let source = parse(alloc, text)?;
-    let _ = resolve(alloc, &source, binding)?;
+    let (source, _plan) = source_and_plan(alloc, text, binding)?;
     Ok(source)
 }

@@ -3,7 +3,7 @@
 //!
 //! What crosses the boundary: [`load`], which answers an `ilcompile::Setup` or a [`LoadFault`]; and
 //! its two steps, [`plan_of`] and [`setup_of`], for a caller that has a question to the plan between
-//! them.
+//! them; [`source_and_plan`] for one that asks the source program too.
 //! What a text's setup is, and which fault stands against it, is `IsLoaded` (specs/Loading.antt),
 //! the definition to read first: a text has at most one such answer.
 //!
@@ -29,4 +29,4 @@ pub use kept::{load_kept, plan_of_kept};
 pub use laws::{
     kept_runs_are_as_meant, kept_scans_are_as_meant, runs_are_as_meant, scans_are_as_meant,
 };
-pub use loading::{load, plan_of, setup_of};
+pub use loading::{load, plan_of, setup_of, source_and_plan};

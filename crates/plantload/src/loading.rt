@@ -4,9 +4,11 @@ ghost use Rattle.std.specs.Prelude.{◌≡◌, ℕ, ◌<◌, length, Result, IfE
 ghost use Rattle.std.specs.Arc.{arc_value};
 ghost use Rattle.ilblocks.specs.Stores.{Store};
 ghost use Rattle.ilsource.specs.SourceTrees.{Tree};
+ghost use Rattle.iltext.specs.Parsing.{IsText};
 ghost use Rattle.ilplan.specs.PlanMeaning.{plan_scan};
+ghost use Rattle.ilsyms.specs.Faults.{IsWellNamed};
 ghost use Rattle.ilsyms.specs.Meaning.{source_scan};
-ghost use Rattle.ilsyms.specs.Resolved.{planned_functions, planned_task};
+ghost use Rattle.ilsyms.specs.Resolved.{plan_of_tree, planned_functions, planned_task};
 ghost use Rattle.ilsyms.specs.Tasks.{SourceTask};
 ghost use Rattle.ilcode.specs.Paths.{IsBound};
 ghost use Rattle.ilverify.specs.Certificates.{IsError};
@@ -19,6 +21,7 @@ ghost use Rattle.plantload.specs.declared.fault.LoadFault.{LoadFault};
 use crate::fault::{LoadFault, RefusedTask};
 use ilcompile::{Setup, compile};
 use ilplan::Plan;
+use ilsource::Source;
 use ilsyms::resolve;
 use iltext::parse;
 use ilverify::{Verified, VerifyError, verify};
@@ -59,9 +62,29 @@ pub fn plan_of(alloc: Global, text: &[u8], binding: &Binding) -> Result<Plan, Lo
     ensures plan { IfOk result (IsPlanOfText binding.now text.now) }
     ensures fault { IfErr result (IsLoadFaultOrMemory (IsPlanFault binding.now text.now)) }
 {
+    let (_source, plan) = source_and_plan(alloc, text, binding)?;
+    Ok(plan)
+}
+
+/// The source program of a text and its plan, or the text's first fault, else the least fault of
+/// its names.
+///
+/// # Errors
+///
+/// That fault, or that the allocator is out of memory.
+pub fn source_and_plan(
+    alloc: Global,
+    text: &[u8],
+    binding: &Binding,
+) -> Result<(Source, Plan), LoadFault>
+    ensures spelled { IfOk result (λ read. IsText text.now read.0) }
+    ensures named { IfOk result (λ read. IsWellNamed read.0 binding.now) }
+    ensures resolved { IfOk result (λ read. read.1 ≡ plan_of_tree read.0 binding.now) }
+    ensures fault { IfErr result (IsLoadFaultOrMemory (IsPlanFault binding.now text.now)) }
+{
     let source = parse(alloc, text)?;
     let plan = resolve(alloc, &source, binding)?;
-    Ok(plan)
+    Ok((source, plan))
 }
 
 /// A plan with the verified code of each of its tasks, or the first task whose code is refused.
