@@ -1,6 +1,5 @@
 //! Transactions on a bus of another kind than the simulated one, in a box, and the moments of a
-//! clock in a box. What is sent is printed nowhere with its priority, so it is
-//! compared here.
+//! clock in a box. What is sent is printed nowhere with its priority, so it is compared here.
 ghost use Rattle.std.specs.Prelude.{◌≡◌, ◌+◌, ◌≤◌, [], None};
 ghost use Rattle.arrayvec.specs.ArrayVec.{array_vec_len};
 
