@@ -33,6 +33,13 @@ const NO_EXTERNAL: Advice = Advice {
     line: "VAR_EXTERNAL lamp : USINT (0..254); END_VAR",
 };
 
+const NO_GLOBAL: Advice = Advice {
+    what: "a variable that no VAR_GLOBAL has",
+    cure: "declare it in VAR_GLOBAL of the configuration, with the same type, or\n\
+        correct the name",
+    line: "VAR_GLOBAL lamp AT %QB0.5 : USINT (0..254); END_VAR",
+};
+
 const NO_VARIABLE: Advice = Advice {
     what: "a block instance where a variable is asked for",
     cure: "name one of its ports, behind a dot",
@@ -101,8 +108,13 @@ fn undeclared_at(source: &Source, spot: &Spot) -> Option<Undeclared> {
     if around.is_in_configuration() && around.block.is_none() {
         return Some(Undeclared::Misspelled(&IN_CONFIGURATION));
     }
-    if around.block.is_some() && is_type(spot, &around) {
-        return Some(Undeclared::Misspelled(&NO_TYPE));
+    if let Some(block) = around.block {
+        if is_type(spot, &around) {
+            return Some(Undeclared::Misspelled(&NO_TYPE));
+        }
+        if block.word == Keyword::VarExternal {
+            return Some(Undeclared::Misspelled(&NO_GLOBAL));
+        }
     }
     let declarations = declarations_at(source, spot.at);
     match port_of(declarations, spot, &around) {
