@@ -17,9 +17,11 @@ pub plan_task-requires-clause-task : goal.plan_task-requires-clause-task
 plan_task-requires-clause-task c =
     let tree = c.args.scope.now.tree in
     let t = YieldsList-turn
-    (YieldsList-from_vec c.args.tasks.items c.into_iter-parts-iterator.ensures.into_iter_gives.0
+    (YieldsList-from_vec {s = c.into_iter-parts-iterator.result} c.args.tasks.items
+    c.into_iter-parts-iterator.ensures.into_iter_gives.0
     (c.into_iter-parts-iterator.ensures.into_iter_gives.1 ∙ c.args.tasks.ok.0))
-    c.loop-parts.yielded _ c.loop-parts.yielded_by _ _ c.in-Some.parts c.in-Some.is c.next.ensures.steps in
+    c.loop-parts.yielded c.loop-parts.parts-iterator c.loop-parts.yielded_by c.next.result c.next.new.self c.in-Some.parts
+    c.in-Some.is c.next.ensures.steps in
     subst (λ number. AreInstancesOfTask tree number c.in-Some.parts.instances.now)
     (sym (c.len-number.ensures ∙ c.loop-parts.planned.ok.0 ∙ c.loop-parts.invariant.many))
     (instances_at tree c.args.tasks.items c.requires.tasks (length c.loop-parts.yielded) c.in-Some.parts t.0 t.1)
@@ -27,9 +29,11 @@ plan_task-requires-clause-task c =
 pub plan_task-requires-clause-parts : goal.plan_task-requires-clause-parts
 plan_task-requires-clause-parts c =
     let t = YieldsList-turn
-    (YieldsList-from_vec c.args.tasks.items c.into_iter-parts-iterator.ensures.into_iter_gives.0
+    (YieldsList-from_vec {s = c.into_iter-parts-iterator.result} c.args.tasks.items
+    c.into_iter-parts-iterator.ensures.into_iter_gives.0
     (c.into_iter-parts-iterator.ensures.into_iter_gives.1 ∙ c.args.tasks.ok.0))
-    c.loop-parts.yielded _ c.loop-parts.yielded_by _ _ c.in-Some.parts c.in-Some.is c.next.ensures.steps in
+    c.loop-parts.yielded c.loop-parts.parts-iterator c.loop-parts.yielded_by c.next.result c.next.new.self c.in-Some.parts
+    c.in-Some.is c.next.ensures.steps in
     parts_at c.args.scope.now.tree c.args.tasks.items c.requires.tasks (length c.loop-parts.yielded) c.in-Some.parts
     t.0 t.1
 
@@ -63,9 +67,10 @@ returns c =
     let tree = c.args.scope.now.tree in
     let many = as_many_parts tree c.args.tasks.items c.requires.tasks in
     let t = YieldsList-end
-    (YieldsList-from_vec c.args.tasks.items c.into_iter-parts-iterator.ensures.into_iter_gives.0
+    (YieldsList-from_vec {s = c.into_iter-parts-iterator.result} c.args.tasks.items
+    c.into_iter-parts-iterator.ensures.into_iter_gives.0
     (c.into_iter-parts-iterator.ensures.into_iter_gives.1 ∙ c.args.tasks.ok.0))
-    c.loop-parts.yielded _ c.loop-parts.yielded_by _ _ c.in-None.is c.next.ensures.steps in
+    c.loop-parts.yielded c.loop-parts.parts-iterator c.loop-parts.yielded_by c.next.result c.next.new.self c.in-None.is c.next.ensures.steps in
     record {
       tasks =
           c.loop-parts.invariant.tasks
