@@ -1,13 +1,13 @@
-//! A building: its lines are opened, and the plant of a text runs over them for as long as it is to.
+//! A building: its lines are opened, and the plant of a text runs over them for as long as it is
+//! to.
 //!
-//! What crosses the boundary: the setup of a text, the words of `--line` and a [`Site`] go in, which
-//! opens the lines and makes the clock. [`open`] judges the words, opens and greets each line in the
-//! order of the buses, and hands out a [`Building`]; nothing was sent then. A [`Departure`] shows
-//! what is about to run. [`Building::go`] runs it and hands out what is left. [`HostSite`] is the
-//! machine's devices and its clock, and a [`DownWatch`] ends that clock where a
-//! bus goes down. The
-//! definitions to read first are `AreLinesOf` (specs/Lineups.antt), which words name the line of each
-//! bus, and `HasBeenRun` (specs/Buildings.antt), what a building comes to.
+//! What crosses the boundary: the setup of a text, the words of `--line` and a [`Site`] go in,
+//! which opens the lines and makes the clock. [`open`] judges the words, opens and greets each line
+//! in the order of the buses, and hands out a [`Building`]; nothing was sent then. A [`Departure`]
+//! shows what is about to run. [`Building::go`] runs it and hands out what is left. [`HostSite`] is
+//! the machine's devices and its clock, and a [`DownWatch`] ends that clock where a bus goes down.
+//! The definitions to read first are `AreLinesOf` (specs/Lineups.antt), which words name the line
+//! of each bus, and `HasBeenRun` (specs/Buildings.antt), what a building comes to.
 //!
 //! ```text
 //! let building = open(alloc, &site, setup, &lines, &options)?;

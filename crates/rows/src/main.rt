@@ -1,12 +1,13 @@
 //! The program `rows`: runs worked rows of the command line, each in memory.
 //!
-//! What crosses the boundary: files of rows and pages of the documents, whose names are the words of
-//! the command line, and one line: how many rows hold and how many wrong ones don't, or the first one
-//! that is otherwise. README.md has their formats; `workedrows` reads a row and compares, `running`
-//! runs its command lines by `commands::run`, whose threads are those of the program's own runtime,
-//! `pages` has the commands of a page, `simulated` and `disk` are where the lines of a row's buildings
-//! are and what is written beside them goes, and `wrong` has the rows that must not hold. Nothing is proved of the rows themselves, and a row more costs no
-//! proof: `rows texts.rows` is a call.
+//! What crosses the boundary: files of rows and pages of the documents, whose names are the words
+//! of the command line, and one line: how many rows hold and how many wrong ones don't, or the
+//! first one that is otherwise. README.md has their formats; `workedrows` reads a row and compares,
+//! `running` runs its command lines by `commands::run`, whose threads are those of the program's
+//! own runtime, `pages` has the commands of a page, `simulated` and `disk` are where the lines of a
+//! row's buildings are and what is written beside them goes, and `wrong` has the rows that must not
+//! hold. Nothing is proved of the rows themselves, and a row more costs no proof: `rows texts.rows`
+//! is a call.
 #![tactic(auto)]
 
 mod disk;
