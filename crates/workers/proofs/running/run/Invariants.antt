@@ -10,5 +10,5 @@ ghosts-run_named-J-Links g a = record {
   clock = g.C.Clock.log a.clock;
 }
 
-abbrev pub ghosts-run_named-N-Names : goal.ghosts-run_named-N-Names
-ghosts-run_named-N-Names g a = record { names = a.new_tallies }
+abbrev pub ghosts-run_named-N-LedgerNames : goal.ghosts-run_named-N-LedgerNames
+ghosts-run_named-N-LedgerNames g a = record { names = a.new_tallies }
