@@ -1,13 +1,11 @@
 """What benches/lines is made of: texts, interfaces that note what they are asked, the ends of lines, and calls of the program."""
-import contextlib, itertools, os, random, re, select, subprocess, sys, termios, threading, time, tty
+import contextlib, itertools, os, random, re, select, subprocess, sys, threading, time, tty
 
 HERE = os.path.dirname(os.path.dirname(os.path.abspath(__file__)))
 sys.path.insert(0, f"{HERE}/examples/interfaces")
 sys.dont_write_bytecode = True
 import line  # noqa: E402
 
-# What a silent pseudo terminal waits before a read ends, in tenths of a second: the `time` of stty.
-TIME_OUT = 4
 PRESS = 0x0A8809                # information 9 of instance 2 of the device with short address 5
 SOURCE = "device-instance 5 2"
 
@@ -40,8 +38,9 @@ PROGRAM light WITH push : sw;
 PROGRAM look WITH clock : idle;
 END_CONFIGURATION
 """
-# What is sent of it at a start.
+# What is sent of it at a start, and which of these no press sends.
 HALL_LEVELS = {0x0A00, 0x0C78, 0x82FE}
+SET_ONCE = {0x0C78, 0x82FE}
 
 # Counts its scans, and those whose event was not the next one: the events are numbered by their information.
 STORM = """PROGRAM count
@@ -166,9 +165,9 @@ class Storm(House):
 class Stopwatch(House):
     """Takes the time from a press, and from the answer with its event, to the frame that is sent then."""
 
-    def __init__(self, count):
+    def __init__(self, count, span=(0.005, 0.040)):
         super().__init__()
-        self.count, self.from_press, self.from_event = count, [], []
+        self.count, self.span, self.from_press, self.from_event = count, span, [], []
         self.pressed, self.told = None, None
 
     def forget(self):
@@ -187,7 +186,7 @@ class Stopwatch(House):
         if self.told:
             self.from_press.append(now - self.pressed)
             self.from_event.append(now - self.told)
-            self.told, self.pressed = None, now + random.uniform(0.005, 0.040)
+            self.told, self.pressed = None, now + random.uniform(*self.span)
         return super().send(bits, frame, priority)
 
     def is_done(self):
@@ -195,40 +194,39 @@ class Stopwatch(House):
 
 
 class Faulty(Pressed):
-    """Fails at one request, the greeting being 0: says other bytes than an answer, or ends the line. Its button is held down."""
+    """Fails at one request, the first greeting being 0: says other bytes than an answer, or ends the line. Then it is well
+    again, or stays silent. Its button is held down."""
 
-    def __init__(self, at, says, ends):
+    def __init__(self, at, says, ends, is_well=True):
         super().__init__(0, 0)
-        self.at, self.says, self.ends = at, says, ends
-        self.failed_at, self.failed, self.later = None, None, 0
+        self.at, self.says, self.ends, self.is_well = at, says, ends, is_well
+        self.failed_at, self.failed, self.before, self.later = None, None, 0, 0
 
     def answer(self, request):
-        if self.failed:
+        if self.failed and not self.is_well:
             self.later += 1
             return b""
         answer = super().answer(request)        # so that what was asked is noted
-        if self.requests <= self.at:
+        if self.failed or self.requests <= self.at:
             return answer
         self.failed_at, self.failed = request.split()[0], time.monotonic()
+        self.before = len(self.sends)
         self.handed -= answer.startswith(b"event")
         self.is_over = self.ends
         return self.says
 
 
-class Pty(line.End):
+class Pty:
     """The interface's end of a pseudo terminal."""
 
-    def __init__(self, folder, bus, time_out=0):
-        super().__init__()
+    def __init__(self, folder, bus):
         self.bus, self.path = bus, f"{folder}/line{next(NUMBERS)}"
-        self.plug(time_out)
+        self.plug()
 
-    def plug(self, time_out=0):
+    def plug(self):
+        self.left = b""
         self.ours, self.theirs = os.openpty()
         tty.setraw(self.theirs)
-        mode = termios.tcgetattr(self.theirs)
-        mode[6][termios.VMIN], mode[6][termios.VTIME] = (0, time_out) if time_out else (1, 0)
-        termios.tcsetattr(self.theirs, termios.TCSANOW, mode)
         os.symlink(os.ttyname(self.theirs), self.path)
 
     def unplug(self):
@@ -256,16 +254,22 @@ class Pty(line.End):
             self.unplug()
 
 
-class Fifos(line.End):
+class Fifos:
     """The interface's end of two FIFOs. Both are opened for reading and writing, which never waits."""
 
-    def __init__(self, folder, bus, _time_out=0):
-        super().__init__()
+    def __init__(self, folder, bus):
         number = next(NUMBERS)
         self.bus, self.source, self.sink = bus, f"{folder}/source{number}", f"{folder}/sink{number}"
+        self.out = self.into = None
         for path in (self.source, self.sink):
             os.mkfifo(path)
-        self.out, self.into = (os.open(path, os.O_RDWR) for path in (self.source, self.sink))
+        self.plug()
+
+    def plug(self):
+        """Opens what is closed."""
+        self.left = b""
+        self.out = os.open(self.source, os.O_RDWR) if self.out is None else self.out
+        self.into = os.open(self.sink, os.O_RDWR) if self.into is None else self.into
 
     def word(self):
         return f"{self.source},{self.sink}"
@@ -274,7 +278,8 @@ class Fifos(line.End):
         return self.into
 
     def write(self, answer):
-        os.write(self.out, answer)
+        if self.out is not None:
+            os.write(self.out, answer)
 
     def ends_here(self):
         """Ends the line. What the controller writes is read still."""
@@ -355,9 +360,10 @@ class Attended(threading.Thread):
 # The program.
 
 class Live:
-    """A call of `dalictl live`, with words `before` it; where it `leads`, its process begins a session of its own."""
+    """A call of `dalictl live`, with words `before` it; where it `leads`, its process begins a session of its own; where it
+    `is_closed`, it begins without descriptors 0, 1 and 2."""
 
-    def __init__(self, program, folder, text, bind, lines, *words, before=(), leads=False, is_stopped=False):
+    def __init__(self, program, folder, text, bind, lines, *words, before=(), leads=False, is_stopped=False, is_closed=False):
         number = next(NUMBERS)
         self.stop = f"{folder}/stop{number}"
         if is_stopped:
@@ -372,7 +378,8 @@ class Live:
         with open(self.out_path, "w") as out, open(self.err_path, "w") as err:
             self.process = subprocess.Popen(
                 [*before, program, "live", paths["il"], paths["bind"], *named, "--stop", self.stop, *words],
-                stdin=subprocess.DEVNULL, stdout=out, stderr=err, start_new_session=leads, env=ENVIRONMENT)
+                stdin=subprocess.DEVNULL, stdout=out, stderr=err, start_new_session=leads, env=ENVIRONMENT,
+                preexec_fn=(lambda: os.closerange(0, 3)) if is_closed else None)
         self.ended_at = None
 
     def __enter__(self):
@@ -431,12 +438,12 @@ class Said:
         self.ended, self.events, self.buses, self.tasks, self.values, self.other = None, 0, {}, {}, {}, []
         for text in lines:
             words = text.split()
-            if re.fullmatch(r"ended (asked|limit|no memory|no thread)", text):
+            if re.fullmatch(r"ended (asked|a bus went down|limit|no memory|no thread)", text):
                 self.ended = text[len("ended "):]
             elif re.fullmatch(r"events \d+", text):
                 self.events = int(words[1])
-            elif re.fullmatch(r"bus \d+ sent \d+ heard \d+", text):
-                self.buses[int(words[1])] = int(words[3]), int(words[5])
+            elif re.fullmatch(r"bus \d+ (down )?sent \d+ heard \d+", text):
+                self.buses[int(words[1])] = int(words[-3]), int(words[-1])
             elif re.fullmatch(r"task \w+ scans \d+ lost \d+", text):
                 self.tasks[words[1]] = int(words[3]), int(words[5])
             elif re.fullmatch(r"\w+ = (\d+|TRUE|FALSE)", text):
@@ -456,19 +463,22 @@ class Found(list):
         if not holds:
             self.append(what)
 
-    def ended(self, live, status, wanted):
-        """The status, and where it is 0 or 3 after a start that the run was ended as it was asked."""
+    def ended(self, live, status, wanted, why="asked"):
+        """The status, and where it is 0 or 3 after a start why the run was ended: as it was asked."""
         if status is None:
             self.append(f"it goes on; on standard error {live.err()[-1:]}")
             return live.said()
         self.same("status", status, wanted)
         said = live.said()
-        self.same("ended", said.ended, "asked")
+        self.same("ended", said.ended, why)
         self.same("other lines", said.other, [])
         return said
 
-    def counts(self, said, bus, house, is_up=True):
-        """What the program says of a bus is what its interface says, which had nothing more where the bus is up."""
-        self.same(f"bus {bus}: sent and heard", said.buses.get(bus), (len(house.sends), house.handed))
+    def counts(self, said, bus, house, is_up=True, unsaid=0):
+        """What the program says of a bus is what its interface says, which had nothing more where the bus is up. A frame
+        that failed since the line was not there counts as sent; so many more there may be."""
+        sent, heard = said.buses.get(bus, (-1, -1))
+        self.same(f"bus {bus}: heard", heard, house.handed)
+        self.hold(0 <= sent - len(house.sends) <= unsaid, f"bus {bus}: sent {sent} and not {len(house.sends)}")
         if is_up:
             self.same(f"bus {bus}: asked at last", house.last, ("hear", "none"))

@@ -17,11 +17,11 @@ _dalictl() {
         step) options='--bind --scans --every --help' files='--bind' others='--scans --every' ;;
         play) options='--limit --names --expect --watch --help' files='' others='--limit --expect --watch' ;;
         run) options='--limit --workers --help' files='' others='--limit --workers' ;;
-        live) options='--line --period --for --stop --limit --workers --stay --log --log-size --record --status --json --keep --help' files='--stop --log --record --status --keep' others='--line --period --for --limit --workers --log-size' ;;
-        probe) options='--line --bus --help' files='--line' others='--bus' ;;
-        listen) options='--line --bind --bus --record --for --stop --help' files='--line --bind --record --stop' others='--bus --for' ;;
-        blink) options='--line --help' files='--line' others='' ;;
-        ask) options='--line --help' files='--line' others='' ;;
+        live) options='--line --period --for --stop --limit --workers --patience --end-on-down --stay --log --log-size --record --status --json --keep --help' files='--stop --log --record --status --keep' others='--line --period --for --limit --workers --patience --log-size' ;;
+        probe) options='--line --patience --bus --help' files='--line' others='--patience --bus' ;;
+        listen) options='--line --patience --bind --bus --record --for --stop --help' files='--line --bind --record --stop' others='--patience --bus --for' ;;
+        blink) options='--line --patience --help' files='--line' others='--patience' ;;
+        ask) options='--line --patience --help' files='--line' others='--patience' ;;
         look) options='--bind --text --out --bus --from --to --watch --help' files='--bind --out' others='--bus --from --to --watch' ;;
         notes) options='--bind --help' files='--bind' others='' ;;
         list) options='--bind --help' files='--bind' others='' ;;

@@ -1,49 +1,106 @@
-"""The line between the controller and an interface for one DALI bus, version 1 (docs/LINES.md).
+"""The line between the controller and an interface for one DALI bus, version 2 (docs/LINES.md).
 
-An interface is a bus and an end of a line:
+An interface is a bus behind an end of a line:
 
-    from line import PtyEnd, serve
+    from ends import PtyEnd
+    from line import serve
     serve(MyBus(), PtyEnd('/run/dali0'))
 
-A bus has three methods. Each of them may raise `Fault`, which the controller is told as `fault`.
-
-    send(bits, frame, priority)   sends a forward frame of 16 or 24 bits with a priority, 1 (the highest) to 5, and
-                                  returns what came in the time of a backward frame: QUIET, answer(byte), DAMAGED;
-                                  or LOST, where the frame met a collision or could not be sent in its time
-    take()                        returns the oldest 24-bit frame of another device that was not taken yet, or None
-    forget()                      drops the frames that wait
+A bus is a class with the three methods of `Bus`. Each of them may raise `Fault`; the controller
+then gets `fault`. Version 1 is understood too: a controller of version 1 greets by `gushewa 1`.
 """
 
-import os
-import pty
+from __future__ import annotations
+
+import collections
 import re
-import select
-import termios
-import tty
+import threading
+from typing import Callable, Optional, Protocol
 
-GREETING = 'gushewa 1'
-QUIET, DAMAGED, LOST = 'quiet', 'damaged', 'lost'
+from ends import End
 
+FIRST_GREETING = 'gushewa 1'
+GREETING = re.compile(r'gushewa 2 ([0-9]{1,20})\Z')
 SEND = re.compile(r'send ([1-5]) ([0-9A-F]{4}|[0-9A-F]{6})')
-MOST_BYTES = 64
+QUIET, DAMAGED, LOST, FAULT = 'quiet', 'damaged', 'lost', 'fault'
+
+EVENTS_KEPT = 256
 
 
 class Fault(Exception):
     """The interface failed."""
 
 
-def answer(byte):
+class Bus(Protocol):
+    """What an interface asks of its bus."""
+
+    def send(self, bits: int, frame: int, priority: int) -> str:
+        """Sends a forward frame of 16 or 24 bits with a priority, 1 (the highest) to 5.
+
+        Returns what came in the time of a backward frame: QUIET, answer(byte) or DAMAGED; or LOST,
+        where the frame met a collision or could not be sent in its time.
+        """
+
+    def take(self) -> Optional[int]:
+        """Returns the oldest 24-bit frame of another device that was not taken yet, or None."""
+
+    def forget(self) -> None:
+        """Drops the frames that wait."""
+
+
+class Events:
+    """The 24-bit frames of other devices that wait. Where nobody hears, the oldest go."""
+
+    def __init__(self) -> None:
+        self.frames: collections.deque[int] = collections.deque(maxlen=EVENTS_KEPT)
+        self.lock = threading.Lock()  # a library may hear in a thread of its own
+
+    def add(self, frame: int) -> None:
+        with self.lock:
+            self.frames.append(frame)
+
+    def take(self) -> Optional[int]:
+        with self.lock:
+            return self.frames.popleft() if self.frames else None
+
+    def forget(self) -> None:
+        with self.lock:
+            self.frames.clear()
+
+
+# What the requests are answered.
+
+
+def answer(byte: int) -> str:
     """What `send` returns where a backward frame of this byte came."""
     return f'answer {byte}'
 
 
-def answer_to(bus, request):
-    """The line that answers a request."""
-    if request.endswith(GREETING):     # before it may stand half a request of a controller that was ended
-        bus.forget()
-        return GREETING
-    send = SEND.fullmatch(request)
+def first_answer_to_greeting(request: str) -> Optional[str]:
+    """The answer to a greeting of version 1 at the end of a request; None where none is there."""
+    return FIRST_GREETING if request.endswith(FIRST_GREETING) else None
+
+
+def answer_to_greeting(request: str) -> Optional[str]:
+    """The answer to a greeting at the end of a request; None where none is there.
+
+    Before the greeting may stand half a request, of a controller that was ended while it wrote. By
+    its number an answer belongs to this greeting, and not to an earlier one. An echo is no answer.
+    """
+    greeting = GREETING.search(request)
+    return f'gushewa 2 hears {greeting[1]}' if greeting else first_answer_to_greeting(request)
+
+
+def answer_to(
+    bus: Bus, request: str, to_greeting: Callable[[str], Optional[str]] = answer_to_greeting
+) -> str:
+    """The one line that answers a request."""
     try:
+        greeted = to_greeting(request)
+        if greeted:
+            bus.forget()  # a press of some minutes ago must not switch a light now
+            return greeted
+        send = SEND.fullmatch(request)
         if send:
             return bus.send(4 * len(send[2]), int(send[2], 16), int(send[1]))
         if request == 'hear':
@@ -51,89 +108,49 @@ def answer_to(bus, request):
             return 'none' if frame is None else f'event {frame:06X}'
     except Fault:
         pass
-    return 'fault'
+    return FAULT
 
 
-def serve(bus, end, note=lambda way, line: None):
+# The interface.
+
+
+def note_nothing(way: str, line: str) -> None:
+    """Writes down neither requests (`<`) nor answers (`>`)."""
+
+
+class Interface:
+    """A bus behind an end of a line: each request gets one answer, and nothing else is said."""
+
+    def __init__(
+        self,
+        bus: Bus,
+        end: End,
+        note: Callable[[str, str], None] = note_nothing,
+        to_greeting: Callable[[str], Optional[str]] = answer_to_greeting,
+    ) -> None:
+        self.bus, self.end, self.note, self.to_greeting = bus, end, note, to_greeting
+
+    def serve(self) -> None:
+        """Answers each request, until the line ends."""
+        while (request := self.end.next_line()) is not None:
+            self.note('<', request)
+            self.meet(request)
+
+    def meet(self, request: str) -> None:
+        """Answers this request."""
+        self.say(self.answer(request))
+
+    def answer(self, request: str) -> str:
+        greeted = self.to_greeting(request)
+        if greeted:
+            self.end.drops_unread = greeted == FIRST_GREETING
+        return answer_to(self.bus, request, self.to_greeting)
+
+    def say(self, line: str) -> None:
+        self.note('>', line)
+        self.end.say(line)
+
+
+def serve(bus: Bus, end: End, note: Callable[[str, str], None] = note_nothing) -> None:
     """Answers each request, until the line ends."""
-    while (request := end.next_line()) is not None:
-        note('<', request)
-        line = answer_to(bus, request)
-        note('>', line)
-        end.say(line)
-
-
-class End:
-    """An end of a line, over two open files."""
-
-    def __init__(self):
-        self.left = b''
-
-    def next_line(self):
-        """The next line without its end, or None where there is none."""
-        while b'\n' not in self.left:
-            more = self.read()
-            if not more or len(self.left) > MOST_BYTES:
-                return None
-            self.left += more
-        line, self.left = self.left.split(b'\n', 1)
-        return line.decode('ascii', 'replace')
-
-    def say(self, line):
-        self.write(line.encode('ascii') + b'\n')
-
-
-class PtyEnd(End):
-    """A pseudo terminal, to which the symbolic link `link` leads: `--line 0=link`."""
-
-    def __init__(self, link):
-        super().__init__()
-        self.ours, self.theirs = pty.openpty()
-        tty.setraw(self.theirs)        # no echo, no translation; kept open, so that it stays so
-        if os.path.islink(link):
-            os.unlink(link)
-        os.symlink(os.ttyname(self.theirs), link)
-
-    def read(self):
-        while not select.select([self.ours], [], [], 1)[0]:
-            # What was not read by now was for a controller that has ended. The next one is not to read it.
-            termios.tcflush(self.theirs, termios.TCIFLUSH)
-        return os.read(self.ours, 256)
-
-    def write(self, line):
-        os.write(self.ours, line)
-
-
-class FifoEnd(End):
-    """A pair of FIFOs, made where they are missing: `--line 0=source,sink`. The controller reads `source`."""
-
-    def __init__(self, source, sink):
-        super().__init__()
-        self.source, self.sink = source, sink
-        for path in (source, sink):
-            if not os.path.exists(path):
-                os.mkfifo(path)
-        self.open()
-
-    def open(self):
-        """Waits for a controller, which opens its source first, and then its sink."""
-        left_over = os.open(self.source, os.O_RDONLY | os.O_NONBLOCK)
-        while os.read(left_over, 256):                 # for a controller that has ended, and may not be gone yet
-            pass
-        os.close(left_over)
-        self.out = open(self.source, 'wb', buffering=0)
-        self.into = open(self.sink, 'rb', buffering=0)
-        self.left = b''
-
-    def read(self):
-        while not (more := self.into.read(256)):       # the controller has ended: the next one may come
-            self.out.close()
-            self.into.close()
-            self.open()
-        return more
-
-    def write(self, line):
-        try:
-            self.out.write(line)
-        except BrokenPipeError:
-            pass                                       # the controller has ended; `read` meets its end too
+    Interface(bus, end, note).serve()

@@ -1,46 +1,69 @@
 #!/usr/bin/env python3
-"""An interface for one DALI bus that simulates the bus: control gear, and push buttons that press themselves.
+"""An interface that simulates a DALI bus: control gear, and push buttons that press themselves.
 
-  simulated.py --pty LINK [options]               makes a pseudo terminal, and the symbolic link LINK to it
-  simulated.py --fifo SOURCE SINK [options]       uses two FIFOs, and makes them where they are missing
+  simulated.py --pty LINK ..           makes a pseudo terminal, and the symbolic link LINK to it
+  simulated.py --fifo SOURCE SINK ..   uses two FIFOs, and makes them where they are missing
 
-  --gear 0,1,5            the short addresses of the gear (0 to 7 if nothing is said)
-  --button EVENT:SECONDS  an event message, such as 0A8809 (device 5, instance 2), each so many seconds; may stand again
+The bus (gear.py says what the gear knows):
+
+  --gear 0,1,5            the short addresses of the gear (0 to 7 if nothing is said; '' is none)
+  --unaddressed COUNT     as many gear without a short address
+  --type ADDRESS:6,8      the device types of a gear; type 6 if nothing is said. May stand again
+  --group ADDRESS:0,3     the groups of a gear. May stand again
+  --scene ADDRESS:2:100   a scene of a gear, with its level. May stand again
+  --random 123456,0000FF  the random addresses that RANDOMISE gives first, one after another
+  --seed NUMBER           the seed of the random addresses behind these
+  --button 0A8809:3       an event message (here device 5, instance 2) each three seconds. May
+                          stand again
   --real                  takes the time that frames take on a bus of 1200 baud
-  --fault-at N            fails at the Nth request after the greeting, and from then on
-  --end-at N              ends at that request
-  --log FILE              writes each line into FILE, with the seconds since the start
 
-The gear knows a direct level, OFF, RECALL MAX LEVEL and RECALL MIN LEVEL, and answers QUERY STATUS, QUERY CONTROL GEAR
-PRESENT and QUERY ACTUAL LEVEL, by its short address or as all gear.
+The interface:
+
+  --log FILE              writes each line into FILE, with the seconds since the start
+  --start-after SECONDS   makes its line only then
+
+Its troubles (trouble.py), to see what a controller does then. N counts the requests after a
+greeting; the greeting itself is 0. A trouble comes once, and with --again after each greeting. Each
+may stand again, for another request:
+
+  --silent-at N:SECONDS   falls silent, and then answers all at once
+  --half-at N             gives half the line of an answer, and nothing behind it
+  --fault-once N          answers `fault`, and sends and hears nothing
+  --unplug-at N:SECONDS   ends its line, and makes it anew under the same path
+  --babble-at N:SECONDS   writes lines that nobody asked for, as fast as the line takes them
+  --end-at N              ends
+  --fault-at N            answers `fault` to this request after a greeting and to all behind it
+  --echo                  sends each request back before its answer
+  --flood                 has an event each time that it is asked for one
+  --version-1             speaks version 1 of the line alone
 """
 
+from __future__ import annotations
+
 import argparse
-import collections
 import time
+from typing import Callable, List, Optional, Sequence, TextIO
 
-from line import DAMAGED, QUIET, Fault, FifoEnd, PtyEnd, answer, serve
+from addresses import random_addresses
+from ends import FifoEnd, PtyEnd
+from gear import AllGear, Gear
+from line import QUIET, Events, note_nothing
+from trouble import TroubledInterface, add_words, plan_of
 
-OFF, RECALL_MAX_LEVEL, RECALL_MIN_LEVEL = 0x00, 0x05, 0x06
-QUERY_STATUS, QUERY_CONTROL_GEAR_PRESENT, QUERY_ACTUAL_LEVEL = 0x90, 0x91, 0xA0
-LAMP_ON = 0x04
-LEVELS = {OFF: 0, RECALL_MAX_LEVEL: 254, RECALL_MIN_LEVEL: 1}
-
-# seconds: a frame with its stop condition, and the longest wait for a backward frame with that frame
+# Seconds: a frame with its stop condition; a backward frame with the wait for it; that wait.
 FRAME_TIMES = {16: 0.0165, 24: 0.0231}
-ANSWER_TIME = 0.0155
-EVENTS_KEPT = 256
+ANSWER_TIME, WAIT_TIME = 0.0155, 0.0105
 
 
 class Button:
     """An event message that comes again and again."""
 
-    def __init__(self, text):
+    def __init__(self, text: str) -> None:
         event, seconds = text.split(':')
         self.event, self.seconds = int(event, 16), float(seconds)
         self.next = time.monotonic() + self.seconds
 
-    def presses(self):
+    def presses(self) -> int:
         """How often it was pressed since it was asked last."""
         count = 0
         while time.monotonic() >= self.next:
@@ -50,118 +73,105 @@ class Button:
 
 
 class SimulatedBus:
-    """Gear with a level each, and buttons."""
+    """Gear, and buttons."""
 
-    def __init__(self, gear, buttons, is_real):
-        self.levels = {address: 254 for address in gear}
-        self.buttons, self.is_real = buttons, is_real
-        self.events = collections.deque(maxlen=EVENTS_KEPT)     # where nobody hears, the oldest go
+    def __init__(self, gear: Sequence[Gear], buttons: Sequence[Button], has_bus_time: bool) -> None:
+        self.gear, self.buttons, self.has_bus_time = (
+            AllGear(gear, has_bus_time),
+            buttons,
+            has_bus_time,
+        )
+        self.events = Events()
 
-    def press_buttons(self):
+    def press_buttons(self) -> None:
         for button in self.buttons:
-            self.events.extend([button.event] * button.presses())
+            for _ in range(button.presses()):
+                self.events.add(button.event)
 
-    def take(self):
+    def take(self) -> Optional[int]:
         self.press_buttons()
-        return self.events.popleft() if self.events else None
+        return self.events.take()
 
-    def forget(self):
+    def forget(self) -> None:
         self.press_buttons()
-        self.events.clear()
+        self.events.forget()
 
-    def send(self, bits, frame, priority):
+    def send(self, bits: int, frame: int, priority: int) -> str:
         self.spend(FRAME_TIMES[bits])
-        if bits == 24:
-            return QUIET                                        # no device is simulated that would obey or answer
-        address, opcode = frame >> 8, frame & 0xFF
-        gear = self.addressed(address)
-        if address & 1 == 0:
-            if opcode != 255:                                   # 255 in a direct level is no level
-                self.set_levels(gear, opcode)
-            return QUIET
-        if opcode in LEVELS:
-            self.set_levels(gear, LEVELS[opcode])
-        if opcode in (QUERY_STATUS, QUERY_CONTROL_GEAR_PRESENT, QUERY_ACTUAL_LEVEL):
-            self.spend(ANSWER_TIME)
-            if len(gear) > 1:
-                return DAMAGED
-            if gear:
-                return answer(self.value_of(opcode, self.levels[gear[0]]))
-        return QUIET
+        # No device is simulated that would obey or answer frames of 24 bits.
+        came = self.gear.send(frame) if bits == 16 else QUIET
+        self.spend(WAIT_TIME if came == QUIET else ANSWER_TIME)
+        return came
 
-    def addressed(self, byte):
-        """The gear to which the first byte of a frame speaks: one of a short address, or all."""
-        if byte < 0x80:
-            return [address for address in self.levels if address == byte >> 1]
-        return list(self.levels) if byte >= 0xFE else []
-
-    def set_levels(self, gear, level):
-        for address in gear:
-            self.levels[address] = level
-
-    def value_of(self, query, level):
-        if query == QUERY_STATUS:
-            return LAMP_ON if level else 0
-        return 255 if query == QUERY_CONTROL_GEAR_PRESENT else level
-
-    def spend(self, seconds):
-        if self.is_real:
+    def spend(self, seconds: float) -> None:
+        if self.has_bus_time:
             time.sleep(seconds)
 
 
-class FailingBus:
-    """A bus whose interface fails or ends at a request, to see what the controller does then."""
-
-    def __init__(self, bus, fault_at, end_at):
-        self.bus, self.fault_at, self.end_at = bus, fault_at, end_at
-        self.requests = 0
-
-    def count(self):
-        self.requests += 1
-        if self.requests == self.end_at:
-            raise SystemExit
-        if self.fault_at and self.requests >= self.fault_at:
-            raise Fault
-
-    def send(self, bits, frame, priority):
-        self.count()
-        return self.bus.send(bits, frame, priority)
-
-    def take(self):
-        self.count()
-        return self.bus.take()
-
-    def forget(self):
-        self.requests = 0
-        self.bus.forget()
+# The command line.
 
 
-def main():
+def numbers(text: str) -> List[int]:
+    return [int(word) for word in text.split(',') if word]
+
+
+def of_gear(words: Sequence[str], address: int) -> List[List[str]]:
+    """What stands behind ADDRESS: in the words that speak of this gear."""
+    return [rest for first, *rest in (word.split(':') for word in words) if int(first) == address]
+
+
+def gear_of(given: argparse.Namespace) -> List[Gear]:
+    chance = random_addresses(
+        [int(word, 16) for word in given.random.split(',') if word], given.seed
+    )
+    made: List[Gear] = []
+    for address in numbers(given.gear):
+        types = of_gear(given.type, address)
+        gear = Gear(address, numbers(types[-1][0]) if types else [6], chance)
+        for (groups,) in of_gear(given.group, address):
+            gear.groups.update(numbers(groups))
+        for scene, level in of_gear(given.scene, address):
+            gear.scenes[int(scene)] = int(level)
+        made.append(gear)
+    return made + [Gear(None, [6], chance) for _ in range(given.unaddressed)]
+
+
+def noting(log: Optional[TextIO]) -> Callable[[str, str], None]:
+    """Writes each line down, with the seconds since now."""
+    start = time.monotonic()
+    if log is None:
+        return note_nothing
+    return lambda way, line: print(f'{time.monotonic() - start:.4f} {way} {line}', file=log)
+
+
+def read_words() -> argparse.Namespace:
     parser = argparse.ArgumentParser(usage=__doc__)
     end = parser.add_mutually_exclusive_group(required=True)
     end.add_argument('--pty')
     end.add_argument('--fifo', nargs=2)
     parser.add_argument('--gear', default='0,1,2,3,4,5,6,7')
-    parser.add_argument('--button', action='append', default=[])
+    parser.add_argument('--unaddressed', type=int, default=0)
+    for option in ('--type', '--group', '--scene', '--button'):
+        parser.add_argument(option, action='append', default=[])
+    parser.add_argument('--random', default='')
+    parser.add_argument('--seed', type=int)
     parser.add_argument('--real', action='store_true')
-    parser.add_argument('--fault-at', type=int, default=0)
-    parser.add_argument('--end-at', type=int, default=0)
     parser.add_argument('--log')
-    args = parser.parse_args()
-    start = time.monotonic()
-    log = open(args.log, 'w', buffering=1) if args.log else None
+    parser.add_argument('--start-after', type=float, default=0.0)
+    add_words(parser)
+    return parser.parse_args()
 
-    def note(way, line):
-        if log:
-            print(f'{time.monotonic() - start:.4f} {way} {line}', file=log)
 
-    gear = [int(address) for address in args.gear.split(',')]
-    bus = SimulatedBus(gear, [Button(text) for text in args.button], args.real)
+def main() -> None:
+    given = read_words()
+    note = noting(open(given.log, 'w', buffering=1) if given.log else None)
+    bus = SimulatedBus(gear_of(given), [Button(text) for text in given.button], given.real)
     try:
-        serve(FailingBus(bus, args.fault_at, args.end_at),
-              PtyEnd(args.pty) if args.pty else FifoEnd(*args.fifo), note)
+        time.sleep(given.start_after)
+        end = PtyEnd(given.pty) if given.pty else FifoEnd(*given.fifo)
+        TroubledInterface(bus, end, note, plan_of(given)).serve()
     except (KeyboardInterrupt, BrokenPipeError):
-        pass                                                    # ended by hand, or nobody reads the log
+        pass  # ended by hand, or nobody reads the log
 
 
 if __name__ == '__main__':

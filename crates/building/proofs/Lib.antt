@@ -1,1 +1,2 @@
 mod Lineups
+pub mod Lines

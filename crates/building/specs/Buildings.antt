@@ -1,11 +1,14 @@
 -- A building: what it is before it runs, what it comes to, and what stands against it (profile).
-use Rattle.std.specs.Prelude.{◌≡◌, ℕ, ◌<◌, List, ⊤}
+use Rattle.std.specs.Prelude.{◌≡◌, ℕ, List, Option, option_map, ⊤}
+use Rattle.std.specs.Int.NonZero.{non_zero_u64_get}
+use Rattle.std.specs.Arc.{arc_value}
 use Rattle.buslink.specs.BusLog.{BusLog}
 use Rattle.buslink.specs.ClockLog.{ClockLog}
 use Rattle.ilcompile.specs.Loaded.{Loaded}
 use Rattle.plant.specs.declared.open_fault.OpenFault.TheVariants.{Limit}
 use Rattle.plant.specs.Shown.{IsRoomy}
 use Rattle.invocations.specs.declared.line_words.LineWord.{LineWord}
+use Rattle.invocations.specs.declared.invocations.LiveOptions.{LiveOptions}
 use Rattle.invocations.specs.declared.invocations.RunSize.{RunSize}
 use Rattle.plantplay.specs.declared.opening.StartFault.TheVariants.{Memory, Plant}
 use Rattle.workers.specs.Starts.{IsStartFault}
@@ -14,48 +17,41 @@ use Rattle.plantlive.specs.Lives.{HasLived}
 use Rattle.exits.specs.declared.exit_status.ExitStatus.{ExitStatus}
 use Rattle.exits.specs.declared.exit_status.ExitStatus.TheVariants.{Failed, Misused}
 use Rattle.building.specs.declared.buildings.Building.{Building}
-use Rattle.building.specs.declared.site.SiteFault.{SiteFault}
-use Rattle.building.specs.declared.site.SiteFault.TheVariants as site_faults
 use Rattle.building.specs.declared.stops.LiveStop.{LiveStop}
 use Rattle.building.specs.declared.stops.LiveStop.TheVariants.{Lineup, NoClock, NotOpened, Start}
-use Rattle.building.specs.Lineups.{AreLinesOf, IsLineFor, IsLineupFault}
-use Rattle.building.specs.Sites.{AreNewBuses, IsNewClock}
+use Rattle.building.specs.Lineups.{AreLinesOf, IsLineupFault}
+use Rattle.building.specs.Sites.{AreNewBuses, AreReached, IsNewClock, IsPeriodFor, moment_of_end}
 
 -- ---- before it runs
 
--- the building of this setup: each bus has its line, which is open, and nothing was sent or heard on it; the clock gave
--- no moment yet
-pub record IsOpened {B C : Type 0} (bus_log : B → BusLog) (clock_log : C → ClockLog) (of : Loaded)
-    (words : List LineWord) (most : RunSize) (building : Building B C) : Type 0 where
+-- The building of this setup: each bus has its line, the one of the word that names the bus, with the patience that was
+-- asked for, and nothing was sent or heard on it. The clock gave no moment yet; it has the period and the end that were
+-- asked for, and ends where a bus goes down if that is.
+pub record IsOpened {B C : Type 0} (bus_log : B → BusLog) (clock_log : C → ClockLog)
+    (is_of : B → LineWord → ℕ → Type 0) (is_timed : C → ℕ → ℕ → Option (List ℕ) → Type 0) (of : Loaded)
+    (words : List LineWord) (options : LiveOptions) (building : Building B C) : Type 0 where
   pub setup : building.setup ≡ of
-  pub size : building.size ≡ most
+  pub size : building.size ≡ options.size
   pub lines : AreLinesOf of.plan.buses words
   pub buses : AreNewBuses bus_log of.plan.buses building.buses.items
+  pub reached : AreReached is_of words options.patience building.buses.items
   pub clock : IsNewClock (clock_log building.clock)
+  pub period : IsPeriodFor of.plan options.period (non_zero_u64_get building.period)
+  pub timed : is_timed building.clock (non_zero_u64_get building.period) (moment_of_end options.seconds)
+      (option_map (λ path. path.now) options.stop)
+  -- it ends where a bus goes down exactly if that is asked for
+  pub watch : (arc_value building.watch).ends ≡ options.ends_on_down
 
 -- ---- what stands against it
 
--- the line of this bus isn't opened: the site refuses it; or there is no memory
-abbrev pub IsRefusedLine : (LineWord → SiteFault → Type 0) → ℕ → List LineWord → LiveStop → Type 0
-IsRefusedLine refuses bus words (NotOpened word) =
-    IsLineFor bus words word × refuses word site_faults.Failed
-IsRefusedLine refuses bus words (Start Memory) = ⊤
-IsRefusedLine refuses bus words _ = ⊥
-
--- so it is of one of so many buses
-abbrev pub IsNotOpened : (LineWord → SiteFault → Type 0) → ℕ → List LineWord → LiveStop → Type 0
-IsNotOpened refuses buses words stop =
-    (bus : ℕ) × (bus < buses) × IsRefusedLine refuses bus words stop
-
--- the words are not the lines of the buses; else the limit is too low for so many buses, a line isn't opened, or the
--- clock can't be read; the allocator may be out of memory
-abbrev pub IsLiveStop : (LineWord → SiteFault → Type 0) → Loaded → List LineWord → RunSize → LiveStop → Type 0
-IsLiveStop refuses setup words size (Lineup fault) = IsLineupFault setup.plan.buses words fault
-IsLiveStop refuses setup words size (NotOpened word) =
-    AreLinesOf setup.plan.buses words × IsNotOpened refuses setup.plan.buses words (NotOpened word)
-IsLiveStop refuses setup words size NoClock = AreLinesOf setup.plan.buses words
-IsLiveStop refuses setup words size (Start Memory) = ⊤
-IsLiveStop refuses setup words size (Start (Plant fault)) =
+-- the words are not the lines of the buses; else the limit is too low for so many buses, or the clock can't be read; the
+-- allocator may be out of memory. That a line is not there stands against no building.
+abbrev pub IsLiveStop : Loaded → List LineWord → RunSize → LiveStop → Type 0
+IsLiveStop setup words size (Lineup fault) = IsLineupFault setup.plan.buses words fault
+IsLiveStop setup words size (NotOpened word) = ⊥
+IsLiveStop setup words size NoClock = AreLinesOf setup.plan.buses words
+IsLiveStop setup words size (Start Memory) = ⊤
+IsLiveStop setup words size (Start (Plant fault)) =
     AreLinesOf setup.plan.buses words × (fault ≡ Limit) × ¬ IsRoomy setup.plan.buses size.limit
 
 -- a building with so many lines doesn't run: its plant doesn't start

@@ -1,15 +1,21 @@
 -- Buses and a clock that were just made: nothing became of them yet.
-use Rattle.std.specs.Prelude.{◌≡◌, ℕ, [], List, length}
+use Rattle.std.specs.Prelude.{◌≡◌, ◌^◌, ◌-◌, ◌*◌, ℕ, [], List, Option, Some, None, length, max}
 use Rattle.buslink.specs.BusLog.{BusLog}
 use Rattle.buslink.specs.ClockLog.{ClockLog}
 use Rattle.buslink.specs.Each.{Each}
+use Rattle.ilplan.specs.Plans.{Planned}
+use Rattle.invocations.specs.declared.line_words.LineWord.{LineWord}
+use Rattle.plantlive.specs.Periods.{IsPeriod}
+use Rattle.building.specs.Lineups.{IsLineFor}
 
--- a bus of this number on which nothing was sent or heard, and whose interface never failed
+-- a bus of this number on which nothing was sent or heard, whose interface never failed, and which was never taken up
+-- again
 pub record IsNewBus (bus : ℕ) (log : BusLog) : Type 0 where
   pub number : log.number ≡ bus
   pub sent : log.sent ≡ []
   pub heard : log.heard ≡ []
   pub failures : log.failures ≡ 0
+  pub mends : log.mends ≡ 0
 
 -- a clock that gave no moment
 pub record IsNewClock (log : ClockLog) : Type 0 where
@@ -19,3 +25,22 @@ pub record IsNewClock (log : ClockLog) : Type 0 where
 pub record AreNewBuses {B : Type 0} (bus_log : B → BusLog) (many : ℕ) (buses : List B) : Type 0 where
   pub count : length buses ≡ many
   pub each : Each (λ b bus. IsNewBus b (bus_log bus)) 0 buses
+
+-- this bus is behind the line that a word names for the bus of this number, with so many milliseconds of patience
+abbrev pub IsReached : {B : Type 0} → (B → LineWord → ℕ → Type 0) → List LineWord → ℕ → ℕ → B → Type 0
+IsReached is_of words patience number bus =
+    (word : LineWord) × IsLineFor number words word × is_of bus word patience
+
+-- each of the buses, in the order of their numbers, is behind the line that a word names for it
+abbrev pub AreReached : {B : Type 0} → (B → LineWord → ℕ → Type 0) → List LineWord → ℕ → List B → Type 0
+AreReached is_of words patience buses = Each (λ number bus. IsReached is_of words patience number bus) 0 buses
+
+-- the milliseconds from one tick to the next: those that were asked for, one at the least, else those that suit the plan
+abbrev pub IsPeriodFor : Planned → Option ℕ → ℕ → Type 0
+IsPeriodFor plan (Some asked) period = period ≡ max asked 1
+IsPeriodFor plan None period = IsPeriod plan period
+
+-- the last moment of the clock, in milliseconds: the end of the seconds that were asked for, else there is none
+abbrev pub moment_of_end : Option ℕ → ℕ
+moment_of_end (Some seconds) = seconds * 1000
+moment_of_end None = 2 ^ 64 - 1

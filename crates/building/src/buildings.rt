@@ -1,11 +1,12 @@
 //! A building before it runs, and its run.
 
-ghost use Rattle.std.specs.Prelude.{◌≡◌, ◌<◌, ◌≤◌, ◌⊎◌, IfErr, IfOk, length};
+ghost use Rattle.std.specs.Prelude.{◌≡◌, ◌<◌, ◌≤◌, ◌⊎◌, IfErr, IfOk, length, option_map};
+ghost use Rattle.std.specs.Int.NonZero.{non_zero_u64_get};
 ghost use Rattle.limits.specs.Limits.{most_buses};
-ghost use Rattle.building.specs.Buildings.{IsLiveStop, IsNotLived, IsNotOpened, IsOpened};
-ghost use Rattle.building.specs.Buildings.{IsRefusedLine};
+ghost use Rattle.building.specs.Buildings.{IsLiveStop, IsNotLived, IsOpened};
 ghost use Rattle.building.specs.Lineups.{AreLinesOf, HasLine};
-ghost use Rattle.building.specs.Sites.{AreNewBuses, IsNewBus, IsNewClock};
+ghost use Rattle.building.specs.Sites.{AreNewBuses, AreReached, IsNewBus, IsNewClock};
+ghost use Rattle.building.specs.Sites.{IsPeriodFor, IsReached, moment_of_end};
 ghost use Rattle.building.specs.declared.stops.LiveStop.TheVariants.{NoClock, Start};
 ghost use Rattle.plantplay.specs.declared.opening.StartFault.TheVariants.{Memory};
 ghost use Rattle.plantlive.specs.Lives.{HasLived};
@@ -22,7 +23,7 @@ use limits::{FEW_BUSES, LEAST_EVENTS_OF_MANY};
 use plant::OpenFault;
 use plantlive::{Lived, live, period_of};
 use plantplay::StartFault;
-use std::alloc::Global;
+use std::alloc::{AllocError, Global};
 use std::num::NonZeroU64;
 use std::sync::{Arc, Wait};
 use std::thread::Threads;
@@ -30,7 +31,7 @@ use std::time::Clock as Timer;
 use turns::Gate;
 use workers::Opening;
 
-/// A building whose lines are open and greeted. Nothing was sent yet.
+/// A building whose lines are being opened and greeted. Nothing was sent yet.
 #[derive(Drop)]
 pub struct Building<B: Bus, C: Clock> {
     pub setup: Setup,
@@ -40,17 +41,18 @@ pub struct Building<B: Bus, C: Clock> {
     pub size: RunSize,
     /// The milliseconds from one tick to the next.
     pub period: NonZeroU64,
-    /// Ends the clock where a bus goes down, unless the building stays.
+    /// Ends the clock where a bus goes down, if that is asked for, and tells lines of the clock's end.
     pub watch: Arc<DownWatch>,
 }
 
-/// Opens the line of each bus of a setup and greets its interface, in the order of the buses, and
-/// makes the clock.
+/// Has the line of each bus of a setup opened and its interface greeted, all side by side, waits
+/// until each has greeted or failed, a second at most, and makes the clock. A line that is not there
+/// is a bus that fails, and goes down.
 ///
 /// # Errors
 ///
 /// The words aren't the lines of the buses; else the limit is below 500 with more than 16 buses;
-/// else a line isn't opened, or the clock can't be read. The allocator may be out of memory.
+/// else the clock can't be read. The allocator may be out of memory.
 pub fn open<'a, S: Site>(
     alloc: Global,
     site: &S,
@@ -58,8 +60,9 @@ pub fn open<'a, S: Site>(
     lines: &[LineWord<'a>],
     options: &LiveOptions,
 ) -> Result<Building<S::Line, S::Clock>, LiveStop<'a>>
-    ensures opened { IfOk result (IsOpened S.Line.log S.Clock.log setup lines.now options.now.size) }
-    ensures stop { IfErr result (IsLiveStop (S.refuses site.now) setup lines.now options.now.size) }
+    ensures opened { IfOk result (IsOpened S.Line.log S.Clock.log (S.is_of site.now)
+        (S.is_timed site.now) setup lines.now options.now) }
+    ensures stop { IfErr result (IsLiveStop setup lines.now options.now.size) }
 {
     let buses = setup.plan().buses();
     if let Err(fault) = check_lines(lines, buses) {
@@ -68,11 +71,12 @@ pub fn open<'a, S: Site>(
     if buses > FEW_BUSES && u64::from(options.size.limit) < LEAST_EVENTS_OF_MANY {
         return Err(LiveStop::Start(StartFault::Plant(OpenFault::Limit)));
     }
-    let opened = open_lines(alloc, site, lines, buses)?;
-    let period = period_in(options, &setup);
-    let Ok(watch) = Arc::new(alloc, DownWatch::new(options.stay)) else {
+    let Ok(watch) = Arc::new(alloc, DownWatch::new(options.ends_on_down)) else {
         return Err(LiveStop::Start(StartFault::Memory));
     };
+    let opened = open_lines(alloc, site, lines, buses, options.patience, &watch)?;
+    site.settle(opened.as_slice());
+    let period = period_in(options, &setup);
     let clock = clock_of(alloc, site, period, options, &watch)?;
     Ok(Building {
         setup,
@@ -85,12 +89,17 @@ pub fn open<'a, S: Site>(
 }
 
 /// The milliseconds from one tick to the next: those that were asked for, else the plan's.
-fn period_in(options: &LiveOptions, setup: &Setup) -> NonZeroU64 {
+fn period_in(options: &LiveOptions, setup: &Setup) -> NonZeroU64
+    ensures { IsPeriodFor setup.now.plan options.now.period (non_zero_u64_get result) }
+{
     let period = match options.period {
-        Some(period) => u64::from(period),
+        Some(asked) => u64::from(asked).max(1),
         None => period_of(setup.plan()),
     };
-    NonZeroU64::new(period).unwrap_or(NonZeroU64::MIN)
+    match NonZeroU64::new(period) {
+        Some(period) => period,
+        None => unreachable!(),
+    }
 }
 
 /// The clock of a building, which ends as the options say.
@@ -102,6 +111,8 @@ fn clock_of<S: Site>(
     watch: &Arc<DownWatch>,
 ) -> Result<S::Clock, LiveStop<'static>>
     ensures new { IfOk result (λ clock. IsNewClock (S.Clock.log clock)) }
+    ensures timed { IfOk result (λ clock. S.is_timed site.now clock (non_zero_u64_get period)
+        (moment_of_end options.now.seconds) (option_map (λ path. path.now) options.now.stop)) }
     ensures stop { IfErr result (λ stop. (stop ≡ NoClock) ⊎ (stop ≡ Start Memory)) }
 {
     let end = End {
@@ -117,55 +128,56 @@ fn clock_of<S: Site>(
 }
 
 /// The last moment of the clock, in milliseconds: without an end that was asked for it has none.
-fn last_moment(options: &LiveOptions) -> u64 {
+fn last_moment(options: &LiveOptions) -> u64
+    ensures { result ≡ moment_of_end options.now.seconds }
+{
     match options.seconds {
         Some(seconds) => u64::from(seconds) * 1000,
         None => u64::MAX,
     }
 }
 
-/// The bus of each number below this one, with its line opened and greeted.
+/// The bus of each number below this one, whose line begins to be opened and greeted.
 fn open_lines<'a, S: Site>(
     alloc: Global,
     site: &S,
     lines: &[LineWord<'a>],
     buses: u8,
-) -> Result<Vec<S::Line>, LiveStop<'a>>
+    patience: u32,
+    watch: &Arc<DownWatch>,
+) -> Result<Vec<S::Line>, AllocError>
     requires few { buses ≤ most_buses }
     requires lines { AreLinesOf buses lines.now }
     ensures new { IfOk result (λ opened. AreNewBuses S.Line.log buses opened.items) }
-    ensures stop { IfErr result (IsNotOpened (S.refuses site.now) buses lines.now) }
+    ensures reached { IfOk result
+        (λ opened. AreReached (S.is_of site.now) lines.now patience opened.items) }
 {
     let mut opened = Vec::new(alloc);
     for bus in 0..buses {
-        let line = open_line(alloc, site, lines, bus)?;
-        if opened.push(line).is_err() {
-            return Err(LiveStop::Start(StartFault::Memory));
-        }
+        let line = open_line(alloc, site, lines, bus, patience, watch)?;
+        opened.push(line)?;
     }
     Ok(opened)
 }
 
-/// The bus of this number, with its line opened and greeted.
+/// The bus of this number, whose line begins to be opened and greeted.
 fn open_line<'a, S: Site>(
     alloc: Global,
     site: &S,
     lines: &[LineWord<'a>],
     bus: u8,
-) -> Result<S::Line, LiveStop<'a>>
+    patience: u32,
+    watch: &Arc<DownWatch>,
+) -> Result<S::Line, AllocError>
     requires small { bus < most_buses }
     requires line { HasLine bus lines.now }
     ensures new { IfOk result (λ made. IsNewBus bus (S.Line.log made)) }
-    ensures stop { IfErr result (IsRefusedLine (S.refuses site.now) bus lines.now) }
+    ensures reached { IfOk result (IsReached (S.is_of site.now) lines.now patience bus) }
 {
     let (Some(line), Some(number)) = (line_for(lines, bus), BusNumber::new(bus)) else {
         unreachable!()
     };
-    match site.open(alloc, *line, number) {
-        Ok(made) => Ok(made),
-        Err(SiteFault::Memory) => Err(LiveStop::Start(StartFault::Memory)),
-        Err(SiteFault::Failed) => Err(LiveStop::NotOpened(*line)),
-    }
+    site.line(alloc, *line, number, patience, watch)
 }
 
 impl<B: Bus + Send, C: Clock + Send> Building<B, C> {

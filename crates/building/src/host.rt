@@ -1,48 +1,120 @@
 //! The devices and the clock of the machine.
 
-ghost use Rattle.std.specs.Prelude.{⊤};
+ghost use Rattle.std.specs.Prelude.{◌≡◌, ⊤};
 
+use crate::host_lines::{Devices, HostOpener, HostTeller, owned, paths_of};
 use crate::site::{Site, SiteFault};
-use crate::watch::{End, StopAt};
+use crate::watch::{DownWatch, End, StopAt};
 use daliframe::BusNumber;
 use invocations::LineWord;
-use linebus::LineBus;
+use linemend::{LineStarter, MendedLine};
 use liveclock::LiveClock;
 use std::alloc::{AllocError, Global};
-use std::fs::{File, OpenFile, OpenOptions};
-use std::io;
-use std::io::{BufReader, ErrorKind};
 use std::num::NonZeroU64;
 use std::rt::Files;
-use std::time::Clock as Timer;
+use std::sync::{Arc, Wait};
+use std::thread;
+use std::thread::Threads;
+use std::time::{Clock as Timer, Duration};
 
-/// The machine that a building runs on. No contract can say what is on its devices.
+/// The milliseconds in which lines greet before a building runs.
+const SETTLING: u32 = 1000;
+
+/// The milliseconds from one look at lines to the next.
+const LOOK: u32 = 10;
+
+/// The machine that a building runs on, with who opens its devices in the threads of lines. No
+/// contract can say what is on its devices.
 #[derive(Clone, Copy)]
-pub struct HostSite<'h, R> {
+pub struct HostSite<'h, R: Files + Wait + Timer + Drop, D: Drop> {
     pub rt: &'h R,
+    pub devices: &'h D,
+    pub starter: &'h LineStarter<R, R::File, HostOpener<D>>,
 }
 
-impl<'h, R: Files + Timer + Sync> Site for HostSite<'h, R>
+/// The bus behind a line of the machine.
+pub type HostLine<R> = MendedLine<R, <R as Files>::File, HostTeller<R>>;
+
+impl<
+    'h,
+    R: Files + Timer + Threads + Wait + Eprint + Clone + Send + Sync + Drop + 'static,
+    D: Devices<R::File> + Clone + Send + 'static,
+> Site for HostSite<'h, R, D>
 where
-    R::File: Send,
+    R::File: Send + 'static,
 {
-    type Line = LineBus<BufReader<R::File>, R::File>;
+    type Line = HostLine<R>;
 
     type Clock = LiveClock<&'h R, StopAt<'h, R>>;
 
     ghost refuses = { λ _ _ _. ⊤ };
+
+    ghost is_of = { λ _ _ _ _. ⊤ };
+
+    ghost is_timed = { λ _ clock _ until _. clock.until ≡ until };
+
+    fn line<'a>(
+        &self,
+        alloc: Global,
+        line: LineWord<'a>,
+        number: BusNumber,
+        patience: u32,
+        watch: &Arc<DownWatch>,
+    ) -> Result<Self::Line, AllocError> {
+        let opener = opener_of(alloc, self.devices, line)?;
+        let teller = teller_of(self.rt, alloc, line, Some(watch.clone()?))?;
+        let rt = self.rt.clone()?;
+        MendedLine::start(
+            alloc,
+            rt,
+            opener,
+            teller,
+            number,
+            u64::from(patience),
+            self.starter,
+        )
+    }
+
+    fn settle(&self, lines: &[Self::Line]) {
+        for _ in 0..SETTLING / LOOK {
+            if lines.iter().all(|line| line.is_settled()) {
+                return;
+            }
+            thread::sleep(self.rt, Duration::from_millis(u64::from(LOOK)));
+        }
+    }
 
     fn open<'a>(
         &self,
         alloc: Global,
         line: LineWord<'a>,
         number: BusNumber,
+        patience: u32,
     ) -> Result<Self::Line, SiteFault> {
-        let (from, to) = match ends_of(self.rt, alloc, line) {
-            Ok(ends) => ends,
-            Err(error) => return Err(reason(error.kind())),
-        };
-        LineBus::open(from, to, number).map_err(|_| SiteFault::Failed)
+        let opener = opener_of(alloc, self.devices, line)?;
+        let teller = teller_of(self.rt, alloc, line, None)?;
+        let rt = self.rt.clone()?;
+        let mut bus = MendedLine::start(
+            alloc,
+            rt,
+            opener,
+            teller,
+            number,
+            u64::from(patience),
+            self.starter,
+        )?;
+        for _ in 0..patience / LOOK {
+            if bus.is_settled() {
+                break;
+            }
+            thread::sleep(self.rt, Duration::from_millis(u64::from(LOOK)));
+        }
+        bus.begin();
+        if bus.is_in_step() {
+            Ok(bus)
+        } else {
+            Err(SiteFault::Failed)
+        }
     }
 
     fn clock<'a>(
@@ -64,46 +136,39 @@ where
     }
 }
 
-/// The text as a string of its own, if there is one.
-fn owned(alloc: Global, text: Option<&str>) -> Result<Option<String>, AllocError> {
-    match text {
-        Some(text) => Ok(Some(String::from_str(alloc, text)?)),
-        None => Ok(None),
-    }
+/// Who opens the line of a word.
+///
+/// # Errors
+///
+/// The allocator is out of memory.
+fn opener_of<D: Clone + Drop>(
+    alloc: Global,
+    devices: &D,
+    line: LineWord,
+) -> Result<HostOpener<D>, AllocError> {
+    Ok(HostOpener {
+        devices: devices.clone()?,
+        from: String::from_str(alloc, line.from)?,
+        to: owned(alloc, line.to)?,
+    })
 }
 
-/// The reader of a line, with a buffer, and its writer.
-fn ends_of<R: Files>(
+/// Who tells what becomes of the line of a word. Where it is one of a building, with this watch, a
+/// line on standard error says when it goes down and when it is up again.
+///
+/// # Errors
+///
+/// The allocator is out of memory.
+fn teller_of<R: Clone + Drop>(
     rt: &R,
     alloc: Global,
     line: LineWord,
-) -> io::Result<(BufReader<R::File>, R::File)> {
-    let (from, to) = match line.to {
-        Some(to) => two_files(rt, line.from, to)?,
-        None => both_ways(rt, line.from)?,
-    };
-    Ok((BufReader::new(alloc, from)?, to))
-}
-
-/// A device that is read and written.
-fn both_ways<R: Files>(rt: &R, path: &str) -> io::Result<(R::File, R::File)> {
-    let from = OpenOptions::new().read(true).write(true).open(rt, path)?;
-    let to = from.try_clone()?;
-    Ok((from, to))
-}
-
-/// A file that is read and one that is written, as the two of a pair of FIFOs. The one that is read
-/// is opened first.
-fn two_files<R: Files>(rt: &R, from: &str, to: &str) -> io::Result<(R::File, R::File)> {
-    let from = File::open(rt, from)?;
-    let to = OpenOptions::new().write(true).open(rt, to)?;
-    Ok((from, to))
-}
-
-/// Why a line isn't opened, by the kind of the error.
-fn reason(kind: ErrorKind) -> SiteFault {
-    match kind {
-        ErrorKind::OutOfMemory => SiteFault::Memory,
-        _ => SiteFault::Failed,
-    }
+    watch: Option<Arc<DownWatch>>,
+) -> Result<HostTeller<R>, AllocError> {
+    Ok(HostTeller {
+        rt: rt.clone()?,
+        bus: line.bus,
+        paths: paths_of(alloc, line)?,
+        watch,
+    })
 }

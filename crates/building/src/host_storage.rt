@@ -7,9 +7,16 @@ use std::fs::{File, OpenFile, OpenOptions};
 use std::io;
 use std::io::{Read, Write};
 use std::rt::Files;
+use std::sync::Wait;
 use std::time::Clock as Timer;
 
-impl<R: Files + Timer + Eprint> Storage for HostSite<'_, R> {
+/// The files, the standard error and the clock of the machine.
+#[derive(Clone, Copy)]
+pub struct HostStorage<'h, R> {
+    pub rt: &'h R,
+}
+
+impl<R: Files + Timer + Eprint> Storage for HostStorage<'_, R> {
     fn append(&self, path: &str, bytes: &[u8]) -> io::Result<u64> {
         let mut file = OpenOptions::new()
             .append(true)
@@ -49,6 +56,32 @@ impl<R: Files + Timer + Eprint> Storage for HostSite<'_, R> {
         let mut bytes = [0u8; 64];
         let count = file.read(&mut bytes).ok()?;
         resident(bytes.get(..count)?)
+    }
+}
+
+impl<R: Files + Wait + Timer + Eprint + Drop, D: Drop> Storage for HostSite<'_, R, D> {
+    fn append(&self, path: &str, bytes: &[u8]) -> io::Result<u64> {
+        HostStorage { rt: self.rt }.append(path, bytes)
+    }
+
+    fn replace(&self, alloc: Global, path: &str, bytes: &[u8], lasts: bool) -> io::Result<()> {
+        HostStorage { rt: self.rt }.replace(alloc, path, bytes, lasts)
+    }
+
+    fn rename(&self, from: &str, to: &str) -> io::Result<()> {
+        HostStorage { rt: self.rt }.rename(from, to)
+    }
+
+    fn tell(&self, text: &str) -> io::Result<()> {
+        HostStorage { rt: self.rt }.tell(text)
+    }
+
+    fn seconds(&self) -> u64 {
+        HostStorage { rt: self.rt }.seconds()
+    }
+
+    fn memory(&self) -> Option<u64> {
+        HostStorage { rt: self.rt }.memory()
     }
 }
 

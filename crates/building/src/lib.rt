@@ -7,7 +7,7 @@
 //! shows what is about to run. [`Building::go`] runs it and hands out what is left. [`HostSite`] is
 //! the machine's devices and its clock, and a [`DownWatch`] ends that clock where a bus goes down.
 //! The definitions to read first are `AreLinesOf` (specs/Lineups.antt), which words name the line
-//! of each bus, and `HasBeenRun` (specs/Buildings.antt), what a building comes to.
+//! of each bus, and `IsOpened` (specs/Buildings.antt), what a building is before it runs.
 //!
 //! ```text
 //! let building = open(alloc, &site, setup, &lines, &options)?;
@@ -18,6 +18,7 @@
 mod buildings;
 mod departure;
 mod host;
+mod host_lines;
 mod host_storage;
 mod lineup;
 mod site;
@@ -26,7 +27,10 @@ mod watch;
 
 pub use buildings::{Building, open};
 pub use departure::Departure;
-pub use host::HostSite;
+pub use host::{HostLine, HostSite};
+pub use host_lines::{Devices, HostDevices, HostOpener, HostTeller, hold_standard_files};
+pub use host_storage::HostStorage;
+pub use linemend::LineStarter;
 pub use lineup::LineupFault;
 pub use site::{Site, SiteFault};
 pub use stops::LiveStop;

@@ -1,11 +1,12 @@
 //! Where the buses and the clock of a building are.
 
-use crate::watch::End;
+use crate::watch::{DownWatch, End};
 use buslink::{Bus, Clock};
 use daliframe::BusNumber;
 use invocations::LineWord;
-use std::alloc::Global;
+use std::alloc::{AllocError, Global};
 use std::num::NonZeroU64;
+use std::sync::Arc;
 
 /// Why a line wasn't opened, or the clock wasn't made.
 #[derive(Clone, Copy, PartialEq, Eq, Debug)]
@@ -16,9 +17,16 @@ pub enum SiteFault {
     Failed,
 }
 
+impl From<AllocError> for SiteFault {
+    fn from(_refused: AllocError) -> Self {
+        SiteFault::Memory
+    }
+}
+
 /// Where the lines of buses are opened and the clock is made: a machine, or what stands for one.
 pub trait Site {
-    ghost use Rattle.std.specs.Prelude.{IfOk, IfErr};
+    ghost use Rattle.std.specs.Prelude.{ℕ, IfOk, IfErr, List, Option, option_map};
+    ghost use Rattle.std.specs.Int.NonZero.{non_zero_u64_get};
     ghost use Rattle.building.specs.Sites.{IsNewBus, IsNewClock};
     ghost use Rattle.invocations.specs.declared.line_words.LineWord.{LineWord};
     ghost use Rattle.building.specs.declared.site.SiteFault.{SiteFault};
@@ -30,8 +38,38 @@ pub trait Site {
     // The line of this word can't be opened, for this reason.
     ghost refuses: { Self → LineWord → SiteFault → Type 0 };
 
+    // The bus is behind the line of this word, whose interface may be silent for so many
+    // milliseconds.
+    ghost is_of: { Self → Self.Line → LineWord → ℕ → Type 0 };
+
+    // The clock gives a moment each so many milliseconds, none after this one, and none once there
+    // is a file at this path.
+    ghost is_timed: { Self → Self.Clock → ℕ → ℕ → Option (List ℕ) → Type 0 };
+
+    /// The bus behind a line, which begins to be opened and greeted beside: until it has greeted each
+    /// call fails. Nothing was sent or heard on the bus. The interface may be silent for so many
+    /// milliseconds. Once the clock of this watch came to its end, the bus hears no more frames than
+    /// an interface keeps.
+    ///
+    /// # Errors
+    ///
+    /// The allocator is out of memory.
+    fn line<'a>(
+        &self,
+        alloc: Global,
+        line: LineWord<'a>,
+        number: BusNumber,
+        patience: u32,
+        watch: &Arc<DownWatch>,
+    ) -> Result<Self::Line, AllocError>
+        ensures new { IfOk result (λ bus. IsNewBus number (Self.Line.log bus)) }
+        ensures of { IfOk result (λ bus. is_of self.now bus line.entry patience) };
+
+    /// Waits until each of these lines has greeted or failed, a second at most.
+    fn settle(&self, lines: &[Self::Line]);
+
     /// Opens the line of a bus and greets the interface at its other end. Nothing was sent or heard
-    /// on the bus.
+    /// on the bus. The interface may be silent for so many milliseconds, and so long it may take.
     ///
     /// # Errors
     ///
@@ -41,8 +79,10 @@ pub trait Site {
         alloc: Global,
         line: LineWord<'a>,
         number: BusNumber,
+        patience: u32,
     ) -> Result<Self::Line, SiteFault>
         ensures new { IfOk result (λ bus. IsNewBus number (Self.Line.log bus)) }
+        ensures of { IfOk result (λ bus. is_of self.now bus line.entry patience) }
         ensures refused { IfErr result (refuses self.now line.entry) };
 
     /// The clock, which gives a moment each so many milliseconds, until the end. It gave none yet.
@@ -56,5 +96,8 @@ pub trait Site {
         period: NonZeroU64,
         end: End<'a>,
     ) -> Result<Self::Clock, SiteFault>
-        ensures new { IfOk result (λ clock. IsNewClock (Self.Clock.log clock)) };
+        ensures new { IfOk result (λ clock. IsNewClock (Self.Clock.log clock)) }
+        ensures timed { IfOk result (λ clock. is_timed self.now clock
+            (non_zero_u64_get period) end.entry.until
+            (option_map (λ path. path.now) end.entry.stop)) };
 }

@@ -1,5 +1,7 @@
 //! What ends a building.
 
+ghost use Rattle.std.specs.Prelude.{◌≡◌};
+
 use liveclock::StopCondition;
 use std::fs;
 use std::rt::Files;
@@ -7,26 +9,30 @@ use std::sync::Arc;
 use std::sync::atomic::{AtomicBool, Ordering};
 use turns::{Gate, Happened};
 
-/// Whether a bus went down at which the building is to end.
+/// Whether a bus went down at which the building is to end, and whether its clock came to its end.
 #[derive(Drop)]
 pub struct DownWatch {
-    /// Whether the building stays where a bus goes down.
-    stays: bool,
+    /// Whether the building ends where a bus goes down.
+    pub ends: bool,
     is_over: AtomicBool,
+    has_ended: AtomicBool,
 }
 
 impl DownWatch {
     /// No bus went down yet.
-    pub fn new(stays: bool) -> DownWatch {
+    pub fn new(ends: bool) -> DownWatch
+        ensures { result.ends ≡ ends }
+    {
         DownWatch {
-            stays,
+            ends,
             is_over: AtomicBool::new(false),
+            has_ended: AtomicBool::new(false),
         }
     }
 
     /// A bus went down.
     pub fn note_down(&self) {
-        if !self.stays {
+        if self.ends {
             self.is_over.store(true, Ordering::Relaxed);
         }
     }
@@ -34,6 +40,18 @@ impl DownWatch {
     /// Whether a bus went down at which the building is to end.
     pub fn is_over(&self) -> bool {
         self.is_over.load(Ordering::Relaxed)
+    }
+}
+
+impl DownWatch {
+    /// The clock came to its end.
+    pub fn note_end(&self) {
+        self.has_ended.store(true, Ordering::Relaxed);
+    }
+
+    /// Whether the clock came to its end.
+    pub fn has_ended(&self) -> bool {
+        self.has_ended.load(Ordering::Relaxed)
     }
 }
 
@@ -68,12 +86,12 @@ pub struct End<'a> {
     pub until: u64,
     /// As soon as there is a file at this path.
     pub stop: Option<&'a str>,
-    /// As soon as a bus went down, unless the building stays.
+    /// As soon as a bus went down, if the building is to end then.
     pub watch: Arc<DownWatch>,
 }
 
 /// The end is wanted where there is a file at this path, if there is a path, and where a bus went
-/// down.
+/// down at which the building is to end.
 #[derive(Drop)]
 pub struct StopAt<'r, R> {
     pub rt: &'r R,
@@ -87,5 +105,9 @@ impl<R: Files> StopCondition for StopAt<'_, R> {
             Some(path) if fs::exists(self.rt, path.as_str()).unwrap_or(false) => true,
             _ => self.watch.is_over(),
         }
+    }
+
+    fn note_end(&self) {
+        self.watch.note_end();
     }
 }

@@ -10,7 +10,7 @@ use Rattle.gearcmd.specs.FrameLists.{FrameList}
 use Rattle.transact.specs.Marks.{outcome_of}
 use Rattle.transact.specs.Attempts.{Attempt, IsAttempt, IsReport, ReportParts, Spells, marks_of}
 use Rattle.transact.specs.Attempts.{sent_with, all_sent, last_mark}
-use Rattle.buslink.specs.BusLog.{BusLog, one_more_failure}
+use Rattle.buslink.specs.BusLog.{BusLog, one_more}
 use Rattle.buslink.specs.Performing.{failures_after, after_report}
 
 -- what holds of each mark holds of the mark of each frame
@@ -52,9 +52,9 @@ in_report list (suc retries) (a ∷ b ∷ more) Q h last =
 
 pub failed_where_risen : (list : FrameList) (most : ℕ) (marks : List Mark) (r : ReportParts) (old new : BusLog)
     → Spells list most marks r → new ≡ after_report r new.spare old
-    → All (λ (s : Sent). s.mark ≡ Failed → new.failures ≡ one_more_failure old.failures) r.attempts
+    → All (λ (s : Sent). s.mark ≡ Failed → new.failures ≡ one_more old.failures) r.attempts
 failed_where_risen list most marks r old new s told =
-    let risen : last_mark s.attempts ≡ Failed → new.failures ≡ one_more_failure old.failures = λ failed.
+    let risen : last_mark s.attempts ≡ Failed → new.failures ≡ one_more old.failures = λ failed.
     ap (λ (log : BusLog). log.failures) told ∙ ap (λ o. failures_after o old.failures)
     (s.outcome ∙ ap outcome_of failed) in
-    rw s.sent (in_report list (most - 1) s.attempts (new.failures ≡ one_more_failure old.failures) s.legal risen)
+    rw s.sent (in_report list (most - 1) s.attempts (new.failures ≡ one_more old.failures) s.legal risen)

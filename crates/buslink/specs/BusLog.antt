@@ -34,10 +34,14 @@ pub record BusLog : Type 0 where
   pub hears : ℕ
   -- whether the last of those calls found that nothing had come
   pub heard_none : Bool
+  -- how often the bus was taken up again, modulo 2^64
+  pub mends : ℕ
+  -- whether its interface answers again, and it was not taken up yet
+  pub is_mended : Bool
 
--- one fault more
-abbrev pub one_more_failure : ℕ → ℕ
-one_more_failure failures = (failures + 1) % 2 ^ 64
+-- one more, counted modulo 2^64
+abbrev pub one_more : ℕ → ℕ
+one_more count = (count + 1) % 2 ^ 64
 
 -- one call more that heard
 abbrev pub one_more_hear : ℕ → ℕ
@@ -59,7 +63,7 @@ with_sent frame priority mark log = record log {
 abbrev pub after_send : Frame → ℕ → Result Reply Fault → BusLog → BusLog
 after_send frame priority (Ok reply) log = with_sent frame priority (mark_of reply) log
 after_send frame priority (Err fault) log =
-    record (with_sent frame priority Failed log) { failures = one_more_failure log.failures }
+    record (with_sent frame priority Failed log) { failures = one_more log.failures }
 
 -- the bus after a call that heard: only a frame is added and takes one of the spare places, and only a fault counts as
 -- a failure
@@ -72,10 +76,18 @@ after_hear (Ok (Some frame)) log = record log {
 }
 after_hear (Ok None) log = record log { hears = one_more_hear log.hears; heard_none = true }
 after_hear (Err fault) log = record log {
-  failures = one_more_failure log.failures;
+  failures = one_more log.failures;
   hears = one_more_hear log.hears;
   heard_none = false;
 }
+
+-- the bus after it was asked whether its interface answers again: that answer is kept, and nothing else changes
+abbrev pub after_mend : Bool → BusLog → BusLog
+after_mend answers log = record log { is_mended = answers }
+
+-- the bus after it was taken up again, which counts: whether its interface answers is to be asked anew
+abbrev pub after_resume : BusLog → BusLog
+after_resume log = record log { mends = one_more log.mends; is_mended = false }
 
 -- the same but for the spare places
 abbrev pub with_spare : ℕ → BusLog → BusLog

@@ -3,13 +3,13 @@ use Rattle.std.specs.Prelude.{ℕ, ◌++◌}
 use Rattle.transact.specs.declared.marks.Outcome.{Outcome}
 use Rattle.transact.specs.declared.marks.Outcome.TheVariants as outcome
 use Rattle.transact.specs.Attempts.{ReportParts}
-use Rattle.buslink.specs.BusLog.{BusLog, one_more_failure}
+use Rattle.buslink.specs.BusLog.{BusLog, one_more}
 
 -- the failures after a transaction: only one that failed met a fault, and one fault ends it
 abbrev pub failures_after : Outcome → ℕ → ℕ
 failures_after (outcome.Done reply) failures = failures
 failures_after outcome.GaveUp failures = failures
-failures_after outcome.Failed failures = one_more_failure failures
+failures_after outcome.Failed failures = one_more failures
 
 -- the bus after a transaction with this report, with so many spare places: its frames were sent, and nothing was heard
 abbrev pub after_report : ReportParts → ℕ → BusLog → BusLog

@@ -8,7 +8,7 @@ use Rattle.transact.specs.declared.marks.Reply.{Reply}
 use Rattle.transact.specs.declared.marks.Sent.{Sent}
 use Rattle.transact.specs.Attempts.{Attempt, IsAttempt, IsReport, marks_of, all_marks, sent_with, all_sent, last_mark}
 use Rattle.buslink.specs.declared.faults.Fault.{Fault}
-use Rattle.buslink.specs.BusLog.{BusLog, one_more_failure, mark_of_send, after_send}
+use Rattle.buslink.specs.BusLog.{BusLog, one_more, mark_of_send, after_send}
 
 -- the failures after frames of which the last has this mark, and no other failed
 abbrev pub failures_with : Mark → ℕ → ℕ
@@ -16,7 +16,7 @@ failures_with mark.Quiet failures = failures
 failures_with (mark.Answer byte) failures = failures
 failures_with mark.Damaged failures = failures
 failures_with mark.Lost failures = failures
-failures_with mark.Failed failures = one_more_failure failures
+failures_with mark.Failed failures = one_more failures
 
 -- the bus after these frames were sent, of which the last has this mark and no other failed
 abbrev pub after_frames : List Sent → Mark → BusLog → BusLog

@@ -1,6 +1,7 @@
 //! What the controller asks of a bus interface.
-ghost use Rattle.std.specs.Prelude.{◌≡◌, ◌<◌, ◌≤◌, IsOk, OnOk};
+ghost use Rattle.std.specs.Prelude.{◌≡◌, ◌<◌, ◌≤◌, IsOk, OnOk, true};
 ghost use Rattle.buslink.specs.BusLog.{TellsAll, after_send, after_hear, with_spare};
+ghost use Rattle.buslink.specs.BusLog.{after_mend, after_resume};
 
 use crate::Fault;
 use daliframe::{Frame, Frame24};
@@ -8,8 +9,9 @@ use std::alloc::AllocError;
 use transact::Reply;
 
 /// A bus interface, with its number, what comes on it where that is known, and what became of it so
-/// far: the frames that were sent and heard, and how often it failed and heard. The two lists grow
-/// in `room` alone; `send` and `hear` take no memory. No call changes the number or what comes.
+/// far: the frames that were sent and heard, and how often it failed, heard and was taken up again.
+/// The two lists grow in `room` alone; `send` and `hear` take no memory. No call changes the number
+/// or what comes.
 pub trait Bus: Drop {
     ghost use Rattle.buslink.specs.BusLog.{BusLog};
 
@@ -47,6 +49,16 @@ pub trait Bus: Drop {
         requires { 0 < (log self.old).spare }
         ensures logged { log self.new ≡ after_hear result (log self.old) }
         ensures all { TellsAll result (log self.old) };
+
+    /// Whether the interface of a bus that is down answers again. The call never waits: where the
+    /// bus cannot tell yet, it answers false.
+    fn mend(&mut self) -> bool
+        ensures { log self.new ≡ after_mend result (log self.old) };
+
+    /// Takes the bus up again, once the history says that it is up.
+    fn resume(&mut self)
+        requires { (log self.old).is_mended ≡ true }
+        ensures { log self.new ≡ after_resume (log self.old) };
 }
 
 /// A call goes to the bus in the box, and what became of that one became of the box.
@@ -63,5 +75,13 @@ impl Bus for Box<dyn Bus + Send> {
 
     fn hear(&mut self) -> Result<Option<Frame24>, Fault> {
         (**self).hear()
+    }
+
+    fn mend(&mut self) -> bool {
+        (**self).mend()
+    }
+
+    fn resume(&mut self) {
+        (**self).resume();
     }
 }

@@ -4,7 +4,7 @@ ghost use Rattle.arrayvec.specs.ArrayVec.{array_vec_len};
 ghost use Rattle.gearcmd.specs.FrameLists.{most_frames};
 ghost use Rattle.limits.specs.Limits.{AreTries};
 ghost use Rattle.transact.specs.Attempts.{IsReportParts, most_sent};
-ghost use Rattle.buslink.specs.BusLog.{one_more_failure};
+ghost use Rattle.buslink.specs.BusLog.{one_more};
 ghost use Rattle.buslink.specs.Performing.{after_report};
 ghost use Rattle.buslink.specs.PerformingSteps.{IsSent, IsTriedOnce, IsTried};
 
@@ -29,7 +29,7 @@ pub fn perform<B: Bus>(bus: &mut B, transaction: &Transaction, tries: u8) -> Rep
         ≤ (B.log bus.new).spare + length result.attempts }
     ensures failed { All
         (λ frame. frame.mark ≡ Mark.Failed
-        → (B.log bus.new).failures ≡ one_more_failure (B.log bus.old).failures)
+        → (B.log bus.new).failures ≡ one_more (B.log bus.old).failures)
         result.attempts }
 {
     let mut marks = ArrayVec::new();

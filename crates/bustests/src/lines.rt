@@ -3,7 +3,9 @@
 
 use buslink::{Bus, Fault};
 use daliframe::{BusNumber, Frame, Frame16, Frame24};
-use linebus::LineBus;
+use linebus::{Greeted, LineBus};
+use std::io;
+use std::io::{ErrorKind, Read};
 use std::test::Fail;
 use transact::Reply;
 
@@ -12,14 +14,14 @@ use transact::Reply;
 type Row = (&'static [u8], &'static [u8], usize);
 
 /// The greeting and the three requests.
-const ASKED: &[u8] = b"gushewa 1\nsend 2 0A80\nsend 5 0BA0\nhear\n";
+const ASKED: &[u8] = b"gushewa 2 5\nsend 2 0A80\nsend 5 0BA0\nhear\n";
 
 /// Where the first, the second and the third request end.
-const ONE: usize = 22;
+const ONE: usize = 24;
 
-const TWO: usize = 34;
+const TWO: usize = 36;
 
-const ALL: usize = 39;
+const ALL: usize = 41;
 
 const ROWS: [Row; 19] = [
     (b"quiet\nanswer 128\nnone\n", b"qan", ALL),
@@ -41,20 +43,61 @@ const ROWS: [Row; 19] = [
     (b"quiet\nquiet\nnon", b"qqf", ALL),
     (b"", b"fff", ONE),
     (
-        b"quiet quiet quiet quiet quiet quiet\nquiet\nnone\n",
+        b"quiet quiet quiet quiet quiet quiet quiet quiet quiet quiet quiet\nquiet\nnone\n",
         b"fff",
         ONE,
     ),
 ];
 
-/// What an interface may say in place of the greeting.
-const GREETINGS: [&[u8]; 5] = [
-    b"gushewa 2\n",
-    b"gushewa 1",
+/// What an interface may say in place of the answer to the greeting of number 5: among it an answer
+/// to an earlier greeting, an echo, and the greeting of version 1 that nobody asked for.
+const NO_ANSWERS: [&[u8]; 8] = [
+    b"gushewa 2 hears 4\n",
+    b"gushewa 2 5\n",
+    b"gushewa 2 hears 5",
+    b"gushewa 1\ngushewa 1\n",
+    b"fault\n",
     b"",
     b"quiet\n",
-    b"GUSHEWA 1\n",
+    b"GUSHEWA 2 hears 5\n",
 ];
+
+/// What an interface of version 1 says up to where it is silent and from there on, and whether it has
+/// greeted then.
+const PLAIN: [(&[u8], &[u8], bool); 7] = [
+    (b"fault\n", b"gushewa 1\n", true),
+    (
+        b"none\nquiet\nfault\nnone\ngushewa 1\n",
+        b"gushewa 1\n",
+        true,
+    ),
+    (b"fault\ngushewa 1\n", b"none\ngushewa 1\n", false),
+    (b"fault\ngushewa 1\n", b"gushewa 2 hears 5\n", false),
+    (b"gushewa 1\n", b"gushewa 1\n", false),
+    (b"fault 1\n", b"gushewa 1\n", false),
+    (b"fault\n", b"", false),
+];
+
+/// A reader of two parts, between which it is silent once.
+#[derive(Drop)]
+struct Pausing {
+    first: &'static [u8],
+    was_silent: bool,
+    second: &'static [u8],
+}
+
+impl Read for Pausing {
+    fn read(&mut self, buf: &mut [u8]) -> io::Result<usize> {
+        if !self.first.is_empty() {
+            return self.first.read(buf);
+        }
+        if !self.was_silent {
+            self.was_silent = true;
+            return Err(io::Error::from(ErrorKind::TimedOut));
+        }
+        self.second.read(buf)
+    }
+}
 
 /// The letter of what became of a frame.
 fn sent(reply: Result<Reply, Fault>) -> u8 {
@@ -80,17 +123,20 @@ fn heard(message: Result<Option<Frame24>, Fault>) -> u8 {
 fn each_answer_is_read_as_its_row_says(rt: HostRuntime) -> Result<(), Fail> {
     for (says, letters, asked) in ROWS {
         let mut lines = Vec::new(rt.alloc());
-        lines.extend_from_slice(b"gushewa 1\n")?;
+        lines.extend_from_slice(b"none\ngushewa 2 5\ngushewa 2 hears 5\n")?;
         lines.extend_from_slice(says)?;
         let to = Vec::<u8>::new(rt.alloc());
-        let Ok(mut bus) = LineBus::open(lines.as_slice(), to, BusNumber::default()) else {
+        let Ok(greeted) = Greeted::greet(lines.as_slice(), to, 5) else {
             return Err(Fail::from("a greeting"));
         };
+        let mut bus = LineBus::over(greeted, BusNumber::default());
         bus.room(3)?;
         let level = sent(bus.send(Frame::Forward16(Frame16::new(0x0A80)), 2));
         let query = sent(bus.send(Frame::Forward16(Frame16::new(0x0BA0)), 5));
         let came = heard(bus.hear());
-        let (_, to) = bus.into_ends();
+        let Some((_, to)) = bus.let_go() else {
+            return Err(Fail::from("the ends"));
+        };
         assert!(rt; [level, query, came].as_slice() == letters, "{says:?}");
         assert!(rt; Some(to.as_slice()) == ASKED.get(..asked), "{says:?}");
     }
@@ -98,10 +144,42 @@ fn each_answer_is_read_as_its_row_says(rt: HostRuntime) -> Result<(), Fail> {
 }
 
 #[test]
-fn another_greeting_is_refused(rt: HostRuntime) -> Result<(), Fail> {
-    for greeting in GREETINGS {
+fn what_is_no_answer_is_refused(rt: HostRuntime) -> Result<(), Fail> {
+    for says in NO_ANSWERS {
         let to = Vec::<u8>::new(rt.alloc());
-        assert!(rt; LineBus::open(greeting, to, BusNumber::default()).is_err());
+        assert!(rt; Greeted::greet(says, to, 5).is_err(), "{says:?}");
     }
+    Ok(())
+}
+
+#[test]
+fn version_1_is_greeted_after_silence(rt: HostRuntime) -> Result<(), Fail> {
+    for (first, second, has_greeted) in PLAIN {
+        let from = Pausing {
+            first,
+            was_silent: false,
+            second,
+        };
+        let to = Vec::<u8>::new(rt.alloc());
+        let greeted = Greeted::greet(from, to, 5);
+        assert!(rt; greeted.is_ok() == has_greeted, "{first:?} {second:?}");
+    }
+    Ok(())
+}
+
+#[test]
+fn a_bus_fails_until_its_line_is_renewed(rt: HostRuntime) -> Result<(), Fail> {
+    let mut bus = LineBus::absent(BusNumber::default());
+    bus.room(3)?;
+    assert!(rt; bus.hear().is_err() && !bus.mend());
+    let lines: &[u8] = b"gushewa 2 hears 5\nnone\nnone\n";
+    let Ok(greeted) = Greeted::greet(lines, Vec::<u8>::new(rt.alloc()), 5) else {
+        return Err(Fail::from("a greeting"));
+    };
+    bus.renew(greeted);
+    assert!(rt; bus.mend());
+    bus.resume();
+    assert!(rt; bus.hear().is_ok() && !bus.mend());
+    assert!(rt; bus.let_go().is_some() && bus.hear().is_err());
     Ok(())
 }

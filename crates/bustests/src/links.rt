@@ -1,6 +1,6 @@
 //! Transactions on a bus of another kind than the simulated one, in a box, and the moments of a
 //! clock in a box. What is sent is printed nowhere with its priority, so it is compared here.
-ghost use Rattle.std.specs.Prelude.{◌≡◌, ◌+◌, ◌≤◌, [], None};
+ghost use Rattle.std.specs.Prelude.{◌≡◌, ◌+◌, ◌≤◌, [], None, false};
 ghost use Rattle.arrayvec.specs.ArrayVec.{array_vec_len};
 
 use arrayvec::ArrayVec;
@@ -72,6 +72,8 @@ impl Bus for ScriptedBus {
       failures = b.failures;
       hears = b.hears;
       heard_none = b.heard_none;
+      mends = 0;
+      is_mended = false;
     } };
 
     fn room(&mut self, frames: usize) -> Result<(), AllocError> {
@@ -114,6 +116,14 @@ impl Bus for ScriptedBus {
         self.hears = self.hears.saturating_add(1);
         self.heard_none = true;
         Ok(None)
+    }
+
+    fn mend(&mut self) -> bool {
+        false
+    }
+
+    fn resume(&mut self) {
+        unreachable!()
     }
 }
 

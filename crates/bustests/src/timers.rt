@@ -2,7 +2,7 @@
 //! sleeps, and when it ends.
 
 use buslink::Clock;
-use liveclock::{LiveClock, NoStop, StopCondition, StopFile};
+use liveclock::{LiveClock, NoStop, StopCondition};
 use std::cell::Cell;
 use std::io;
 use std::num::NonZeroU64;
@@ -106,15 +106,4 @@ fn it_ends_where_its_timer_fails(rt: HostRuntime) -> Result<(), Fail> {
     assert!(rt; clock.now().is_none());
     assert!(rt; LiveClock::new(&timer, period().ok_or("a period")?, 1000, NoStop).is_err());
     Ok(())
-}
-
-#[test]
-fn a_file_that_is_there_stops_a_clock(rt: HostRuntime) {
-    let here = StopFile { rt: &rt, path: "/" };
-    let nowhere = StopFile {
-        rt: &rt,
-        path: "/no such folder/stop",
-    };
-    assert!(rt; here.is_wanted());
-    assert!(rt; !nowhere.is_wanted());
 }

@@ -7,7 +7,7 @@ use Rattle.invocations.proofs.WatchedLists.{seventeen}
 use Rattle.invocations.specs.Invocations.{IsOfFault, expected_words, line_word, line_words, watched_words}
 use Rattle.invocations.specs.LineWords.{ArePaths, IsNoPath}
 use Rattle.invocations.specs.declared.line_words.LineWordFault.{LineWordFault}
-use Rattle.invocations.specs.declared.line_words.LineWordFault.TheVariants.{Again, NoLine}
+use Rattle.invocations.specs.declared.line_words.LineWordFault.TheVariants.{Again, NoLine, Shared}
 use Rattle.invocations.specs.declared.word_fault.WordFault.{WordFault}
 use Rattle.invocations.specs.declared.word_fault.WordFault.TheVariants.{Expected, Line, Watched}
 use Rattle.commandline.specs.CommandLine.{HasWrongValue}
@@ -16,6 +16,7 @@ no_path : (text : Text) (fault : LineWordFault) → IsNoPath text fault → (fro
     → ¬ ArePaths text from to
 no_path text (NoLine word) is = is.1
 no_path text (Again word) is = absurd is
+no_path text (Shared word) is = absurd is
 
 pub fault_is_wrong : (name : Text) (found : List Row) (fault : WordFault) → IsOfFault name found fault
     → HasWrongValue name found

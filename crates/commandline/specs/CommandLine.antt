@@ -1,11 +1,11 @@
 -- The command line (profile): `check FILE [--bind FILE]`, `check --code FILE`, `step FILE TASK [--bind FILE] [--scans N]
 -- [--every MS]`, `play TEXT BIND SCENARIO [--limit N] [--names] [--expect NAME=VALUE].. [--watch NAME]..`,
 -- `run TEXT BIND SCENARIO [--limit N] [--workers W]`,
--- `live TEXT BIND --line B=PATH.. [--period MS] [--for SECONDS] [--stop PATH] [--limit N] [--workers W] [--stay]
--- [--log FILE] [--log-size BYTES] [--record FILE] [--status FILE] [--json] [--keep FILE]`,
--- `probe --line PATH [TEXT BIND] [--bus B]`,
--- `listen --line PATH [--bind FILE] [--bus B] [--record FILE] [--for SECONDS] [--stop PATH]`, `blink --line PATH ADR`,
--- `ask --line PATH REQUEST ADR [VALUE] [VALUE2]`,
+-- `live TEXT BIND --line B=PATH.. [--period MS] [--for SECONDS] [--stop PATH] [--limit N] [--workers W] [--patience MS]
+-- [--end-on-down] [--stay] [--log FILE] [--log-size BYTES] [--record FILE] [--status FILE] [--json] [--keep FILE]`,
+-- `probe --line PATH [--patience MS] [TEXT BIND] [--bus B]`,
+-- `listen --line PATH [--patience MS] [--bind FILE] [--bus B] [--record FILE] [--for SECONDS] [--stop PATH]`,
+-- `blink --line PATH [--patience MS] ADR`, `ask --line PATH [--patience MS] REQUEST ADR [VALUE] [VALUE2]`,
 -- `look TEXT BIND SCENARIO [--text] [--out FILE] [--bus B] [--from MS] [--to MS] [--watch NAME]..`,
 -- `look TEXT SCENARIO --bind FILE ..`,
 -- `notes FILE [--bind FILE]`, `list FILE [TASK] [--bind FILE]`, `explain FILE [SCENARIO] [--bind FILE]`,
@@ -115,13 +115,19 @@ live_time =
 
 abbrev pub live_size : App
 live_size =
-    with_rule (with_rule (with_rule live_time (number_option (codes "limit") 100 1000000))
-    (number_option (codes "workers") 1 16))
-    (flag (codes "stay"))
+    with_rule (with_rule live_time (number_option (codes "limit") 100 1000000)) (number_option (codes "workers") 1 16)
+
+-- how long a line may be silent
+abbrev pub patience_option : Rule
+patience_option = number_option (codes "patience") 100 60000
+
+abbrev pub live_downs : App
+live_downs =
+    with_rule (with_rule (with_rule live_size patience_option) (flag (codes "end-on-down"))) (flag (codes "stay"))
 
 abbrev pub live_log : App
 live_log =
-    with_rule (with_rule live_size (option (codes "log"))) (number_option (codes "log-size") 10000 4000000000)
+    with_rule (with_rule live_downs (option (codes "log"))) (number_option (codes "log-size") 10000 4000000000)
 
 abbrev pub live_command : App
 live_command =
@@ -131,7 +137,7 @@ live_command =
 
 -- a command of this name at one line
 abbrev pub at_line : Text → App
-at_line name = with_rule (new_app name) (wanted_option (codes "line"))
+at_line name = with_rule (with_rule (new_app name) (wanted_option (codes "line"))) patience_option
 
 abbrev pub probe_command : App
 probe_command =
@@ -312,8 +318,8 @@ WritesOverInput name found =
     × ((out : Text) × (first_of (codes "OUT") found ≡ Some out)
     × ((first_of (codes "FILE") found ≡ Some out) ⊎ (first_of (codes "bind") found ≡ Some out)))
 
--- what was found names no lines: under `live` a word is none, or names a bus that another one names; at one line the
--- word is neither a path nor two
+-- what was found names no lines: under `live` a word is none, or names a bus or a path that another one names; at one
+-- line the word is neither a path nor two
 abbrev pub NamesNoLines : Text → List Row → Type 0
 NamesNoLines name found =
     ((name ≡ codes "live") × ((lines : List LineWord) → ¬ AreLines (line_words found) lines))

@@ -11,14 +11,18 @@ use crate::words::{Word, argument};
 use clap::Command;
 use std::alloc::{AllocError, Global};
 
-/// The program with these commands.
-pub(crate) fn program_of<'a>(
+/// The line with these commands more.
+pub(crate) fn extended<'a>(
     alloc: Global,
+    begun: Command<'a>,
     commands: &[Subcommand],
 ) -> Result<Command<'a>, AllocError>
-    ensures { IfOk result (λ c. app_of c ≡ with_commands program commands.now) }
+    requires local { (out-Command begun).has_globals ≡ false }
+    ensures shape { (line : App) → app_of begun.entry ≡ line
+        → IfOk result (λ c. app_of c ≡ with_commands line commands.now) }
+    ensures local { IfOk result (λ c. (out-Command c).has_globals ≡ false) }
 {
-    let mut line = program(alloc);
+    let mut line = begun;
     for command in commands {
         line = beside(line, command_of(alloc, *command))?;
     }
@@ -26,7 +30,7 @@ pub(crate) fn program_of<'a>(
 }
 
 /// The program with no command, of which one must be given.
-fn program<'a>(alloc: Global) -> Command<'a>
+pub(crate) fn program<'a>(alloc: Global) -> Command<'a>
     ensures shape { app_of result ≡ program }
     ensures local { (out-Command result).has_globals ≡ false }
 {

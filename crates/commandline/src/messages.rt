@@ -103,7 +103,8 @@ fn watched(alloc: Global, name: &str, fault: WatchedFault) -> Result<Error, Allo
     command_of(alloc, command)?.error(ErrorKind::ValueValidation, message.as_str())
 }
 
-/// The fault of a word that names no line, or a second one of a bus, under the command's name.
+/// The fault of a word that names no line, or a second one of a bus or of a path, under the command's
+/// name.
 fn no_line(alloc: Global, name: &str, fault: LineWordFault) -> Result<Error, AllocError>
     ensures { IfOk result (λ error. kind_of error ≡ ErrorKind.ValueValidation) }
 {
@@ -113,6 +114,7 @@ fn no_line(alloc: Global, name: &str, fault: LineWordFault) -> Result<Error, All
         }
         LineWordFault::NoLine(word) => (word, "not PATH or FROM,TO"),
         LineWordFault::Again(word) => (word, "another line has this bus"),
+        LineWordFault::Shared(word) => (word, "another line has this path"),
     };
     let value = if name == "live" { "B=PATH" } else { "PATH" };
     let message = format!(in alloc; "invalid value '{word}' for '--line <{value}>': {reason}")?;

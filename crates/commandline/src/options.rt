@@ -1,15 +1,17 @@
 //! The command line, read with `clap`.
 
-ghost use Rattle.std.specs.Prelude.{◌≡◌, ◌⊎◌, IfErr, IfOk, map, string_bytes};
+ghost use Rattle.std.specs.Prelude.{◌≡◌, ◌⊎◌, IfErr, IfOk, false, map, string_bytes};
 ghost use Rattle.clap.specs.Words.{app_of, found_of, kind_of, rows_of};
+ghost use Rattle.clap.specs.declared.builder.command.Command.TheViews.{out-Command};
 ghost use Rattle.invocations.specs.Invocations.{IsOfCommand};
 ghost use Rattle.commandline.specs.CommandLine.{AreTaken, HasWrongValue, IsAtFault, IsConflicting};
-ghost use Rattle.commandline.specs.CommandLine.{IsInvocation, IsLacking, command_line};
+ghost use Rattle.commandline.specs.CommandLine.{IsInvocation, IsLacking, command_line, live_line};
+ghost use Rattle.commandline.specs.CommandLine.{look_line};
 
-use crate::builders::program_of;
+use crate::builders::{extended, program};
 use crate::checks::{is_conflicting, is_lacking, writes_over_input};
 use crate::messages::{conflict, lack, overwriting, wrong_word};
-use crate::tables::COMMANDS;
+use crate::tables::{ASKING, LOOKING, RUNNING};
 use clap::error::ErrorKind;
 use clap::{ArgMatches, Command, Error};
 use invocations::{Invocation, invocation_of};
@@ -22,8 +24,8 @@ use std::alloc::{AllocError, Global};
 /// What `clap` says of words that spell none, and the help or the version where it is asked for; or
 /// that a binding is named beside a code file, or twice; or a text without its binding or its
 /// scenario; or that the code file would be written over the text or the binding; or that a word
-/// names no line, or a bus that another one names; or that a word says nothing that is expected, or
-/// is one too many; or that a name that is watched is one too many.
+/// names no line, or a bus or a path that another one names; or that a word says nothing that is
+/// expected, or is one too many; or that a name that is watched is one too many.
 pub fn read<'a>(alloc: Global, words: &'a [String]) -> Result<Invocation<'a>, Error>
     // Exactly the words that the command line takes are taken, unless memory is refused,
     ensures taken { AreTaken (map (λ word. string_bytes word) words.entry.now) result }
@@ -75,5 +77,24 @@ fn invocation<'a>(
 fn command<'a>(alloc: Global) -> Result<Command<'a>, AllocError>
     ensures { IfOk result (λ c. app_of c ≡ command_line) }
 {
-    program_of(alloc, &COMMANDS)
+    let line = looking(alloc)?;
+    extended(alloc, line, &ASKING)
+}
+
+/// The line with the commands up to the one for a picture.
+fn looking<'a>(alloc: Global) -> Result<Command<'a>, AllocError>
+    ensures shape { IfOk result (λ c. app_of c ≡ look_line) }
+    ensures local { IfOk result (λ c. (out-Command c).has_globals ≡ false) }
+{
+    let line = running(alloc)?;
+    extended(alloc, line, &LOOKING)
+}
+
+/// The line with the commands that check and run texts.
+fn running<'a>(alloc: Global) -> Result<Command<'a>, AllocError>
+    ensures shape { IfOk result (λ c. app_of c ≡ live_line) }
+    ensures local { IfOk result (λ c. (out-Command c).has_globals ≡ false) }
+{
+    let line = program(alloc);
+    extended(alloc, line, &RUNNING)
 }

@@ -103,6 +103,14 @@ const SECONDS: Word = Word::Number(
 
 const STOP: Word = Word::Valued("stop", "PATH", "Ends once there is a file at this path");
 
+const PATIENCE: Word = Word::Number(
+    "patience",
+    "MS",
+    100,
+    60_000,
+    "Milliseconds that a line may be silent before its bus goes down, 100 to 60000 [default: 5000]",
+);
+
 const LOG_SIZE: Word = Word::Number(
     "log-size",
     "BYTES",
@@ -167,7 +175,12 @@ pub(crate) const LIVE: Subcommand = Subcommand {
         STOP,
         EVENTS,
         WORKERS,
-        Word::Flag("stay", "Goes on where a bus has gone down"),
+        PATIENCE,
+        Word::Flag("end-on-down", "Ends where a bus has gone down"),
+        Word::Flag(
+            "stay",
+            "Has no effect, since a building goes on where a bus has gone down",
+        ),
         Word::Valued(
             "log",
             "FILE",
@@ -198,6 +211,7 @@ pub(crate) const PROBE: Subcommand = Subcommand {
     about: "Asks each address of one line and prints what is there",
     words: &[
         PATH,
+        PATIENCE,
         Word::Optional(
             "TEXT",
             "The text of the programs, which the line is compared with",
@@ -212,6 +226,7 @@ pub(crate) const LISTEN: Subcommand = Subcommand {
     about: "Prints the events of one line as they come",
     words: &[
         PATH,
+        PATIENCE,
         Word::Valued(
             "bind",
             "FILE",
@@ -233,6 +248,7 @@ pub(crate) const BLINK: Subcommand = Subcommand {
     about: "Blinks one control gear of one line",
     words: &[
         PATH,
+        PATIENCE,
         Word::WantedNumber("ADR", 0, 63, "The short address, 0 to 63"),
     ],
 };
@@ -242,6 +258,7 @@ pub(crate) const ASK: Subcommand = Subcommand {
     about: "Makes one request to one line and prints the answer",
     words: &[
         PATH,
+        PATIENCE,
         Word::Wanted(
             "REQUEST",
             "The function block that makes it, such as GEAR_ASK",
@@ -352,8 +369,12 @@ const EVENT: Subcommand = Subcommand {
     ],
 };
 
-/// The commands, in the order of the help.
-pub(crate) const COMMANDS: [Subcommand; 16] = [
-    CHECK, STEP, PLAY, RUN, LIVE, PROBE, LISTEN, BLINK, ASK, LOOK, NOTES, LIST, EXPLAIN, CODE,
-    FRAME, EVENT,
-];
+/// The commands that check and run texts: the first of the help. Its commands stand in three tables,
+/// since a proof of one table takes the square of its words.
+pub(crate) const RUNNING: [Subcommand; 5] = [CHECK, STEP, PLAY, RUN, LIVE];
+
+/// The commands behind them, at one line and for a picture.
+pub(crate) const LOOKING: [Subcommand; 5] = [PROBE, LISTEN, BLINK, ASK, LOOK];
+
+/// The last commands of the help.
+pub(crate) const ASKING: [Subcommand; 6] = [NOTES, LIST, EXPLAIN, CODE, FRAME, EVENT];

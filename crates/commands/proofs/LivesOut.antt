@@ -13,13 +13,14 @@ use Rattle.plantload.specs.MeantScans.{AreAsMeant}
 use Rattle.plant.specs.Shown.{plant_of}
 use Rattle.plantlive.specs.declared.living.Lived.{Lived}
 use Rattle.plantlive.specs.Lives.{HasLived}
+use Rattle.invocations.specs.declared.invocations.LiveOptions.{LiveOptions}
 use Rattle.invocations.specs.declared.invocations.RunSize.{RunSize}
 use Rattle.invocations.specs.declared.line_words.LineWord.{LineWord}
 use Rattle.building.specs.declared.buildings.Building.{Building}
 use Rattle.building.specs.Buildings.{IsOpened}
 use Rattle.commands.specs.declared.beginning.Beginning.{Beginning}
 use Rattle.commands.specs.Beginnings.{HasBegun, IsBegunWith, tree_of}
-use Rattle.commands.specs.Buildings.{IsLivedOut}
+use Rattle.commands.specs.Buildings.{IsLivedOut, OfLine, TimedAs}
 use Rattle.commands.proofs.PlaysOut.{ScansAreAsMeant}
 
 -- what the law of scans says of a setup that begins with kept values
@@ -37,13 +38,15 @@ meant_of wiring text (Some kept) setup begun p h law kept_law plan legal =
     kept_law wiring text kept setup begun p h plan legal
 
 pub lived_out : {B C : Type 0} (binding text : List ℕ) (file : Option (List ℕ)) (bus_log : B → BusLog)
-    (clock_log : C → ClockLog) (words : List LineWord) (size : RunSize) (begun : Beginning) (building : Building B C)
-    (left : Lived B C) → ScansAreAsMeant → KeptScansAreAsMeant → HasBegun binding text file begun
-    → IsOpened bus_log clock_log begun.setup words size building
+    (clock_log : C → ClockLog) (is_of : OfLine B) (is_timed : TimedAs C) (words : List LineWord)
+    (options : LiveOptions) (begun : Beginning) (building : Building B C) (left : Lived B C) → ScansAreAsMeant
+    → KeptScansAreAsMeant → HasBegun binding text file begun
+    → IsOpened bus_log clock_log is_of is_timed begun.setup words options building
     → HasLived building.setup building.size.workers building.size.limit building.buses.items building.clock bus_log
     clock_log left
-    → IsLivedOut binding text file bus_log clock_log words size left
-lived_out binding text file bus_log clock_log words size begun building left law kept_law has opened lived =
+    → IsLivedOut binding text file bus_log clock_log is_of is_timed words options left
+lived_out binding text file bus_log clock_log is_of is_timed words options begun building left law kept_law has opened lived =
+    let size = options.size in
     let of_setup : HasLived begun.setup building.size.workers building.size.limit building.buses.items building.clock
     bus_log clock_log left =
     subst (λ (s : Loaded). HasLived s building.size.workers building.size.limit building.buses.items building.clock bus_log

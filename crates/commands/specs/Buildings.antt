@@ -1,5 +1,5 @@
 -- What a building comes to, and how the program ends then (profile).
-use Rattle.std.specs.Prelude.{◌≡◌, ℕ, ◌⊎◌, List, Option, Result, Ok, Err, option_map, ⊤}
+use Rattle.std.specs.Prelude.{◌≡◌, ℕ, ◌⊎◌, Bool, true, List, Option, Result, Ok, Err, option_map, if◌then◌else◌, ⊤}
 use Rattle.buslink.specs.BusLog.{BusLog}
 use Rattle.buslink.specs.ClockLog.{ClockLog}
 use Rattle.ilcompile.specs.Loaded.{Loaded}
@@ -16,9 +16,9 @@ use Rattle.exits.specs.declared.exit_status.ExitStatus.{ExitStatus}
 use Rattle.exits.specs.declared.exit_status.ExitStatus.TheVariants.{Failed}
 use Rattle.exits.specs.ExitStatuses.{status_of_run, status_of_stop}
 use Rattle.building.specs.declared.buildings.Building.{Building}
-use Rattle.building.specs.declared.site.SiteFault.{SiteFault}
 use Rattle.building.specs.declared.stops.LiveStop.{LiveStop}
 use Rattle.building.specs.Buildings.{IsLiveStop, IsNotLived, IsOpened, status_of_live_stop}
+use Rattle.commands.specs.declared.lived.LiveLeft.{LiveLeft}
 use Rattle.commands.specs.declared.living.Halted.{Halted}
 use Rattle.commands.specs.declared.living.Halted.TheVariants as halts
 use Rattle.commands.specs.declared.reading.DiskFault.{DiskFault}
@@ -28,19 +28,30 @@ use Rattle.commands.specs.Beginnings.{AreUsed, HasBegun, IsBegunUnder, IsKeepRea
 use Rattle.commands.specs.Plays.{IsStopUnder}
 use Rattle.commands.specs.declared.beginning.Beginning.{Beginning}
 
+-- which line of a word a bus is behind, with so many milliseconds of patience, as a site says it
+abbrev pub OfLine : Type 0 → Type 1
+OfLine B = B → LineWord → ℕ → Type 0
+
+-- the period of a clock, its last moment, and the path of the file that ends it, as a site says it
+abbrev pub TimedAs : Type 0 → Type 1
+TimedAs C = C → ℕ → ℕ → Option (List ℕ) → Type 0
+
 -- The plant of the text's setup under the binding, which begins with the values of a file of kept ones where there is
--- one, ran on the lines that these words name, which were open and greeted, with so many scan workers and events of a
--- run. What it leaves: a legal history of all its runs, in which nothing is open, in which lines and clock sent, gave
--- and took what it says (HasLived); and each scan came to what the source program means of the snapshot that it took.
+-- one, ran on the lines that these words name, each bus on its own, and on the clock that the options ask for, with so
+-- many scan workers and events of a run (IsOpened). What it leaves: a legal history of all its runs, in which nothing is
+-- open, in which lines and clock sent, gave and took what it says (HasLived); and each scan came to what the source
+-- program means of the snapshot that it took.
 pub record IsLivedOut {B C : Type 0} (binding text : List ℕ) (file : Option (List ℕ)) (bus_log : B → BusLog)
-    (clock_log : C → ClockLog) (words : List LineWord) (size : RunSize) (left : Lived B C) : Type 0 where
+    (clock_log : C → ClockLog) (is_of : OfLine B) (is_timed : TimedAs C) (words : List LineWord)
+    (options : LiveOptions) (left : Lived B C) : Type 0 where
   pub setup : Loaded
   pub kept : Option (List KeptEntry)
   pub used : AreUsed binding text file kept
   pub loaded : IsBegunUnder binding text kept setup
   pub building : Building B C
-  pub opened : IsOpened bus_log clock_log setup words size building
-  pub lived : HasLived setup size.workers size.limit building.buses.items building.clock bus_log clock_log left
+  pub opened : IsOpened bus_log clock_log is_of is_timed setup words options building
+  pub lived : HasLived setup options.size.workers options.size.limit building.buses.items building.clock bus_log clock_log
+      left
   pub meant : AreAsMeant (tree_of loaded.0 text kept setup loaded.2) loaded.0.buses left.left.plant.history
 
 -- a file beside it can't be written, or there is no memory for what is written
@@ -49,39 +60,48 @@ IsUnobserved binding text file (halts.Text stop) = IsStopUnder binding text stop
 IsUnobserved binding text file (halts.NotWritten path) = (begun : Beginning) × HasBegun binding text file begun
 IsUnobserved binding text file (halts.Building stop) = ⊥
 
--- what stands against it: the binding's fault or that of the text; else the lines, the clock or the plant
-pub record IsBuildingStop (binding text : List ℕ) (file : Option (List ℕ)) (refuses : LineWord → SiteFault → Type 0)
-    (words : List LineWord) (size : RunSize) (stop : LiveStop) : Type 0 where
+-- what stands against it: the binding's fault or that of the text; else the words of its lines, the clock or the plant
+pub record IsBuildingStop (binding text : List ℕ) (file : Option (List ℕ)) (words : List LineWord) (size : RunSize)
+    (stop : LiveStop) : Type 0 where
   pub setup : Loaded
   pub kept : Option (List KeptEntry)
   pub used : AreUsed binding text file kept
   pub loaded : IsBegunUnder binding text kept setup
-  pub stops : IsLiveStop refuses setup words size stop ⊎ IsNotLived setup size setup.plan.buses stop
+  pub stops : IsLiveStop setup words size stop ⊎ IsNotLived setup size setup.plan.buses stop
 
 -- or a file beside it can't be written
-abbrev pub IsHalted : List ℕ → List ℕ → Option (List ℕ) → (LineWord → SiteFault → Type 0) → List LineWord → RunSize
-    → Halted → Type 0
-IsHalted binding text file refuses words size (halts.Text stop) = IsStopUnder binding text stop
-IsHalted binding text file refuses words size (halts.NotWritten path) =
+abbrev pub IsHalted : List ℕ → List ℕ → Option (List ℕ) → List LineWord → RunSize → Halted → Type 0
+IsHalted binding text file words size (halts.Text stop) = IsStopUnder binding text stop
+IsHalted binding text file words size (halts.NotWritten path) =
     IsUnobserved binding text file (halts.NotWritten path)
-IsHalted binding text file refuses words size (halts.Building stop) =
-    IsBuildingStop binding text file refuses words size stop
+IsHalted binding text file words size (halts.Building stop) = IsBuildingStop binding text file words size stop
 
 -- what a building comes to: what it leaves, or what stands against it
 abbrev pub LiveEnd : Type 0 → Type 0 → Type 0
-LiveEnd B C = Result (Lived B C) Halted
+LiveEnd B C = Result (LiveLeft B C) Halted
 
-abbrev pub IsLiveEnd : {B C : Type 0} → List ℕ → List ℕ → Option (List ℕ) → (LineWord → SiteFault → Type 0)
-    → (B → BusLog) → (C → ClockLog) → List LineWord → RunSize → LiveEnd B C → Type 0
-IsLiveEnd binding text file refuses bus_log clock_log words size (Ok lived) =
-    IsLivedOut binding text file bus_log clock_log words size lived
-IsLiveEnd binding text file refuses bus_log clock_log words size (Err halted) =
-    IsHalted binding text file refuses words size halted
+abbrev pub IsLiveEnd : {B C : Type 0} → List ℕ → List ℕ → Option (List ℕ) → (B → BusLog) → (C → ClockLog) → OfLine B
+    → TimedAs C → List LineWord → LiveOptions → LiveEnd B C → Type 0
+IsLiveEnd binding text file bus_log clock_log is_of is_timed words options (Ok left) =
+    IsLivedOut binding text file bus_log clock_log is_of is_timed words options left.lived
+IsLiveEnd binding text file bus_log clock_log is_of is_timed words options (Err halted) =
+    IsHalted binding text file words options.size halted
+
+-- it ends since a bus went down only where that is asked for
+abbrev pub IsCutWhereAsked : {B C : Type 0} → Bool → LiveEnd B C → Type 0
+IsCutWhereAsked asked (Ok left) = left.is_cut ≡ true → asked ≡ true
+IsCutWhereAsked asked (Err halted) = ⊤
+
+-- the exit status by what it leaves: it failed where it ended since a bus went down; else it is that of a run, by
+-- whether a bus is down at the end
+abbrev pub status_of_left : {B C : Type 0} → LiveLeft B C → ExitStatus
+status_of_left left =
+    let plant = left.lived.left.plant in
+    if left.is_cut then Failed else status_of_run left.lived.ended (has_down plant.plant.plan.buses plant.history)
 
 -- the exit status by what a building comes to
 abbrev pub status_of_live_end : {B C : Type 0} → LiveEnd B C → ExitStatus
-status_of_live_end (Ok lived) =
-    status_of_run lived.ended (has_down lived.left.plant.plant.plan.buses lived.left.plant.history)
+status_of_live_end (Ok left) = status_of_left left
 status_of_live_end (Err (halts.Text stop)) = status_of_stop stop
 status_of_live_end (Err (halts.NotWritten path)) = Failed
 status_of_live_end (Err (halts.Building stop)) = status_of_live_stop stop
@@ -89,7 +109,7 @@ status_of_live_end (Err (halts.Building stop)) = status_of_live_stop stop
 -- it comes to this by what the disk gave for the two files, and for that of kept values where one is named; of what is
 -- printed or written nothing is said
 pub record IsLiveServed {B C : Type 0} (gives : List ℕ → List ℕ → Type 0) (fails : List ℕ → DiskFault → Type 0)
-    (refuses : LineWord → SiteFault → Type 0) (bus_log : B → BusLog) (clock_log : C → ClockLog) (files : LiveFiles)
+    (bus_log : B → BusLog) (clock_log : C → ClockLog) (is_of : OfLine B) (is_timed : TimedAs C) (files : LiveFiles)
     (words : List LineWord) (options : LiveOptions) (came_to : LiveEnd B C) : Type 0 where
   pub binding : List ℕ
   pub text : List ℕ
@@ -97,7 +117,8 @@ pub record IsLiveServed {B C : Type 0} (gives : List ℕ → List ℕ → Type 0
   pub binding_given : gives files.binding.now binding
   pub text_given : gives files.text.now text
   pub file_read : IsKeepRead gives fails (option_map (λ path. path.now) options.beside.keep) file
-  pub end : IsLiveEnd binding text file refuses bus_log clock_log words options.size came_to
+  pub end : IsLiveEnd binding text file bus_log clock_log is_of is_timed words options came_to
+  pub cut : IsCutWhereAsked options.ends_on_down came_to
 
 -- the binding isn't read; or it is, and the text isn't; or both are, and memory was refused while the file of kept
 -- values was read

@@ -19,6 +19,7 @@
 
 mod beginning;
 mod code_files;
+mod lived;
 mod living;
 mod looking;
 mod pages;
@@ -36,6 +37,7 @@ mod wording;
 pub use beginning::{Beginning, KeptNote};
 pub use code_files::{serve_check_code, serve_code};
 pub use exits::ExitStatus;
+pub use lived::LiveLeft;
 pub use living::{Grounds, Halted, LiveEnd, Notice, serve_live, status_of_live};
 pub use looking::serve_look;
 pub use playing::serve_play;

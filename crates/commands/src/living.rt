@@ -3,10 +3,12 @@
 ghost use Rattle.std.specs.Prelude.{◌≡◌, ℕ, List, Option, IfErr, IfOk, option_map};
 ghost use Rattle.commands.specs.Plays.{IsStopUnder};
 ghost use Rattle.commands.specs.Beginnings.{HasBegun};
-ghost use Rattle.commands.specs.Buildings.{IsHalted, IsLiveEnd, IsLiveServed, IsLiveUnread, IsLivedOut};
-ghost use Rattle.commands.specs.Buildings.{IsUnobserved, status_of_live_end};
+ghost use Rattle.commands.specs.Buildings.{IsCutWhereAsked, IsHalted, IsLiveEnd, IsLiveServed};
+ghost use Rattle.commands.specs.Buildings.{IsLiveUnread, IsLivedOut, IsUnobserved};
+ghost use Rattle.commands.specs.Buildings.{status_of_live_end};
 
 use crate::beginning::{Beginning, KeptNote, beginning_of, kept_at};
+use crate::lived::LiveLeft;
 use crate::reading::Disk;
 use crate::serving::{Unserved, bytes_at};
 use answers::Stop;
@@ -16,9 +18,8 @@ use commandline::{LineWord, LiveFiles, LiveOptions};
 use driving::has_down;
 use exits::ExitStatus;
 use observing::{BuildingObserver, NotOpened, Storage};
-use plantlive::Lived;
 use plantload::{kept_scans_are_as_meant, scans_are_as_meant};
-use plantrun::write_run;
+use plantplay::StartFault;
 use std::alloc::Global;
 use std::io;
 use std::io::{BufWriter, Write};
@@ -62,7 +63,7 @@ impl<'a> From<LiveStop<'a>> for Halted<'a> {
 }
 
 /// What a building came to: what it left, or what stands against running it.
-pub type LiveEnd<'a, B, C> = Result<Lived<B, C>, Halted<'a>>;
+pub type LiveEnd<'a, B, C> = Result<LiveLeft<B, C>, Halted<'a>>;
 
 /// Who is told what is about to run, and why a building doesn't run. Whether it can be told changes
 /// nothing.
@@ -129,8 +130,8 @@ pub fn serve_live<
     options: &LiveOptions<'a>,
 ) -> Result<(W, LiveEnd<'a, S::Line, S::Clock>), Unserved<'a>>
     ensures live { IfOk result (λ done. IsLiveServed (D.gives disk.now) (D.fails disk.now)
-        (S.refuses grounds.now.site.now) S.Line.log S.Clock.log files.entry lines.now options.now
-        done.1) }
+        S.Line.log S.Clock.log (S.is_of grounds.now.site.now) (S.is_timed grounds.now.site.now)
+        files.entry lines.now options.now done.1) }
     ensures unread { IfErr result (IsLiveUnread (D.gives disk.now) (D.fails disk.now) files.entry
         (option_map (λ path. path.now) options.now.beside.keep)) }
 {
@@ -180,9 +181,10 @@ fn print<
     lines: &[LineWord<'a>],
     options: &LiveOptions<'a>,
 ) -> io::Result<(W, LiveEnd<'a, S::Line, S::Clock>)>
-    ensures { IfOk result (λ done. IsLiveEnd pages.now.binding pages.now.text pages.now.file
-        (S.refuses grounds.now.site.now) S.Line.log S.Clock.log lines.now options.now.size
-        done.1) }
+    ensures end { IfOk result (λ done. IsLiveEnd pages.now.binding pages.now.text pages.now.file
+        S.Line.log S.Clock.log (S.is_of grounds.now.site.now) (S.is_timed grounds.now.site.now)
+        lines.now options.now done.1) }
+    ensures cut { IfOk result (λ done. IsCutWhereAsked options.now.ends_on_down done.1) }
 {
     let mut out = BufWriter::new(alloc, to)?;
     let end = live_on(rt, alloc, grounds, pages, lines, options);
@@ -195,7 +197,8 @@ pub fn status_of_live<B: Bus, C: Clock>(end: &LiveEnd<B, C>) -> ExitStatus
     ensures { result ≡ status_of_live_end end.now }
 {
     match end {
-        Ok(lived) => ExitStatus::of_run(lived.ended, has_down(lived.left.plant())),
+        Ok(left) if left.is_cut => ExitStatus::Failed,
+        Ok(left) => ExitStatus::of_run(left.lived.ended, has_down(left.lived.left.plant())),
         Err(Halted::Text(stop)) => ExitStatus::of_stop(stop),
         Err(Halted::NotWritten(_)) => ExitStatus::Failed,
         Err(Halted::Building(stop)) => stop.status(),
@@ -210,7 +213,7 @@ fn report<W: Write, N: Notice, B: Bus, C: Clock>(
     end: &LiveEnd<B, C>,
 ) -> io::Result<()> {
     match end {
-        Ok(lived) => write_run(out, lived.ended, lived.left.plant()),
+        Ok(left) => left.write(out),
         Err(Halted::Text(stop)) => writeln!(out, "{stop}"),
         Err(Halted::NotWritten(path)) => notice.refuses(path),
         Err(Halted::Building(LiveStop::Start(fault))) => writeln!(out, "{fault}"),
@@ -232,10 +235,12 @@ fn live_on<'a, S: Site + Storage + Sync, N: Notice, R: Threads + Wait + Timer + 
     lines: &[LineWord<'a>],
     options: &LiveOptions<'a>,
 ) -> LiveEnd<'a, S::Line, S::Clock>
-    ensures lived { IfOk result (IsLivedOut pages.now.binding pages.now.text pages.now.file
-        S.Line.log S.Clock.log lines.now options.now.size) }
+    ensures lived { IfOk result (λ left. IsLivedOut pages.now.binding pages.now.text
+        pages.now.file S.Line.log S.Clock.log (S.is_of grounds.now.site.now)
+        (S.is_timed grounds.now.site.now) lines.now options.now left.lived) }
+    ensures cut { IsCutWhereAsked options.now.ends_on_down result }
     ensures halted { IfErr result (IsHalted pages.now.binding pages.now.text pages.now.file
-        (S.refuses grounds.now.site.now) lines.now options.now.size) }
+        lines.now options.now.size) }
 {
     let begun = begun_of(alloc, pages)?;
     let _told = grounds.notice.begins(&begun.note);
@@ -260,18 +265,22 @@ fn live_with<'a, S: Site, N: Notice, G: Gate, R: Threads + Wait + Timer + Sync>(
     gate: &G,
     begun: Beginning,
     lines: &[LineWord<'a>],
-    options: &LiveOptions,
+    options: &LiveOptions<'a>,
 ) -> LiveEnd<'a, S::Line, S::Clock>
     ensures lived { IfOk result (λ left. (binding text : List ℕ) (file : Option (List ℕ))
         → HasBegun binding text file begun
-        → IsLivedOut binding text file S.Line.log S.Clock.log lines.now options.now.size left) }
+        → IsLivedOut binding text file S.Line.log S.Clock.log (S.is_of grounds.now.site.now)
+        (S.is_timed grounds.now.site.now) lines.now options.now left.lived) }
+    ensures cut { IsCutWhereAsked options.now.ends_on_down result }
     ensures halted { IfErr result (λ halted. (binding text : List ℕ) (file : Option (List ℕ))
         → HasBegun binding text file begun
-        → IsHalted binding text file (S.refuses grounds.now.site.now) lines.now options.now.size
-        halted) }
+        → IsHalted binding text file lines.now options.now.size halted) }
 {
     let Beginning { setup, .. } = begun;
     let building = open(alloc, grounds.site, setup, lines, options)?;
+    let Ok(watch) = building.watch.clone() else {
+        return Err(Halted::Building(LiveStop::Start(StartFault::Memory)));
+    };
     let _told = grounds.notice.departs(&Departure {
         building: &building,
         lines,
@@ -279,7 +288,10 @@ fn live_with<'a, S: Site, N: Notice, G: Gate, R: Threads + Wait + Timer + Sync>(
     scans_are_as_meant();
     kept_scans_are_as_meant();
     let lived = building.go(rt, alloc, gate)?;
-    Ok(lived)
+    Ok(LiveLeft {
+        lived,
+        is_cut: options.ends_on_down && watch.is_over(),
+    })
 }
 
 /// The setup that a building begins with.

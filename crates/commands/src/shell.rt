@@ -10,6 +10,7 @@ use crate::running::{serve_run, status_of_run};
 use crate::serving::{Unserved, serve};
 use crate::shell_tools::{Complaints, run_ask, run_blink, run_listen, run_probe};
 use crate::telling::serve_question;
+use crate::tools::ToolLine;
 use crate::wording::{serve_event, serve_frames};
 use building::{Departure, LiveStop, Site};
 use buslink::{Bus, Clock};
@@ -141,15 +142,31 @@ where
     S: Site + Storage + Sync,
 {
     match tool {
-        Tool::Probe { line, against } => run_probe(rt, site, line, against),
+        Tool::Probe {
+            line,
+            patience,
+            against,
+        } => run_probe(rt, site, ToolLine { line, patience }, against),
         Tool::Listen {
             line,
+            patience,
             binding,
             record,
             end,
-        } => run_listen(rt, timer, site, line, binding, record, end),
-        Tool::Blink { line, address } => run_blink(rt, timer, site, line, address),
-        Tool::Request { line, words } => run_ask(rt, site, line, words),
+        } => {
+            let at = ToolLine { line, patience };
+            run_listen(rt, timer, site, at, binding, record, end)
+        }
+        Tool::Blink {
+            line,
+            patience,
+            address,
+        } => run_blink(rt, timer, site, ToolLine { line, patience }, address),
+        Tool::Request {
+            line,
+            patience,
+            words,
+        } => run_ask(rt, site, ToolLine { line, patience }, words),
     }
 }
 

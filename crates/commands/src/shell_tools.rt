@@ -4,9 +4,9 @@ use crate::living::{Halted, Notice};
 use crate::reading::HostDisk;
 use crate::serving::Unserved;
 use crate::shell::{HostNotice, not_printed, not_served};
-use crate::tools::{ToolEnd, ask_once, blink, listen, probe, status_of_tool};
+use crate::tools::{ToolEnd, ToolLine, ask_once, blink, listen, probe, status_of_tool};
 use building::Site;
-use commandline::{GivenListenEnd, GivenRequest, LineWord, LiveFiles};
+use commandline::{GivenListenEnd, GivenRequest, LiveFiles};
 use commissioning::ListenEnd;
 use daliframe::ShortAddress;
 use exits::ExitStatus;
@@ -84,7 +84,7 @@ impl<R: Files> StopCondition for StopPath<'_, R> {
 pub(crate) fn run_probe<R, S>(
     rt: &R,
     site: &S,
-    line: LineWord,
+    at: ToolLine,
     against: Option<LiveFiles>,
 ) -> ExitStatus
 where
@@ -100,7 +100,7 @@ where
         site,
         &mut out,
         &mut progress,
-        line,
+        at,
         against,
     );
     ended(rt, end)
@@ -111,7 +111,7 @@ pub(crate) fn run_listen<'f, R, T, S>(
     rt: &R,
     timer: &T,
     site: &'f S,
-    line: LineWord,
+    at: ToolLine,
     binding: Option<&str>,
     record: Option<&'f str>,
     words: GivenListenEnd,
@@ -150,7 +150,7 @@ where
         site,
         &mut out,
         &mut recorded,
-        line,
+        at,
         binding,
         timer,
         &end,
@@ -166,7 +166,7 @@ pub(crate) fn run_blink<R, T, S>(
     rt: &R,
     timer: &T,
     site: &S,
-    line: LineWord,
+    at: ToolLine,
     address: u8,
 ) -> ExitStatus
 where
@@ -178,12 +178,12 @@ where
         return ExitStatus::Misused;
     };
     let mut out = io::writer(rt);
-    let end = blink(rt.alloc(), site, &mut out, line, address, timer);
+    let end = blink(rt.alloc(), site, &mut out, at, address, timer);
     ended(rt, end)
 }
 
 /// `ask`
-pub(crate) fn run_ask<R, S>(rt: &R, site: &S, line: LineWord, words: GivenRequest) -> ExitStatus
+pub(crate) fn run_ask<R, S>(rt: &R, site: &S, at: ToolLine, words: GivenRequest) -> ExitStatus
 where
     R: Files + Print + Eprint + AllocGlobal,
     S: Site,
@@ -199,7 +199,7 @@ where
         return ExitStatus::Misused;
     };
     let mut out = io::writer(rt);
-    let end = ask_once(rt.alloc(), site, &mut out, line, command);
+    let end = ask_once(rt.alloc(), site, &mut out, at, command);
     ended(rt, end)
 }
 

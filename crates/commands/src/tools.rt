@@ -35,21 +35,27 @@ pub fn status_of_tool(end: &ToolEnd) -> ExitStatus {
     }
 }
 
+/// A line that a tool works at.
+#[derive(Clone, Copy)]
+pub struct ToolLine<'a> {
+    pub line: LineWord<'a>,
+    /// The milliseconds that its interface may be silent.
+    pub patience: u32,
+}
+
 /// Opens a line and greets its interface.
 ///
 /// # Errors
 ///
-/// It can't be opened, or the allocator is out of memory. Nothing was sent.
-fn opened<'a, S: Site>(
-    alloc: Global,
-    site: &S,
-    line: LineWord<'a>,
-) -> Result<S::Line, LiveStop<'a>> {
+/// It can't be opened, its interface does not greet, or the allocator is out of memory. Nothing was
+/// sent.
+fn opened<'a, S: Site>(alloc: Global, site: &S, at: ToolLine<'a>) -> Result<S::Line, LiveStop<'a>> {
+    let ToolLine { line, patience } = at;
     let Some(number) = BusNumber::new(line.bus) else {
         let bus = line.bus;
         return Err(LiveStop::Lineup(LineupFault::Unknown { bus }));
     };
-    match site.open(alloc, line, number) {
+    match site.open(alloc, line, number, patience) {
         Ok(bus) => Ok(bus),
         Err(SiteFault::Memory) => Err(LiveStop::Start(StartFault::Memory)),
         Err(SiteFault::Failed) => Err(LiveStop::NotOpened(line)),
@@ -67,7 +73,7 @@ pub fn probe<'a, D: Disk, S: Site, W: Write, P: Write>(
     site: &S,
     to: &mut W,
     progress: &mut P,
-    line: LineWord<'a>,
+    at: ToolLine<'a>,
     against: Option<LiveFiles<'a>>,
 ) -> Result<ToolEnd<'a>, Unserved<'a>> {
     let setup = match against {
@@ -78,20 +84,20 @@ pub fn probe<'a, D: Disk, S: Site, W: Write, P: Write>(
         None => None,
     };
     if let Some(setup) = &setup {
-        let bus = line.bus;
+        let bus = at.line.bus;
         if bus >= setup.plan().buses() {
             let stop = LiveStop::Lineup(LineupFault::Unknown { bus });
             return Ok(Err(Halted::Building(stop)));
         }
     }
-    let mut bus = match opened(alloc, site, line) {
+    let mut bus = match opened(alloc, site, at) {
         Ok(bus) => bus,
         Err(stop) => return Ok(Err(Halted::Building(stop))),
     };
     let against = match &setup {
         Some(setup) => Some(DeclaredBus {
             plan: setup.plan(),
-            bus: line.bus,
+            bus: at.line.bus,
         }),
         None => None,
     };
@@ -127,7 +133,7 @@ pub fn listen<'a, D: Disk, S: Site, W: Write, P: Write, R: Timer, E: StopConditi
     site: &S,
     to: &mut W,
     record: &mut P,
-    line: LineWord<'a>,
+    at: ToolLine<'a>,
     binding: Option<&'a str>,
     timer: &R,
     end: &ListenEnd<E>,
@@ -140,11 +146,11 @@ pub fn listen<'a, D: Disk, S: Site, W: Write, P: Write, R: Timer, E: StopConditi
         },
         None => None,
     };
-    let mut bus = match opened(alloc, site, line) {
+    let mut bus = match opened(alloc, site, at) {
         Ok(bus) => bus,
         Err(stop) => return Ok(Err(Halted::Building(stop))),
     };
-    let number = line.bus;
+    let number = at.line.bus;
     let served = serve_listen(&mut bus, number, binding.as_ref(), to, record, timer, end)?;
     Ok(Ok(served))
 }
@@ -158,11 +164,11 @@ pub fn blink<'a, S: Site, W: Write, R: Timer>(
     alloc: Global,
     site: &S,
     to: &mut W,
-    line: LineWord<'a>,
+    at: ToolLine<'a>,
     address: ShortAddress,
     timer: &R,
 ) -> Result<ToolEnd<'a>, Unserved<'a>> {
-    match opened(alloc, site, line) {
+    match opened(alloc, site, at) {
         Ok(mut bus) => Ok(Ok(serve_blink(&mut bus, address, to, timer)?)),
         Err(stop) => Ok(Err(Halted::Building(stop))),
     }
@@ -177,10 +183,10 @@ pub fn ask_once<'a, S: Site, W: Write>(
     alloc: Global,
     site: &S,
     to: &mut W,
-    line: LineWord<'a>,
+    at: ToolLine<'a>,
     command: Command,
 ) -> Result<ToolEnd<'a>, Unserved<'a>> {
-    match opened(alloc, site, line) {
+    match opened(alloc, site, at) {
         Ok(mut bus) => Ok(Ok(serve_ask(&mut bus, command, to)?)),
         Err(stop) => Ok(Err(Halted::Building(stop))),
     }

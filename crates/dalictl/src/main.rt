@@ -5,10 +5,20 @@
 //! `commands::ExitStatus`, by its number.
 #![tactic(auto)]
 
-use building::HostSite;
+use building::{HostDevices, HostSite, LineStarter, hold_standard_files};
+use commands::ExitStatus;
 use std::process::ExitCode;
 
 fn main(rt: HostRuntime) -> ExitCode {
-    let site = HostSite { rt: &rt };
+    let _held = hold_standard_files(&rt);
+    let devices = HostDevices { rt };
+    let Ok(starter) = LineStarter::start(rt.alloc(), rt) else {
+        return ExitCode::from(ExitStatus::Failed.number());
+    };
+    let site = HostSite {
+        rt: &rt,
+        devices: &devices,
+        starter: &starter,
+    };
     ExitCode::from(commands::run(&rt, &rt, &site).number())
 }

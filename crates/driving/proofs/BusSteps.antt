@@ -6,7 +6,7 @@ use Rattle.std.proofs.lemmas.Bool.{cases_lt}
 use Rattle.std.proofs.lemmas.List.{append_assoc}
 use Rattle.std.specs.Prelude.{if◌then◌else◌}
 use Rattle.std.specs.Prelude.{Ok, Err}
-use Rattle.buslink.specs.BusLog.{BusLog, HasHeardAll, IsSameBus, one_more_failure, one_more_hear, after_hear, with_spare}
+use Rattle.buslink.specs.BusLog.{BusLog, HasHeardAll, IsSameBus, one_more, one_more_hear, after_hear, with_spare}
 use Rattle.buslink.specs.declared.faults.Fault.{Fault}
 use Rattle.buslink.specs.Performing.{after_report, failures_after}
 use Rattle.gearcmd.specs.FrameLists.{FrameList}
@@ -17,9 +17,9 @@ use Rattle.plantevents.specs.declared.event.Event.{Event}
 use Rattle.plantevents.specs.declared.event.Event.TheVariants.{Heard, Hand, Done, Down}
 use Rattle.plantevents.specs.declared.event.Origin.{Origin}
 use Rattle.plantevents.specs.declared.role.Role.TheVariants.{Bus}
-use Rattle.plantevents.specs.Histories.{hand, sent_in, heard_in, downs_in}
+use Rattle.plantevents.specs.Histories.{hand, sent_in, heard_in, downs_in, ups_in}
 use Rattle.plant.specs.Shown.{Shown, grown, reserving}
-use Rattle.driving.specs.Links.{more_failures}
+use Rattle.driving.specs.Links.{so_many_more}
 use Rattle.driving.specs.Open.{HasNothingOpen}
 use Rattle.driving.specs.Links.{IsLinked, IsAsked, HasHeard}
 use Rattle.driving.specs.Quiet.{WasSilent}
@@ -44,12 +44,13 @@ heard_elsewhere b own frame h other = record {
   sent = refl;
   heard = elsewhere b own (heard_in b h ++ frame ∷ []) (heard_in b h) other;
   downs = refl;
+  ups = refl;
 }
 
 heard_here : (first : BusLog) (b frame : ℕ) (h : List Event) (log after : BusLog) → IsSameBus log after
-    → after.sent ≡ log.sent → after.heard ≡ log.heard ++ frame ∷ [] → after.failures ≡ log.failures → IsLinked first b h log
-    → IsLinked first b (Heard b frame ∷ h) after
-heard_here first b frame h log after same sent heard failed is = record {
+    → after.sent ≡ log.sent → after.heard ≡ log.heard ++ frame ∷ [] → after.failures ≡ log.failures
+    → after.mends ≡ log.mends → IsLinked first b h log → IsLinked first b (Heard b frame ∷ h) after
+heard_here first b frame h log after same sent heard failed mended is = record {
   same = same_bus_then first log after is.same same;
   sent = sent ∙ is.sent;
   heard = heard
@@ -57,14 +58,15 @@ heard_here first b frame h log after same sent heard failed is = record {
       ∙ (append_assoc first.heard (heard_in b h) (frame ∷ [])
       ∙ ap (λ x. first.heard ++ x) (sym (at_own b (heard_in b h ++ frame ∷ []) (heard_in b h)))));
   failed = failed ∙ is.failed;
+  mended = mended ∙ is.mended;
 }
 
 -- a frame was heard, for which a place was kept back before
 pub step_heard : (b frame : ℕ) (p r q : Shown) (log after : BusLog) → r ≡ reserving (Bus b) p
     → q ≡ grown r (Heard b frame) → IsSameBus log after → after.sent ≡ log.sent
-    → after.heard ≡ log.heard ++ frame ∷ [] → after.failures ≡ log.failures → HasHeard log after
-    → IsBusStep b p q log after
-step_heard b frame p r q log after kept now same sent heard failed hears =
+    → after.heard ≡ log.heard ++ frame ∷ [] → after.failures ≡ log.failures → after.mends ≡ log.mends
+    → HasHeard log after → IsBusStep b p q log after
+step_heard b frame p r q log after kept now same sent heard failed mended hears =
     subst (λ (x : Shown). IsBusStep b p x log after)
     (sym (now ∙ ap (λ (x : Shown). grown x (Heard b frame)) kept)) (record {
       later = record {
@@ -76,7 +78,7 @@ step_heard b frame p r q log after kept now same sent heard failed hears =
         idle = λ idle. record { no_scan = idle.no_scan; no_hand = idle.no_hand };
       };
       same = same;
-      own = λ first is. heard_here first b frame p.history log after same sent heard failed is;
+      own = λ first is. heard_here first b frame p.history log after same sent heard failed mended is;
       others = λ c other. heard_elsewhere c b frame p.history other;
       hears = hears;
     })
@@ -88,18 +90,20 @@ down_elsewhere b own h other = record {
   sent = refl;
   heard = refl;
   downs = elsewhere b own (downs_in b h + 1) (downs_in b h) other;
+  ups = refl;
 }
 
-pub one_failure_more : (n first : ℕ) → more_failures (n + 1) first ≡ one_more_failure (more_failures n first)
+pub one_failure_more : (n first : ℕ) → so_many_more (n + 1) first ≡ one_more (so_many_more n first)
 one_failure_more n first =
-    let more : n + 1 ≡ suc n = omega arith in ap (λ (k : ℕ). more_failures k first) more
+    let more : n + 1 ≡ suc n = omega arith in ap (λ (k : ℕ). so_many_more k first) more
 
 -- the log met one failure more than the history says
 record IsBehind (first : BusLog) (b : ℕ) (h : List Event) (log : BusLog) : Type 0 where
   pub same : IsSameBus first log
   pub sent : log.sent ≡ first.sent ++ sent_in b h
   pub heard : log.heard ≡ first.heard ++ heard_in b h
-  pub failed : log.failures ≡ one_more_failure (more_failures (downs_in b h) first.failures)
+  pub failed : log.failures ≡ one_more (so_many_more (downs_in b h) first.failures)
+  pub mended : log.mends ≡ so_many_more (ups_in b h) first.mends
 
 down_here : (first : BusLog) (b : ℕ) (h : List Event) (log : BusLog) → IsBehind first b h log
     → IsLinked first b (Down b ∷ h) log
@@ -109,7 +113,8 @@ down_here first b h log is = record {
   heard = is.heard;
   failed = is.failed
       ∙ (sym (one_failure_more (downs_in b h) first.failures)
-      ∙ ap (λ (n : ℕ). more_failures n first.failures) (sym (at_own b (downs_in b h + 1) (downs_in b h))));
+      ∙ ap (λ (n : ℕ). so_many_more n first.failures) (sym (at_own b (downs_in b h + 1) (downs_in b h))));
+  mended = is.mended;
 }
 
 down_open : (p : Shown) (b : ℕ) → HasNothingOpen p → HasNothingOpen (grown p (Down b))
@@ -123,9 +128,9 @@ down_open p b idle = record {
 
 -- the interface failed when it was to hear, and the bus went down
 pub step_failed : (b : ℕ) (p r q : Shown) (log after : BusLog) → r ≡ reserving (Bus b) p → q ≡ grown r (Down b)
-    → IsSameBus log after → after.sent ≡ log.sent → after.heard ≡ log.heard → after.failures ≡ one_more_failure log.failures
-    → HasHeard log after → IsBusStep b p q log after
-step_failed b p r q log after kept now same sent heard failed hears =
+    → IsSameBus log after → after.sent ≡ log.sent → after.heard ≡ log.heard → after.failures ≡ one_more log.failures
+    → after.mends ≡ log.mends → HasHeard log after → IsBusStep b p q log after
+step_failed b p r q log after kept now same sent heard failed mended hears =
     subst (λ (x : Shown). IsBusStep b p x log after) (sym (now ∙ ap (λ (x : Shown). grown x (Down b)) kept)) (record {
       later = record {
         later = Down b ∷ [];
@@ -140,7 +145,8 @@ step_failed b p r q log after kept now same sent heard failed hears =
         same = same_bus_then first log after is.same same;
         sent = sent ∙ is.sent;
         heard = heard ∙ is.heard;
-        failed = failed ∙ ap one_more_failure is.failed;
+        failed = failed ∙ ap one_more is.failed;
+        mended = mended ∙ is.mended;
       });
       others = λ c other. down_elsewhere c b p.history other;
       hears = hears;
@@ -157,7 +163,7 @@ step_frame b frame p r q log roomy after kept now room hear =
     step_heard b frame p r q log after kept now
     (record { number = ap (λ (l : BusLog). l.number) same; arrivals = ap (λ (l : BusLog). l.arrivals) same })
     (ap (λ (l : BusLog). l.sent) same)
-    (ap (λ (l : BusLog). l.heard) same) (ap (λ (l : BusLog). l.failures) same)
+    (ap (λ (l : BusLog). l.heard) same) (ap (λ (l : BusLog). l.failures) same) (ap (λ (l : BusLog). l.mends) same)
     (inr (asked_once log after (ap (λ (l : BusLog). l.hears) same)))
 
 pub step_fault : (b : ℕ) (fault : Fault) (p r q : Shown) (log roomy after : BusLog) → r ≡ reserving (Bus b) p
@@ -169,7 +175,7 @@ step_fault b fault p r q log roomy after kept now room hear =
     step_failed b p r q log after kept now
     (record { number = ap (λ (l : BusLog). l.number) same; arrivals = ap (λ (l : BusLog). l.arrivals) same })
     (ap (λ (l : BusLog). l.sent) same)
-    (ap (λ (l : BusLog). l.heard) same) (ap (λ (l : BusLog). l.failures) same)
+    (ap (λ (l : BusLog). l.heard) same) (ap (λ (l : BusLog). l.failures) same) (ap (λ (l : BusLog). l.mends) same)
     (inr (asked_once log after (ap (λ (l : BusLog). l.hears) same)))
 
 -- the bus was silent, and a place is kept back
@@ -195,8 +201,9 @@ step_silent b p r log roomy after kept room hear =
             sent = is.sent;
             heard = is.heard;
             failed = is.failed;
+            mended = is.mended;
           });
-      others = λ c other. record { sent = refl; heard = refl; downs = refl };
+      others = λ c other. record { sent = refl; heard = refl; downs = refl; ups = refl };
       hears = inr (asked_once log after (ap (λ (l : BusLog). l.hears) same));
     })
 
@@ -222,6 +229,7 @@ sent_elsewhere b own n origin t report h other = record {
   sent = elsewhere b own (sent_in b h ++ report.attempts) (sent_in b h) other;
   heard = refl;
   downs = refl;
+  ups = refl;
 }
 
 sent_is : (first : BusLog) (b n : ℕ) (origin : Origin) (t : FrameList) (report : ReportParts) (h : List Event)
@@ -253,6 +261,7 @@ fine_here first b n origin t report h log after spare is fine linked = record {
   heard = ap (λ (l : BusLog). l.heard) is ∙ linked.heard;
   failed = ap (λ (l : BusLog). l.failures) is
       ∙ (failed_not report.outcome log.failures fine ∙ linked.failed);
+  mended = ap (λ (l : BusLog). l.mends) is ∙ linked.mended;
 }
 
 -- it failed, and the bus goes down
@@ -264,7 +273,8 @@ failed_here first b n origin t report h log after spare is failed linked = recor
   sent = sent_is first b n origin t report h log after spare is linked;
   heard = ap (λ (l : BusLog). l.heard) is ∙ linked.heard;
   failed = ap (λ (l : BusLog). l.failures) is
-      ∙ (ap (λ o. failures_after o log.failures) failed ∙ ap one_more_failure linked.failed);
+      ∙ (ap (λ o. failures_after o log.failures) failed ∙ ap one_more linked.failed);
+  mended = ap (λ (l : BusLog). l.mends) is ∙ linked.mended;
 }
 
 reported_open : (p : Shown) (b n : ℕ) (origin : Origin) (t : FrameList) (report : ReportParts) → HasNothingOpen p

@@ -62,8 +62,9 @@ step_idle b p q log after same room =
             sent = is.sent;
             heard = is.heard;
             failed = is.failed;
+            mended = is.mended;
           });
-      others = λ c other. record { sent = refl; heard = refl; downs = refl };
+      others = λ c other. record { sent = refl; heard = refl; downs = refl; ups = refl };
       hears = inl (ap (λ (l : BusLog). l.hears) room);
     })
 

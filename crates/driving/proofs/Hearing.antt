@@ -5,7 +5,7 @@ use Rattle.std.proofs.lemmas.List.{append_assoc}
 use Rattle.std.specs.Prelude.{if◌then◌else◌}
 use Rattle.buslink.specs.BusLog.{BusLog}
 use Rattle.plantevents.specs.declared.event.Event.{Event}
-use Rattle.plantevents.specs.declared.event.Event.TheVariants.{Tick, Heard, Take, Commit, Hand, Done, Down}
+use Rattle.plantevents.specs.declared.event.Event.TheVariants.{Tick, Heard, Take, Commit, Hand, Done, Down, Up}
 use Rattle.plantevents.specs.Histories.{is_down}
 use Rattle.plant.specs.Shown.{Shown, grown, reserving}
 use Rattle.plantevents.specs.declared.role.Role.TheVariants.{Bus}
@@ -15,27 +15,29 @@ use Rattle.driving.specs.Quiet.{HasNoFrame}
 use Rattle.driving.specs.TurnSteps.{AreHeardOn, HaveHeard, IsHearing}
 use Rattle.driving.proofs.Turned.{finish_then, frame_since}
 
--- ---- a bus that is down stays so
+-- ---- a bus that is down stays so while frames are heard
 
-down_later : (b : ℕ) (events h : List Event) → is_down b h ≡ true → is_down b (events ++ h) ≡ true
-down_later b [] h is = is
-down_later b (Tick m ∷ events) h is = down_later b events h is
-down_later b (Heard c f ∷ events) h is = down_later b events h is
-down_later b (Take w t s ∷ events) h is = down_later b events h is
-down_later b (Commit w n r ∷ events) h is = down_later b events h is
-down_later b (Hand c s t ∷ events) h is = down_later b events h is
-down_later b (Done c n r ∷ events) h is = down_later b events h is
-down_later b (Down c ∷ events) h is =
+down_later : (b n : ℕ) (events h : List Event) → AreHeardOn n events → is_down b h ≡ true
+    → is_down b (events ++ h) ≡ true
+down_later b n [] h are is = is
+down_later b n (Heard c f ∷ events) h are is = down_later b n events h are.1 is
+down_later b n (Down c ∷ events) h are is =
     elim (c == b) as (λ (k : Bool). (if k then true else is_down b (events ++ h)) ≡ true) [
       | true ↦ refl
-      | false ↦ down_later b events h is
+      | false ↦ down_later b n events h are.1 is
     ]
+down_later b n (Tick m ∷ events) h are is = absurd are
+down_later b n (Take w t s ∷ events) h are is = absurd are
+down_later b n (Commit w k r ∷ events) h are is = absurd are
+down_later b n (Hand c s t ∷ events) h are is = absurd are
+down_later b n (Done c k r ∷ events) h are is = absurd are
+down_later b n (Up c ∷ events) h are is = absurd are
 
-pub frame_later : (p q : Shown) (b : ℕ) (first log : BusLog) (events : List Event)
-    → q.history ≡ events ++ p.history → HasNoFrame p b first log → HasNoFrame q b first log
-frame_later p q b first log events more (inl down) =
-    inl (ap (is_down b) more ∙ down_later b events p.history down)
-frame_later p q b first log events more (inr silent) = inr silent
+pub frame_later : (p q : Shown) (b n : ℕ) (first log : BusLog) (events : List Event)
+    → q.history ≡ events ++ p.history → AreHeardOn n events → HasNoFrame p b first log → HasNoFrame q b first log
+frame_later p q b n first log events more are (inl down) =
+    inl (ap (is_down b) more ∙ down_later b n events p.history are down)
+frame_later p q b n first log events more are (inr silent) = inr silent
 
 -- ---- the events of one bus
 
@@ -67,6 +69,7 @@ on_both b (Take w t s ∷ newer) older one two = absurd one
 on_both b (Commit w n r ∷ newer) older one two = absurd one
 on_both b (Hand c s t ∷ newer) older one two = absurd one
 on_both b (Done c n r ∷ newer) older one two = absurd one
+on_both b (Up c ∷ newer) older one two = absurd one
 
 pub hearing_then : (b : ℕ) (p q r : Shown) → IsHearing b p q → IsHearing b q r → IsHearing b p r
 hearing_then b p q r one two = record {
@@ -87,6 +90,7 @@ wider b c (Take w t s ∷ events) few are = absurd are
 wider b c (Commit w n r ∷ events) few are = absurd are
 wider b c (Hand d s t ∷ events) few are = absurd are
 wider b c (Done d n r ∷ events) few are = absurd are
+wider b c (Up d ∷ events) few are = absurd are
 
 -- those of a bus come after those of the buses before it
 up_to_next : (b : ℕ) (newer older : List Event) → AreHeardOn b newer → AreHeardUpTo b older
@@ -103,6 +107,7 @@ up_to_next b (Take w t s ∷ newer) older one two = absurd one
 up_to_next b (Commit w n r ∷ newer) older one two = absurd one
 up_to_next b (Hand c s t ∷ newer) older one two = absurd one
 up_to_next b (Done c n r ∷ newer) older one two = absurd one
+up_to_next b (Up c ∷ newer) older one two = absurd one
 
 -- no bus was asked yet
 pub none_heard : (p : Shown) (logs : List BusLog) → IsDriven p p logs logs → HaveHeard p p logs logs 0
@@ -132,7 +137,8 @@ one_more_heard p q r before between after n have driven hearing others none = re
       (λ c lt.
       let other : c ≢ n = λ e. absurd (omega (arith, lt, e)) in
       subst (λ (l : BusLog). HasNoFrame r c (log_of before c) l) (sym (others c other))
-      (frame_later q r c (log_of before c) (log_of between c) hearing.events hearing.history (have.silent c lt)))
+      (frame_later q r c n (log_of before c) (log_of between c) hearing.events hearing.history hearing.only
+      (have.silent c lt)))
       (frame_since r n (log_of before n) (log_of between n) (log_of after n) (have.driven.hears n) none) b below;
 }
 

@@ -7,7 +7,7 @@ use Rattle.std.specs.Prelude.{if◌then◌else◌}
 use Rattle.buslink.specs.BusLog.{BusLog, IsSameBus}
 use Rattle.plantevents.specs.declared.event.Event.{Event}
 use Rattle.plant.specs.Shown.{Shown}
-use Rattle.driving.specs.Links.{HasGrown, more_failures}
+use Rattle.driving.specs.Links.{HasGrown, so_many_more}
 use Rattle.driving.specs.Links.{IsLinked, IsAsked, HasHeard}
 use Rattle.driving.specs.TurnSteps.{IsSameOn, IsLater, IsBusStep, IsScanStep}
 
@@ -37,7 +37,8 @@ linked_moved first b h g log same is = record {
   same = is.same;
   sent = is.sent ∙ ap (λ x. first.sent ++ x) (sym same.sent);
   heard = is.heard ∙ ap (λ x. first.heard ++ x) (sym same.heard);
-  failed = is.failed ∙ ap (λ n. more_failures n first.failures) (sym same.downs);
+  failed = is.failed ∙ ap (λ n. so_many_more n first.failures) (sym same.downs);
+  mended = is.mended ∙ ap (λ n. so_many_more n first.mends) (sym same.ups);
 }
 
 -- ---- what follows
@@ -78,6 +79,7 @@ same_on_then b h g f one two = record {
   sent = two.sent ∙ one.sent;
   heard = two.heard ∙ one.heard;
   downs = two.downs ∙ one.downs;
+  ups = two.ups ∙ one.ups;
 }
 
 pub step_then : (b : ℕ) (p q r : Shown) (log between after : BusLog) → IsBusStep b p q log between
@@ -100,7 +102,7 @@ scan_then p q r one two = record {
 pub scan_nothing : (p : Shown) → IsScanStep p p
 scan_nothing p = record {
   later = record { later = []; history = refl; plant = refl; limit = refl; given = refl; idle = λ idle. idle };
-  buses = λ b. record { sent = refl; heard = refl; downs = refl };
+  buses = λ b. record { sent = refl; heard = refl; downs = refl; ups = refl };
 }
 
 pub step_nothing : (b : ℕ) (p : Shown) (log : BusLog) → IsBusStep b p p log log
@@ -108,6 +110,6 @@ step_nothing b p log = record {
   later = record { later = []; history = refl; plant = refl; limit = refl; given = refl; idle = λ idle. idle };
   same = record { number = refl; arrivals = refl };
   own = λ first is. is;
-  others = λ c other. record { sent = refl; heard = refl; downs = refl };
+  others = λ c other. record { sent = refl; heard = refl; downs = refl; ups = refl };
   hears = inl refl;
 }

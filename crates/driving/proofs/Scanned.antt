@@ -36,7 +36,7 @@ step_scanned w t n s result p r q taken committed =
         given = refl;
         idle = scanned_open p w t n s result;
       };
-      buses = λ b. record { sent = refl; heard = refl; downs = refl };
+      buses = λ b. record { sent = refl; heard = refl; downs = refl; ups = refl };
     })
 
 pub longer_by_scan : (w t n : ℕ) (s : ScanStart) (result : Scan) (p r q : Shown) → r ≡ grown p (Take w t s)

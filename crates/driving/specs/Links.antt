@@ -2,10 +2,10 @@
 -- heard there (IEC 62386-101, and profile).
 use Rattle.std.specs.Prelude.{◌≡◌, ◌⊎◌, ℕ, zero, suc, ◌-◌, ◌^◌, ◌<◌, ◌≤◌, min, List, [], ◌++◌, None, false}
 use Rattle.std.specs.Prelude.{slice_index_or}
-use Rattle.buslink.specs.BusLog.{BusLog, IsSameBus, one_more_failure}
+use Rattle.buslink.specs.BusLog.{BusLog, IsSameBus, one_more}
 use Rattle.buslink.specs.Each.{Each}
 use Rattle.plantevents.specs.declared.event.Event.{Event}
-use Rattle.plantevents.specs.Histories.{sent_in, heard_in, downs_in}
+use Rattle.plantevents.specs.Histories.{sent_in, heard_in, downs_in, ups_in}
 
 -- ---- the logs of buses, by their numbers
 
@@ -19,16 +19,18 @@ no_frame = record {
   failures = 0;
   hears = 0;
   heard_none = false;
+  mends = 0;
+  is_mended = false;
 }
 
 -- the log of a bus among these
 abbrev pub log_of : List BusLog → ℕ → BusLog
 log_of logs bus = slice_index_or logs bus no_frame
 
--- the count of failures after so many more
-abbrev pub more_failures : ℕ → ℕ → ℕ
-more_failures zero failures = failures
-more_failures (suc more) failures = one_more_failure (more_failures more failures)
+-- a count after so many more, modulo 2^64
+abbrev pub so_many_more : ℕ → ℕ → ℕ
+so_many_more zero count = count
+so_many_more (suc more) count = one_more (so_many_more more count)
 
 -- ---- counts of calls, which are kept at 2^64 - 1 once there
 
@@ -51,12 +53,14 @@ HasHeard first log = (log.hears ≡ first.hears) ⊎ IsAsked first log
 -- ---- a link and a history
 
 -- since the first log this bus sent the attempts of its reports in the history, one after another, and no other frame;
--- the history has just the frames that were heard there; and it went down as often as its interface failed
+-- the history has just the frames that were heard there; it went down as often as its interface failed, and came up as
+-- often as it was taken up again
 pub record IsLinked (first : BusLog) (bus : ℕ) (h : List Event) (log : BusLog) : Type 0 where
   pub same : IsSameBus first log
   pub sent : log.sent ≡ first.sent ++ sent_in bus h
   pub heard : log.heard ≡ first.heard ++ heard_in bus h
-  pub failed : log.failures ≡ more_failures (downs_in bus h) first.failures
+  pub failed : log.failures ≡ so_many_more (downs_in bus h) first.failures
+  pub mended : log.mends ≡ so_many_more (ups_in bus h) first.mends
 
 -- so it is of each bus
 abbrev pub AreLinked : List BusLog → List Event → List BusLog → Type 0

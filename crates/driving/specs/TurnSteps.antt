@@ -4,7 +4,7 @@ use Rattle.std.specs.Prelude.{Result, Ok, Err, ⊤}
 use Rattle.buslink.specs.BusLog.{BusLog, IsSameBus}
 use Rattle.plantevents.specs.declared.event.Event.{Event}
 use Rattle.plantevents.specs.declared.event.Event.TheVariants.{Heard, Down}
-use Rattle.plantevents.specs.Histories.{sent_in, heard_in, downs_in, given_in}
+use Rattle.plantevents.specs.Histories.{sent_in, heard_in, downs_in, ups_in, given_in}
 use Rattle.plant.specs.declared.refusal.CallRefusal.TheVariants.{NothingReady, BusDown}
 use Rattle.plant.specs.Shown.{Shown}
 use Rattle.driving.specs.declared.halt.Halt.{Halt}
@@ -19,6 +19,7 @@ pub record IsSameOn (b : ℕ) (h g : List Event) : Type 0 where
   pub sent : sent_in b g ≡ sent_in b h
   pub heard : heard_in b g ≡ heard_in b h
   pub downs : downs_in b g ≡ downs_in b h
+  pub ups : ups_in b g ≡ ups_in b h
 
 -- q is the plant p after more events, none of which is of the clock
 pub record IsLater (p q : Shown) : Type 0 where

@@ -1,11 +1,11 @@
-//! Buses that went down.
+//! Buses that are down.
 
 ghost use Rattle.std.specs.Prelude.{◌≡◌};
 ghost use Rattle.driving.specs.Downs.{has_down};
 
 use plant::Plant;
 
-/// Whether a bus of a plant went down.
+/// Whether a bus of a plant is down.
 pub fn has_down(plant: &Plant) -> bool
     ensures { result ≡ has_down plant.now.plant.plan.buses plant.now.history }
 {

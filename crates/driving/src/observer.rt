@@ -92,4 +92,13 @@ pub trait Observer<B> {
     fn note_down(&mut self, _place: u64, _bus: u8) -> io::Result<()> {
         Ok(())
     }
+
+    /// A bus that was down is up again, since its interface answers.
+    ///
+    /// # Errors
+    ///
+    /// What was told is not kept.
+    fn note_up(&mut self, _place: u64, _bus: u8) -> io::Result<()> {
+        Ok(())
+    }
 }

@@ -30,14 +30,14 @@ status_of_words kinds.DisplayVersion = Accepted
 status_of_words kinds.OutOfMemory = Failed
 status_of_words _ = Misused
 
--- of a play: all that the scenario says happened, or all up to a full history, and no bus went down; or a bus did, or
--- the allocator was out of memory
+-- of a play: all that the scenario says happened, or all up to a full history, and no bus is down at the end; or a bus
+-- is, or the allocator was out of memory
 abbrev pub status_of_play : Ending → Bool → ExitStatus
 status_of_play endings.NoMemory is_down = Failed
 status_of_play endings.Whole is_down = if is_down then Failed else Accepted
 status_of_play endings.Limit is_down = if is_down then Failed else Accepted
 
--- of a run: it came to the scenario's end, and no bus went down; or anything else
+-- of a run: it came to its clock's end, and no bus is down then; or anything else
 abbrev pub status_of_run : Ended → Bool → ExitStatus
 status_of_run Asked false = Accepted
 status_of_run ended is_down = Failed

@@ -47,7 +47,7 @@ impl ExitStatus {
         }
     }
 
-    /// Of how a play ended, and whether a bus went down.
+    /// Of how a play ended, and whether a bus is down then.
     pub fn of_play(ending: Ending, is_down: bool) -> ExitStatus
         ensures { result ≡ status_of_play ending is_down }
     {
@@ -57,7 +57,7 @@ impl ExitStatus {
         }
     }
 
-    /// Of why a run ended, and whether a bus went down.
+    /// Of why a run ended, and whether a bus is down then.
     pub fn of_run(ended: Ended, is_down: bool) -> ExitStatus
         ensures { result ≡ status_of_run ended is_down }
     {

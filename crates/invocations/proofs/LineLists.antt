@@ -11,7 +11,7 @@ use Rattle.std.proofs.lemmas.Map.Made.{IsDistinct-from_AllPairs}
 use Rattle.std.proofs.lemmas.Map.Steps.{length-le_from_distinct_below}
 use Rattle.std.proofs.lemmas.Bool.Decides.{Decides-eqb}
 use Rattle.clap.specs.Words.{Text}
-use Rattle.invocations.specs.LineWords.{AreLines, IsFaultAfter, IsFirstFault, IsLineWord, word_of}
+use Rattle.invocations.specs.LineWords.{AreLines, IsFaultAfter, IsFirstFault, IsLineWord, SharePath, word_of}
 use Rattle.invocations.proofs.LineParts.{bus_spelled}
 use Rattle.invocations.specs.declared.line_words.LineWord.{LineWord}
 use Rattle.invocations.specs.declared.line_words.LineWordFault.{LineWordFault}
@@ -32,15 +32,21 @@ each_more [] (l ∷ lines) word line each is = absurd each
 each_more (w ∷ words) [] word line each is = absurd each
 each_more (w ∷ words) (l ∷ lines) word line each is = (each.0, each_more words lines word line each.1 is)
 
-apart_more : (lines : List LineWord) (line : LineWord) → AllPairs (λ one other. ¬ (one.bus ≡ other.bus)) lines
-    → ¬ Any (λ other. other.bus ≡ line.bus) lines
-    → AllPairs (λ one other. ¬ (one.bus ≡ other.bus)) (lines ++ line ∷ [])
-apart_more lines line apart none =
-    all_pairs_push (λ one other. ¬ (one.bus ≡ other.bus)) lines line apart
-    (λ k d within same. none (k, get_or lines k d, within, get_or_default lines k (get_or lines k d) d within, same))
+-- lines of which no two meet, and behind them one that meets none of them
+apart_more : (Meet : LineWord → LineWord → Type 0) (lines : List LineWord) (line : LineWord)
+    → AllPairs (λ one other. ¬ Meet one other) lines → ¬ Any (λ other. Meet other line) lines
+    → AllPairs (λ one other. ¬ Meet one other) (lines ++ line ∷ [])
+apart_more Meet lines line apart none =
+    all_pairs_push (λ one other. ¬ Meet one other) lines line apart
+    (λ k d within meet. none (k, get_or lines k d, within, get_or_default lines k (get_or lines k d) d within, meet))
 
 pub none_yet : AreLines [] []
-none_yet = record { each = tt; apart = λ i j d before within. absurd (omega arith) }
+none_yet =
+    record {
+      each = tt;
+      apart = λ i j d before within. absurd (omega arith);
+      unshared = λ i j d before within. absurd (omega arith);
+    }
 
 texts_more : (words : List (Bor Text)) (i : ℕ) (d : Bor Text) → i < length words
     → texts (take (i + 1) words) ≡ texts (take i words) ++ (get_or words i d).now ∷ []
@@ -49,11 +55,13 @@ texts_more words i d within =
 
 pub one_more : (words : List (Bor Text)) (i : ℕ) (d : Bor Text) (lines : List LineWord) (line : LineWord)
     → i < length words → AreLines (texts (take i words)) lines → IsLineWord (get_or words i d).now line
-    → ¬ Any (λ other. other.bus ≡ line.bus) lines → AreLines (texts (take (i + 1) words)) (lines ++ line ∷ [])
-one_more words i d lines line within are is none =
+    → ¬ Any (λ other. other.bus ≡ line.bus) lines → ¬ Any (λ other. SharePath other line) lines
+    → AreLines (texts (take (i + 1) words)) (lines ++ line ∷ [])
+one_more words i d lines line within are is none unshared =
     let more : AreLines (texts (take i words) ++ (get_or words i d).now ∷ []) (lines ++ line ∷ []) = record {
       each = each_more (texts (take i words)) lines (get_or words i d).now line are.each is;
-      apart = apart_more lines line are.apart none;
+      apart = apart_more (λ one other. one.bus ≡ other.bus) lines line are.apart none;
+      unshared = apart_more SharePath lines line are.unshared unshared;
     } in
     subst (λ (t : List Text). AreLines t (lines ++ line ∷ [])) (sym (texts_more words i d within)) more
 

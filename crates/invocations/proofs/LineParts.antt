@@ -25,7 +25,7 @@ StandsNowhere byte text = (i : ℕ) → i < length text → get_or text i 0 ≢ 
 pub nowhere : (byte : ℕ) (text : Text) → ¬ Contains text byte → StandsNowhere byte text
 nowhere byte text none i within is = none (i, within, get_or_default text i byte 0 within ∙ is)
 
-between : (byte : ℕ) (front back : Text) → Contains (front ++ byte ∷ back) byte
+pub between : (byte : ℕ) (front back : Text) → Contains (front ++ byte ∷ back) byte
 between byte front back =
     (length front, omega (arith, length-append front (byte ∷ back)), get_or-append_seam front byte back byte)
 

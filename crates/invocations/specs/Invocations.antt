@@ -163,14 +163,20 @@ pub record IsBeside (found : List Row) (beside : Beside) : Type 0 where
   pub is_json : IsFlag (one_of (codes "json") found) beside.is_json
   pub keep : IsGivenPath (first_of (codes "keep") found) beside.keep
 
+-- the milliseconds that a line may be silent, and 5,000 where nothing else is said
+abbrev pub IsPatience : List Row → ℕ → Type 0
+IsPatience found patience = IsNumber 5000 (one_of (codes "patience") found) patience
+
 -- how a building is run: the period, the seconds and the path of the file that ends it, where they are given; how large
--- a run may become; whether it goes on where a bus has gone down; and what is written beside it
+-- a run may become; whether it ends where a bus has gone down; how long a line may be silent; and what is written beside
+-- it
 pub record AreLiveOptions (found : List Row) (options : LiveOptions) : Type 0 where
   pub period : IsGivenNumber (one_of (codes "period") found) options.period
   pub seconds : IsGivenNumber (one_of (codes "for") found) options.seconds
   pub stop : IsGivenPath (first_of (codes "stop") found) options.stop
   pub size : IsRunSize found options.size
-  pub stay : IsFlag (one_of (codes "stay") found) options.stay
+  pub ends_on_down : IsFlag (one_of (codes "end-on-down") found) options.ends_on_down
+  pub patience : IsPatience found options.patience
   pub beside : IsBeside found options.beside
 
 -- the words for the lines of buses
@@ -244,12 +250,15 @@ IsInquiryName name = IsTextName name × IsNoQuestion name
 
 -- what was found under a command's name is what is done at one line
 abbrev pub IsOfTool : Text → List Row → Tool → Type 0
-IsOfTool name found (Probe line against) = (name ≡ codes "probe") × IsLine found line × AreAgainst found against
-IsOfTool name found (Listen line binding scenario end) =
-    (name ≡ codes "listen") × IsLine found line × IsListening found binding scenario end
-IsOfTool name found (Blink line address) =
-    (name ≡ codes "blink") × IsLine found line × IsByte (one_of (codes "ADR") found) address
-IsOfTool name found (Request line words) = (name ≡ codes "ask") × IsLine found line × AreRequestWords found words
+IsOfTool name found (Probe line patience against) =
+    (name ≡ codes "probe") × IsLine found line × IsPatience found patience × AreAgainst found against
+IsOfTool name found (Listen line patience binding scenario end) =
+    (name ≡ codes "listen") × IsLine found line × IsPatience found patience × IsListening found binding scenario end
+IsOfTool name found (Blink line patience address) =
+    (name ≡ codes "blink") × IsLine found line × IsPatience found patience
+    × IsByte (one_of (codes "ADR") found) address
+IsOfTool name found (Request line patience words) =
+    (name ≡ codes "ask") × IsLine found line × IsPatience found patience × AreRequestWords found words
 
 -- what was found under a command's name is the invocation; a played history has 100,000 events at most where nothing
 -- else is said

@@ -10,7 +10,7 @@ ghost use Rattle.invocations.specs.LineWords.{IsNoPath};
 use crate::files::LiveFiles;
 use crate::line_words::{LineWord, LineWordFault, paths_in};
 use crate::questions::word_in;
-use crate::readers::{given_number_in, text_in};
+use crate::readers::{given_number_in, patience_in, text_in};
 use crate::tools::{GivenListenEnd, GivenRequest, Tool};
 use clap::ArgMatches;
 
@@ -47,6 +47,7 @@ fn probe_in<'a>(found: &ArgMatches<'a>) -> Result<Tool<'a>, LineWordFault<'a>>
     let line = line_in(found)?;
     Ok(Tool::Probe {
         line,
+        patience: patience_in(found),
         against: against_in(found),
     })
 }
@@ -59,6 +60,7 @@ fn listen_in<'a>(found: &ArgMatches<'a>) -> Result<Tool<'a>, LineWordFault<'a>>
     let line = line_in(found)?;
     Ok(Tool::Listen {
         line,
+        patience: patience_in(found),
         binding: word_in(found, "bind"),
         record: word_in(found, "record"),
         end: listen_end_in(found),
@@ -73,6 +75,7 @@ fn blink_in<'a>(found: &ArgMatches<'a>) -> Result<Tool<'a>, LineWordFault<'a>>
     let line = line_in(found)?;
     Ok(Tool::Blink {
         line,
+        patience: patience_in(found),
         address: byte_in(found, "ADR"),
     })
 }
@@ -85,6 +88,7 @@ fn request_in<'a>(found: &ArgMatches<'a>) -> Result<Tool<'a>, LineWordFault<'a>>
     let line = line_in(found)?;
     Ok(Tool::Request {
         line,
+        patience: patience_in(found),
         words: request_words_in(found),
     })
 }

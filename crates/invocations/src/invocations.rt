@@ -25,8 +25,8 @@ pub enum Invocation<'a> {
         size: RunSize,
     },
     /// `live TEXT BIND --line B=PATH.. [--period MS] [--for SECONDS] [--stop PATH] [--limit N]
-    /// [--workers W] [--stay] [--log FILE] [--log-size BYTES] [--record FILE] [--status FILE]
-    /// [--json] [--keep FILE]`
+    /// [--workers W] [--patience MS] [--end-on-down] [--stay] [--log FILE] [--log-size BYTES]
+    /// [--record FILE] [--status FILE] [--json] [--keep FILE]`
     Live {
         files: LiveFiles<'a>,
         lines: LineWords<'a>,
@@ -92,8 +92,10 @@ pub struct LiveOptions<'a> {
     pub stop: Option<&'a str>,
     /// How large a run may become, after whose end the next one goes on.
     pub size: RunSize,
-    /// Whether it goes on where a bus has gone down.
-    pub stay: bool,
+    /// Whether it ends where a bus has gone down.
+    pub ends_on_down: bool,
+    /// The milliseconds that a line may be silent before its bus goes down, 100 to 60,000.
+    pub patience: u32,
     /// What is written beside it.
     pub beside: Beside<'a>,
 }

@@ -4,7 +4,8 @@ ghost use Rattle.std.specs.Prelude.{◌≡◌, ◌↔◌, ◌<◌, ℕ, Option, 
 ghost use Rattle.std.specs.Prelude.{option_map};
 ghost use Rattle.std.specs.List.{Any};
 ghost use Rattle.clap.specs.Words.{Text};
-ghost use Rattle.invocations.specs.LineWords.{ArePaths, AreLines, IsFirstFault, IsLineWord, IsPath};
+ghost use Rattle.invocations.specs.LineWords.{ArePaths, AreLines, HasPath, IsFirstFault};
+ghost use Rattle.invocations.specs.LineWords.{IsLineWord, IsPath, SharePath};
 ghost use Rattle.invocations.specs.declared.line_words.LineWord.{LineWord};
 
 use arrayvec::ArrayVec;
@@ -48,13 +49,15 @@ pub enum LineWordFault<'a> {
     NoLine(&'a str),
     /// This word names a bus that a word before it names.
     Again(&'a str),
+    /// This word names another bus than those before it, and a path that one of them names.
+    Shared(&'a str),
 }
 
 /// The lines that the words name.
 ///
 /// # Errors
 ///
-/// A word names none, or a bus that a word before it names.
+/// A word names none, or a bus or a path that a word before it names.
 pub(crate) fn lines_of<'a>(words: &[&'a str]) -> Result<LineWords<'a>, LineWordFault<'a>>
     ensures { MatchResult result
         (λ lines. AreLines (map (λ word. word.now) words.now) lines.items)
@@ -68,6 +71,9 @@ pub(crate) fn lines_of<'a>(words: &[&'a str]) -> Result<LineWords<'a>, LineWordF
         if has_line(lines.as_slice(), line.bus) {
             return Err(LineWordFault::Again(word));
         }
+        if is_shared(lines.as_slice(), &line) {
+            return Err(LineWordFault::Shared(word));
+        }
         lines.push(line);
     }
     Ok(lines)
@@ -78,6 +84,35 @@ fn has_line(lines: &[LineWord], bus: u8) -> bool
     ensures { IsTrue result ↔ Any (λ line. line.bus ≡ bus) lines.now }
 {
     lines.iter().any(|line| line.bus == bus)
+}
+
+/// Whether one of the lines shares a path with this one.
+fn is_shared(lines: &[LineWord], line: &LineWord) -> bool
+    ensures { IsTrue result ↔ Any (λ other. SharePath other line.now) lines.now }
+{
+    lines.iter().any(|other| share_path(other, line))
+}
+
+/// Whether a path is of both lines.
+fn share_path(one: &LineWord, other: &LineWord) -> bool
+    ensures { IsTrue result ↔ SharePath one.now other.now }
+{
+    has_path(one, other.from)
+        || match other.to {
+            Some(to) => has_path(one, to),
+            None => false,
+        }
+}
+
+/// Whether a path is one of the line's.
+fn has_path(line: &LineWord, path: &str) -> bool
+    ensures { IsTrue result ↔ HasPath line.now path.now }
+{
+    line.from == path
+        || match line.to {
+            Some(to) => to == path,
+            None => false,
+        }
 }
 
 /// The line that a word names, where it names one.

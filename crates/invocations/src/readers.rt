@@ -5,7 +5,7 @@ ghost use Rattle.clap.specs.Words.{first_of, found_of, one_of, rows_of};
 ghost use Rattle.invocations.specs.Invocations.{AreFiles, AreLiveFiles, AreLiveOptions};
 ghost use Rattle.invocations.specs.Invocations.{ArePlayFiles, IsBeside, IsFlag, IsGivenNumber};
 ghost use Rattle.invocations.specs.Invocations.{IsInquiryName, IsLineName, IsNumber, IsOfCommand};
-ghost use Rattle.invocations.specs.Invocations.{IsOfFault, IsRunSize, given, line_words};
+ghost use Rattle.invocations.specs.Invocations.{IsOfFault, IsPatience, IsRunSize, given, line_words};
 ghost use Rattle.invocations.specs.LineWords.{AreLines, IsFirstFault};
 
 use crate::at_line::at_line;
@@ -23,8 +23,8 @@ use clap::ArgMatches;
 ///
 /// # Errors
 ///
-/// A word for a line names none, or a bus that a word before it names; or a word for what is
-/// expected isn't one, or is one too many; or a name that is watched is one too many.
+/// A word for a line names none, or a bus or a path that a word before it names; or a word for what
+/// is expected isn't one, or is one too many; or a name that is watched is one too many.
 pub fn invocation_of<'a>(
     name: &str,
     found: &ArgMatches<'a>,
@@ -160,9 +160,17 @@ fn live_options_in<'a>(found: &ArgMatches<'a>) -> LiveOptions<'a>
         seconds: given_number_in(found, "for"),
         stop: word_in(found, "stop"),
         size: run_size_in(found),
-        stay: flag_in(found, "stay"),
+        ends_on_down: flag_in(found, "end-on-down"),
+        patience: patience_in(found),
         beside: beside_in(found),
     }
+}
+
+/// The milliseconds that a line may be silent, or without that option 5,000.
+pub(crate) fn patience_in(found: &ArgMatches) -> u32
+    ensures { IsPatience (rows_of (found_of found.now)) result }
+{
+    number_in(found, "patience", 5_000)
 }
 
 /// What is written beside a building.

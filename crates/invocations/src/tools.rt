@@ -3,32 +3,38 @@
 use crate::files::LiveFiles;
 use crate::line_words::LineWord;
 
-/// What is done at one line.
+/// What is done at one line, which may be silent for the milliseconds of its patience, 100 to
+/// 60,000.
 #[derive(Clone, Copy)]
 pub enum Tool<'a> {
-    /// `probe --line PATH [TEXT BIND] [--bus B]`
+    /// `probe --line PATH [--patience MS] [TEXT BIND] [--bus B]`
     Probe {
         line: LineWord<'a>,
+        patience: u32,
         /// What is compared with the line, where it is given.
         against: Option<LiveFiles<'a>>,
     },
-    /// `listen --line PATH [--bind FILE] [--bus B] [--record FILE] [--for SECONDS] [--stop PATH]`
+    /// `listen --line PATH [--patience MS] [--bind FILE] [--bus B] [--record FILE] [--for SECONDS]
+    /// [--stop PATH]`
     Listen {
         line: LineWord<'a>,
+        patience: u32,
         /// The path of the binding by which sources are named, where one is given.
         binding: Option<&'a str>,
         /// The path to which a scenario of what was heard goes, where one is given.
         record: Option<&'a str>,
         end: GivenListenEnd<'a>,
     },
-    /// `blink --line PATH ADR`: the short address, 0 to 63.
+    /// `blink --line PATH [--patience MS] ADR`: the short address, 0 to 63.
     Blink {
         line: LineWord<'a>,
+        patience: u32,
         address: u8,
     },
-    /// `ask --line PATH REQUEST ADR [VALUE] [VALUE2]`
+    /// `ask --line PATH [--patience MS] REQUEST ADR [VALUE] [VALUE2]`
     Request {
         line: LineWord<'a>,
+        patience: u32,
         words: GivenRequest<'a>,
     },
 }

@@ -1,8 +1,9 @@
 -- A bus behind a line as its callers see it, and one request with its answer.
-use Rattle.std.specs.Prelude.{◌≡◌, ℕ, Bool, true, false, List, [], ◌++◌, Option, None, Result, IsErr}
+use Rattle.std.specs.Prelude.{◌≡◌, ℕ, Bool, true, false, List, [], ◌++◌, Option, None, Some, Result, IsErr}
 use Rattle.std.specs.Io.KnownBytes.{Appends, Consumes}
 use Rattle.buslink.specs.BusLog.{BusLog}
 use Rattle.linebus.specs.Lines.{line_end}
+use Rattle.linebus.specs.Greetings.{Ends}
 
 pub record LineState : Type 0 where
   -- what became of the bus so far
@@ -24,9 +25,28 @@ fresh_log number = record {
   failures = 0;
   hears = 0;
   heard_none = false;
+  mends = 0;
+  is_mended = false;
 }
 
--- a line on which nothing was said
+-- what the interface of a line is still to say, and what was said to it: of no line nothing is known
+abbrev pub unread_on : Option Ends → Option (List ℕ)
+unread_on None = None
+unread_on (Some ends) = ends.unread
+
+abbrev pub written_on : Option Ends → Option (List ℕ)
+written_on None = None
+written_on (Some ends) = ends.written
+
+-- the line of a bus is this one from here on
+abbrev pub with_line : Ends → LineState → LineState
+with_line ends state = record state { unread = ends.unread; written = ends.written; is_in_step = true }
+
+-- the line of a bus is gone
+abbrev pub without_line : LineState → LineState
+without_line state = record state { unread = None; written = None; is_in_step = false }
+
+-- a bus on whose line, with these bytes, nothing was said but the greeting
 abbrev pub silent_line : ℕ → Option (List ℕ) → Option (List ℕ) → LineState
 silent_line number unread written =
     record { log = fresh_log number; unread = unread; written = written; is_in_step = true }

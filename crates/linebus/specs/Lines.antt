@@ -1,5 +1,6 @@
--- What is said on the line of a bus interface, version 1 (profile): a request, and then one line that answers it. Each
--- line ends with a line feed. Numbers are decimal. A 16-bit frame has four hexadecimal digits, a 24-bit frame six.
+-- What is said on the line of a bus interface, version 2 (profile): a greeting, and then requests, each with one line
+-- that answers it. Each line ends with a line feed. Numbers are decimal. A 16-bit frame has four hexadecimal digits, a
+-- 24-bit frame six.
 use Rattle.std.specs.Prelude.{◌≡◌, ℕ, List, [], ◌∷◌, ◌++◌, Option, Some, None, codes}
 use Rattle.std.specs.Fmt.{decimal}
 use Rattle.daliframe.specs.declared.forward.Frame.{Frame}
@@ -12,11 +13,25 @@ use Rattle.wordlines.specs.WordLines.{hex_number, number_upto}
 abbrev pub line_end : List ℕ
 line_end = 10 ∷ []
 
--- ---- what is asked
+-- ---- the greeting
 
--- both ends say it once, at the start
+-- The controller greets by a number that no earlier greeting had: `gushewa 2 1764351660000`.
+abbrev pub numbered_greeting : ℕ → List ℕ
+numbered_greeting number = codes "gushewa 2 " ++ decimal number
+
+-- The interface answers with this number, so that an echo of the greeting is no answer: `gushewa 2 hears 1764351660000`.
+abbrev pub numbered_answer : ℕ → List ℕ
+numbered_answer number = codes "gushewa 2 hears " ++ decimal number
+
+-- an interface that does not know a request answers so
+abbrev pub fault_line : List ℕ
+fault_line = codes "fault"
+
+-- version 1, in which both ends say this
 abbrev pub greeting : List ℕ
 greeting = codes "gushewa 1"
+
+-- ---- what is asked
 
 -- send this frame with this priority: `send 2 0A80`
 abbrev pub send_line : Frame → ℕ → List ℕ

@@ -3,13 +3,20 @@
 ghost use Rattle.std.specs.Prelude.{◌≡◌, ◌↔◌, ◌++◌, ℕ, List, Option, Some, IsTrue, MatchOption};
 ghost use Rattle.transact.specs.declared.marks.Reply.{Reply as ReplyTo};
 ghost use Rattle.transact.specs.declared.marks.Reply.TheVariants as said;
-ghost use Rattle.linebus.specs.Lines.{IsMessage, IsReply, greeting};
+ghost use Rattle.linebus.specs.Lines.{IsMessage, IsReply, fault_line, greeting};
 
 use daliframe::Frame24;
 use transact::Reply;
 use wordlines::{hex_of, number_of};
 
-/// Whether a line greets in the version that is spoken here.
+/// Whether a line says that the interface does not know what was asked.
+pub(crate) fn is_fault(line: &[u8]) -> bool
+    ensures { IsTrue result ↔ (line.now ≡ fault_line) }
+{
+    is_same(line, b"fault")
+}
+
+/// Whether a line greets in version 1.
 pub(crate) fn is_greeting(line: &[u8]) -> bool
     ensures { IsTrue result ↔ (line.now ≡ greeting) }
 {
@@ -85,7 +92,7 @@ fn after<'a>(line: &'a [u8], front: &[u8]) -> Option<&'a [u8]>
 }
 
 /// Whether the bytes are the same.
-fn is_same(bytes: &[u8], others: &[u8]) -> bool
+pub(crate) fn is_same(bytes: &[u8], others: &[u8]) -> bool
     ensures { IsTrue result ↔ (bytes.now ≡ others.now) }
 {
     bytes == others

@@ -1,12 +1,18 @@
 //! Buses behind a line.
 
-ghost use Rattle.std.specs.Prelude.{◌≡◌, ◌<◌, ◌≤◌, ◌++◌, IfOk, IsOk, IsErr, OnOk, false, is_ok};
-ghost use Rattle.buslink.specs.BusLog.{TellsAll, after_send, after_hear, with_sent, with_spare};
-ghost use Rattle.linebus.specs.Lines.{IsMessage, IsReply, greeting, hear_line, line_end, send_line};
+ghost use Rattle.std.specs.Prelude.{◌≡◌, ◌<◌, ◌≤◌, ◌++◌, ◌&&◌, IfOk, IsNone, IsOk, IsErr, OnOk, true};
+ghost use Rattle.std.specs.Prelude.{false, is_ok, IfSome};
+ghost use Rattle.buslink.specs.BusLog.{TellsAll, after_hear, after_mend, after_resume, after_send};
+ghost use Rattle.buslink.specs.BusLog.{with_sent, with_spare};
+ghost use Rattle.linebus.specs.Greetings.{ends};
+ghost use Rattle.linebus.specs.Lines.{IsMessage, IsReply, hear_line, line_end, send_line};
 ghost use Rattle.linebus.specs.Exchanges.{IsAtMost, IsExchange, IsSilent, fresh_log, silent_line};
+ghost use Rattle.linebus.specs.Exchanges.{with_line, without_line};
 
-use crate::answers::{is_greeting, message_in, reply_in};
-use crate::ends::{ask_to_hear, ask_to_send, greet, read_line};
+use crate::answers::{message_in, reply_in};
+use crate::ends::{ask_to_hear, ask_to_send, read_line};
+use crate::greetings::Greeted;
+use crate::troubles::Trouble;
 use buslink::{Bus, Fault};
 use daliframe::{BusNumber, Frame, Frame24};
 use memo::Trace;
@@ -16,12 +22,14 @@ use std::marker::Model;
 use transact::{Mark, Reply, Sent};
 
 /// A bus behind a line. Once a request was not answered as it should be, the bus says nothing more
-/// and fails, since a later line might answer that request. What was sent and heard has no bytes.
+/// and fails, since a later line might answer that request, until it has a line that greeted. What
+/// was sent and heard has no bytes.
 #[derive(Drop)]
 pub struct LineBus<R: Read, W: Write> {
-    from: R,
-    to: W,
+    line: Option<Greeted<R, W>>,
     is_in_step: bool,
+    /// Why the last request on the line came to nothing.
+    trouble: Trouble,
     number: BusNumber,
     sent: Trace<Sent>,
     heard: Trace<Frame24>,
@@ -29,11 +37,13 @@ pub struct LineBus<R: Read, W: Write> {
     failures: u64,
     hears: u64,
     heard_none: bool,
+    mends: u64,
+    is_mended: bool,
 }
 
 impl<R: Read, W: Write> Model for LineBus<R, W> {
     ghost use Rattle.std.specs.Prelude.{None, reverse};
-    ghost use Rattle.linebus.specs.Exchanges.{LineState};
+    ghost use Rattle.linebus.specs.Exchanges.{LineState, unread_on, written_on};
 
     ghost Value = { LineState };
 
@@ -47,35 +57,24 @@ impl<R: Read, W: Write> Model for LineBus<R, W> {
         failures = b.failures;
         hears = b.hears;
         heard_none = b.heard_none;
+        mends = b.mends;
+        is_mended = b.is_mended;
       };
-      unread = R.remaining b.from;
-      written = W.contents b.to;
+      unread = unread_on b.line;
+      written = written_on b.line;
       is_in_step = b.is_in_step;
     } };
 }
 
 impl<R: Read + Drop, W: Write + Drop> LineBus<R, W> {
-    /// Greets the interface at the other end. The bus has sent and heard nothing.
-    ///
-    /// # Errors
-    ///
-    /// The interface did not greet in the same version.
-    pub fn open(from: R, to: W, number: BusNumber) -> Result<LineBus<R, W>, Fault>
-        ensures log { IfOk result (λ b. b.log ≡ fresh_log number) }
-        ensures greeted { IfOk result (λ b. IsExchange greeting (λ line. line ≡ greeting)
-            (silent_line number (R.remaining from) (W.contents to)) b) }
+    /// A bus whose line is not there yet. Each call fails, and says and reads nothing.
+    pub fn absent(number: BusNumber) -> LineBus<R, W>
+        ensures { result ≡ without_line (silent_line number None None) }
     {
-        let mut from = from;
-        let mut to = to;
-        greet(&mut to)?;
-        let line = read_line(&mut from)?;
-        if !is_greeting(line.as_slice()) {
-            return Err(Fault);
-        }
-        Ok(LineBus {
-            from,
-            to,
-            is_in_step: true,
+        LineBus {
+            line: None,
+            is_in_step: false,
+            trouble: Trouble::Absent,
             number,
             sent: Trace::new(),
             heard: Trace::new(),
@@ -83,21 +82,75 @@ impl<R: Read + Drop, W: Write + Drop> LineBus<R, W> {
             failures: 0,
             hears: 0,
             heard_none: false,
-        })
+            mends: 0,
+            is_mended: false,
+        }
     }
 
-    /// The reader with what the interface is still to say, and the writer with what was said to it.
-    pub fn into_ends(self) -> (R, W)
-        ensures unread { R.remaining result.0 ≡ self.unread }
-        ensures written { W.contents result.1 ≡ self.written }
+    /// A bus behind a line whose interface greeted. It has sent and heard nothing.
+    pub fn over(greeted: Greeted<R, W>, number: BusNumber) -> LineBus<R, W>
+        ensures { result ≡ silent_line number greeted.unread greeted.written }
     {
-        let LineBus { from, to, .. } = self;
-        (from, to)
+        let mut bus = LineBus::absent(number);
+        bus.begin(greeted);
+        bus
+    }
+
+    /// Gives the bus its line, whose interface greeted. What was sent and heard stays what it was.
+    pub fn begin(&mut self, greeted: Greeted<R, W>)
+        ensures { self.new ≡ with_line greeted self.old }
+    {
+        self.line = Some(greeted);
+        self.is_in_step = true;
+    }
+
+    /// Gives the bus another line, whose interface greeted, so that it may be taken up again. What
+    /// was sent and heard stays what it was.
+    pub fn renew(&mut self, greeted: Greeted<R, W>)
+        ensures { self.new ≡ with_line greeted (record self.old {
+          log = after_mend true self.old.log;
+        }) }
+    {
+        self.begin(greeted);
+        self.is_mended = true;
+    }
+
+    /// Gives the two ends of the line away, where there is a line. What was sent and heard stays what
+    /// it was.
+    pub fn let_go(&mut self) -> Option<(R, W)>
+        ensures ends { IfSome result (λ pair. (R.remaining pair.0 ≡ self.old.unread)
+            × (W.contents pair.1 ≡ self.old.written)) }
+        ensures left { self.new ≡ without_line self.old }
+    {
+        self.is_in_step = false;
+        let greeted = self.line.take()?;
+        Some(greeted.into_ends())
+    }
+
+    /// Whether each request on the line so far was answered as it should be.
+    pub fn is_in_step(&self) -> bool
+        ensures value { result ≡ self.now.is_in_step }
+    {
+        self.is_in_step
+    }
+
+    /// Why the last request on the line came to nothing, where one did.
+    pub fn trouble(&self) -> &Trouble {
+        &self.trouble
+    }
+
+    /// Notes why a request came to nothing: the first that did tells why those after it fail.
+    fn note_trouble(&mut self, trouble: Trouble)
+        ensures { self.new ≡ self.old }
+    {
+        if !matches!(trouble, Trouble::Absent) {
+            self.trouble = trouble;
+        }
     }
 
     /// Has a frame sent, and reads what became of it.
     #[tactic(auto, using(crate::proofs::Writing::not_begun))]
-    fn try_to_send(&mut self, frame: &Frame, priority: u8) -> Result<Reply, Fault>
+    fn try_to_send(&mut self, frame: &Frame, priority: u8) -> Result<Reply, Trouble>
         ensures log { self.new.log ≡ self.old.log }
         ensures asked { IfOk result (λ reply. IsExchange (send_line frame.now priority)
             (λ line. IsReply reply line) self.old self.new) }
@@ -107,19 +160,24 @@ impl<R: Read + Drop, W: Write + Drop> LineBus<R, W> {
         ensures silent { self.old.is_in_step ≡ false → IsErr result × (self.new ≡ self.old) }
     {
         if !self.is_in_step {
-            return Err(Fault);
+            return Err(Trouble::Absent);
         }
         self.is_in_step = false;
-        ask_to_send(&mut self.to, frame, priority)?;
-        let line = read_line(&mut self.from)?;
-        let reply = reply_in(line.as_slice()).ok_or(Fault)?;
+        let Some(line) = &mut self.line else {
+            return Err(Trouble::Absent);
+        };
+        ask_to_send(&mut line.to, frame, priority)?;
+        let answer = read_line(&mut line.from)?;
+        let Some(reply) = reply_in(answer.as_slice()) else {
+            return Err(Trouble::of(answer));
+        };
         self.is_in_step = true;
         Ok(reply)
     }
 
     /// Asks for what has come, and reads it.
     #[tactic(auto, using(crate::proofs::Writing::not_begun))]
-    fn try_to_hear(&mut self) -> Result<Option<Frame24>, Fault>
+    fn try_to_hear(&mut self) -> Result<Option<Frame24>, Trouble>
         ensures log { self.new.log ≡ self.old.log }
         ensures asked { IfOk result (λ message. IsExchange hear_line
             (λ line. IsMessage message line) self.old self.new) }
@@ -128,12 +186,17 @@ impl<R: Read + Drop, W: Write + Drop> LineBus<R, W> {
         ensures silent { self.old.is_in_step ≡ false → IsErr result × (self.new ≡ self.old) }
     {
         if !self.is_in_step {
-            return Err(Fault);
+            return Err(Trouble::Absent);
         }
         self.is_in_step = false;
-        ask_to_hear(&mut self.to)?;
-        let line = read_line(&mut self.from)?;
-        let message = message_in(line.as_slice()).ok_or(Fault)?;
+        let Some(line) = &mut self.line else {
+            return Err(Trouble::Absent);
+        };
+        ask_to_hear(&mut line.to)?;
+        let answer = read_line(&mut line.from)?;
+        let Some(message) = message_in(answer.as_slice()) else {
+            return Err(Trouble::of(answer));
+        };
         self.is_in_step = true;
         Ok(message)
     }
@@ -185,7 +248,8 @@ impl<R: Read + Drop, W: Write + Drop> Bus for LineBus<R, W> {
                 self.note_sent(frame, priority, Mark::from(reply));
                 Ok(reply)
             }
-            Err(Fault) => {
+            Err(trouble) => {
+                self.note_trouble(trouble);
                 self.note_sent(frame, priority, Mark::Failed);
                 self.failures = self.failures.wrapping_add(1);
                 Err(Fault)
@@ -213,10 +277,26 @@ impl<R: Read + Drop, W: Write + Drop> Bus for LineBus<R, W> {
                 Ok(Some(frame))
             }
             Ok(None) => Ok(None),
-            Err(Fault) => {
+            Err(trouble) => {
+                self.note_trouble(trouble);
                 self.failures = self.failures.wrapping_add(1);
                 Err(Fault)
             }
         }
+    }
+
+    fn mend(&mut self) -> bool
+        ensures same { self.new ≡ record self.old { log = after_mend result self.old.log } }
+        ensures when { result ≡ (self.old.is_in_step && self.old.log.is_mended) }
+    {
+        self.is_mended = self.is_in_step && self.is_mended;
+        self.is_mended
+    }
+
+    fn resume(&mut self)
+        ensures { self.new ≡ record self.old { log = after_resume self.old.log } }
+    {
+        self.mends = self.mends.wrapping_add(1);
+        self.is_mended = false;
     }
 }

@@ -3,30 +3,15 @@
 ghost use Rattle.std.specs.Prelude.{◌≡◌, ◌∷◌, [], ◌++◌, OnOk, IfOk};
 ghost use Rattle.std.specs.Io.KnownBytes.{Appends, Consumes};
 ghost use Rattle.linebus.specs.Exchanges.{IsAtMost, IsWrittenBut};
-ghost use Rattle.linebus.specs.Lines.{greeting, hear_line, line_end, send_line};
+ghost use Rattle.linebus.specs.Lines.{hear_line, line_end, send_line};
 
-use arrayvec::ArrayVec;
-use buslink::Fault;
+use crate::troubles::{Line, MOST_LINE, Trouble};
 use daliframe::Frame;
 use std::io::{ErrorKind, Read, Write};
 
-/// The most bytes of a line, with its end. No request and no answer needs more than half of them.
-const MOST_LINE: usize = 32;
-
-/// A line that was read, without its end.
-pub(crate) type Line = ArrayVec<u8, MOST_LINE>;
-
-/// Greets the interface.
-pub(crate) fn greet<W: Write>(to: &mut W) -> Result<(), Fault>
-    ensures { OnOk result (Appends (W.contents to.old) (W.contents to.new)
-        (greeting ++ line_end)) }
-{
-    say(to, b"gushewa 1\n")
-}
-
 /// Asks for a frame to be sent.
 #[tactic(auto, using(crate::proofs::Writing::not_begun))]
-pub(crate) fn ask_to_send<W: Write>(to: &mut W, frame: &Frame, priority: u8) -> Result<(), Fault>
+pub(crate) fn ask_to_send<W: Write>(to: &mut W, frame: &Frame, priority: u8) -> Result<(), Trouble>
     ensures whole { OnOk result (Appends (W.contents to.old) (W.contents to.new)
         (send_line frame.now priority ++ line_end)) }
     ensures at_most { IsAtMost (send_line frame.now priority ++ line_end)
@@ -37,18 +22,18 @@ pub(crate) fn ask_to_send<W: Write>(to: &mut W, frame: &Frame, priority: u8) -> 
 }
 
 /// The line that asks for a frame to be sent, with its end.
-fn send_request(frame: &Frame, priority: u8) -> Result<Line, Fault>
+fn send_request(frame: &Frame, priority: u8) -> Result<Line, Trouble>
     ensures { IfOk result (λ line. line.items ≡ send_line frame.now priority ++ line_end) }
 {
     let mut line = Line::new();
     match writeln!(line, "send {priority} {frame}") {
         Ok(()) => Ok(line),
-        Err(_) => Err(Fault),
+        Err(_) => Err(Trouble::Absent),
     }
 }
 
 /// Asks for what has come.
-pub(crate) fn ask_to_hear<W: Write>(to: &mut W) -> Result<(), Fault>
+pub(crate) fn ask_to_hear<W: Write>(to: &mut W) -> Result<(), Trouble>
     ensures whole { OnOk result (Appends (W.contents to.old) (W.contents to.new)
         (hear_line ++ line_end)) }
     ensures at_most { IsAtMost (hear_line ++ line_end) (W.contents to.old) (W.contents to.new) }
@@ -59,14 +44,14 @@ pub(crate) fn ask_to_hear<W: Write>(to: &mut W) -> Result<(), Fault>
 /// Writes a line, and flushes the writer. Where that fails, a first part of the line was written at
 /// most.
 #[tactic(auto, using(crate::proofs::Writing::all_written, crate::proofs::Writing::at_most))]
-fn say<W: Write>(to: &mut W, line: &[u8]) -> Result<(), Fault>
+pub(crate) fn say<W: Write>(to: &mut W, line: &[u8]) -> Result<(), Trouble>
     ensures whole { OnOk result (Appends (W.contents to.old) (W.contents to.new) line.now) }
     ensures at_most { IsAtMost line.now (W.contents to.old) (W.contents to.new) }
 {
     let rest = write_front(to, line);
     match to.flush() {
         Ok(()) if rest.is_empty() => Ok(()),
-        Ok(()) | Err(_) => Err(Fault),
+        Ok(()) | Err(_) => Err(Trouble::Closed),
     }
 }
 
@@ -98,21 +83,29 @@ fn write_some<'a, W: Write>(to: &mut W, line: &'a [u8]) -> (&'a [u8], bool)
     }
 }
 
+/// Why a read failed, by the kind of its error.
+pub(crate) fn trouble_of(kind: ErrorKind) -> Trouble {
+    match kind {
+        ErrorKind::TimedOut => Trouble::Silent,
+        _ => Trouble::Closed,
+    }
+}
+
 /// The next byte.
-fn read_byte<R: Read>(from: &mut R) -> Result<u8, Fault>
+fn read_byte<R: Read>(from: &mut R) -> Result<u8, Trouble>
     ensures { IfOk result
         (λ byte. Consumes (R.remaining from.old) (R.remaining from.new) (byte ∷ [])) }
 {
     let mut one = [0u8; 1];
     match from.read_exact(&mut one) {
         Ok(()) => Ok(one[0]),
-        Err(_) => Err(Fault),
+        Err(error) => Err(trouble_of(error.kind())),
     }
 }
 
 /// The next line. There is none where it is too long, where nothing more comes, or where the reader
 /// fails.
-pub(crate) fn read_line<R: Read>(from: &mut R) -> Result<Line, Fault>
+pub(crate) fn read_line<R: Read>(from: &mut R) -> Result<Line, Trouble>
     ensures { IfOk result (λ line. Consumes (R.remaining from.old) (R.remaining from.new)
         (line.items ++ line_end)) }
 {
@@ -124,5 +117,5 @@ pub(crate) fn read_line<R: Read>(from: &mut R) -> Result<Line, Fault>
         }
         line.push(byte);
     }
-    Err(Fault)
+    Err(Trouble::of(line))
 }

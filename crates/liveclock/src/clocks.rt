@@ -116,7 +116,10 @@ impl<T: Timer + Drop, S: StopCondition> Clock for LiveClock<T, S> {
         self.asks = self.asks.saturating_add(1);
         let moment = self.wait();
         self.gave_none = moment.is_none();
-        let moment = moment?;
+        let Some(moment) = moment else {
+            self.stop.note_end();
+            return None;
+        };
         self.note(moment);
         Some(moment)
     }

@@ -7,8 +7,7 @@
 //! definition to read first is `ClockState` (specs/ClockStates.antt).
 //!
 //! ```text
-//! let stop = StopFile { rt, path: "/run/dali/stop" };
-//! let mut clock = LiveClock::new(rt, NonZeroU64::new(100)?, u64::MAX, stop)?;
+//! let mut clock = LiveClock::new(rt, NonZeroU64::new(100)?, u64::MAX, NoStop)?;
 //! let moment = clock.now(); // 0, and at the next call 100
 //! ```
 #![tactic(auto)]
@@ -18,4 +17,4 @@ mod moments;
 mod stops;
 
 pub use clocks::LiveClock;
-pub use stops::{NoStop, StopCondition, StopFile};
+pub use stops::{NoStop, StopCondition};

@@ -67,6 +67,7 @@ fn step_of(alloc: Global, plant: &Plant, happened: &Happened) -> Option<Step> {
         Happened::Handed { bus, .. } => Some(Step::Hand { bus: *bus }),
         Happened::Reported { bus, report } => done(alloc, plant, *bus, report),
         Happened::WentDown { bus } => Some(Step::Down { bus: *bus }),
+        Happened::CameUp { bus } => Some(Step::Up { bus: *bus }),
     }
 }
 

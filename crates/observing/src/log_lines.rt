@@ -25,7 +25,7 @@ impl fmt::Display for Stamp {
     }
 }
 
-/// An event in words, behind `! ` where something went wrong.
+/// An event in words, behind `! ` where something went wrong, or is right again.
 #[derive(Clone, Copy)]
 pub(crate) struct EventWords<'e> {
     pub(crate) plan: &'e Plan,
@@ -55,6 +55,7 @@ impl fmt::Display for EventWords<'_> {
             }
             Happened::Reported { bus, report } => write_report(f, *bus, report),
             Happened::WentDown { bus } => write!(f, "! down bus {bus}"),
+            Happened::CameUp { bus } => write!(f, "! up bus {bus}"),
         }
     }
 }

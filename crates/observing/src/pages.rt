@@ -7,7 +7,7 @@ use crate::levels::Levels;
 use crate::log::Log;
 use crate::log_lines::{EventWords, Stamp};
 use crate::page::Page;
-use crate::record::Record;
+use crate::record::{Record, RecordEnd};
 use crate::status::{Status, write_json, write_lines};
 use crate::storage::Storage;
 use crate::unsorted::Told;
@@ -119,24 +119,24 @@ impl<'o, 'a> Pages<'o, 'a> {
         if let Some(path) = self.write_pages(storage, false) {
             self.give_up(storage, path);
         }
-        self.end_full_record(storage);
+        self.end_record(storage);
     }
 
-    /// Writes a record for the last time once it is full, and tells so.
-    fn end_full_record<S: Storage>(&mut self, storage: &S) {
-        let is_full = match &self.record {
-            Some(record) => record.is_full(),
-            None => false,
+    /// Writes a record for the last time once it has ended, and tells why.
+    fn end_record<S: Storage>(&mut self, storage: &S) {
+        let end = match &self.record {
+            Some(record) => record.end(),
+            None => None,
         };
-        if !is_full {
+        let Some(end) = end else {
             return;
-        }
+        };
         if let Some(path) = self.write_record(storage, storage.seconds(), true) {
             self.give_up(storage, path);
         }
         self.record = None;
         self.record_page = None;
-        tell(storage, "the record is full, and ends here");
+        tell(storage, ended_since(end));
     }
 
     /// Writes what is left at the end.
@@ -340,6 +340,14 @@ impl<'o, 'a> Pages<'o, 'a> {
             storage,
             "an event was missed: log, record, status and kept values end here",
         );
+    }
+}
+
+/// Why a record has ended, as a line.
+fn ended_since(end: RecordEnd) -> &'static str {
+    match end {
+        RecordEnd::Full => "the record is full, and ends here",
+        RecordEnd::CameUp => "a bus came up again, and the record ends here",
     }
 }
 

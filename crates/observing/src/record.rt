@@ -23,6 +23,15 @@ struct BusRecord {
     has_failed: bool,
 }
 
+/// Why nothing is added to a record.
+#[derive(Clone, Copy, PartialEq, Eq, Debug)]
+pub(crate) enum RecordEnd {
+    /// A line found no room.
+    Full,
+    /// A bus came up again, which no scenario can say.
+    CameUp,
+}
+
 /// The lines of a scenario: what is on the buses and what became of frames, then what came, in its
 /// order. A tick stands there where a task was taken after it or a frame was heard.
 #[derive(Drop)]
@@ -32,8 +41,12 @@ pub(crate) struct Record {
     buses: Vec<BusRecord>,
     /// The last tick, where it doesn't stand in the record.
     tick: Option<u64>,
-    /// Whether a line found no room, after which there is none.
-    is_full: bool,
+    /// The moment of the last tick, 0 before the first.
+    moment: u64,
+    /// Whether a bus failed as it was heard, and no tick stands behind that at which a play hears it.
+    owes_tick: bool,
+    /// Why nothing is added, once it has ended.
+    end: Option<RecordEnd>,
 }
 
 impl Record {
@@ -57,7 +70,9 @@ impl Record {
             body: Vec::new(alloc),
             buses,
             tick: None,
-            is_full: false,
+            moment: 0,
+            owes_tick: false,
+            end: None,
         };
         record.note_levels(plan)?;
         Ok(record)
@@ -85,19 +100,22 @@ impl Record {
         Ok(bytes)
     }
 
-    /// Whether a line found no room, after which there is none.
-    pub(crate) fn is_full(&self) -> bool {
-        self.is_full
+    /// Why nothing is added, once it has ended.
+    pub(crate) fn end(&self) -> Option<RecordEnd> {
+        self.end
     }
 
-    /// Notes an event.
+    /// Notes an event, unless the record has ended. It ends where a bus comes up again.
     ///
     /// # Errors
     ///
     /// The allocator is out of memory.
     pub(crate) fn note(&mut self, happened: &Happened) -> io::Result<()> {
+        if self.end.is_some() {
+            return Ok(());
+        }
         match happened {
-            Happened::Ticked { moment } => self.tick = Some(*moment),
+            Happened::Ticked { moment } => self.note_tick(*moment)?,
             Happened::Took { .. } => self.write_tick()?,
             Happened::Heard { bus, frame } => {
                 self.write_tick()?;
@@ -109,6 +127,33 @@ impl Record {
             Happened::Handed { bus, origin, .. } => self.note_handed(*bus, *origin),
             Happened::Reported { bus, report } => self.note_report(*bus, report)?,
             Happened::WentDown { bus } => self.note_down(*bus)?,
+            Happened::CameUp { bus } => self.end_at_up(*bus)?,
+        }
+        Ok(())
+    }
+
+    /// Notes a tick, which stands in the record at once where one is owed.
+    fn note_tick(&mut self, moment: u64) -> io::Result<()> {
+        self.tick = Some(moment);
+        self.moment = moment;
+        if self.owes_tick {
+            self.write_tick()?;
+        }
+        Ok(())
+    }
+
+    /// Ends the record where a bus comes up again.
+    fn end_at_up(&mut self, bus: u8) -> io::Result<()> {
+        if self.owes_tick {
+            self.tick = Some(self.moment);
+            self.write_tick()?;
+        }
+        if self.has_room() {
+            writeln!(
+                self.body,
+                "# bus {bus} came up again, and the record ends here"
+            )?;
+            self.end = Some(RecordEnd::CameUp);
         }
         Ok(())
     }
@@ -118,9 +163,9 @@ impl Record {
         const LONGEST_LINE: usize = 64;
         let bytes = self.head.len().saturating_add(self.body.len());
         if bytes.saturating_add(LONGEST_LINE) > MOST_BYTES {
-            self.is_full = true;
+            self.end = Some(RecordEnd::Full);
         }
-        !self.is_full
+        self.end.is_none()
     }
 
     /// Writes the last tick, where it isn't written.
@@ -129,6 +174,7 @@ impl Record {
             return Ok(());
         };
         self.tick = None;
+        self.owes_tick = false;
         if self.has_room() {
             writeln!(self.body, "tick {moment}")?;
         }
@@ -204,6 +250,7 @@ impl Record {
         };
         if !has_failed && self.has_room() {
             writeln!(self.body, "hearfault {bus}")?;
+            self.owes_tick = true;
         }
         Ok(())
     }

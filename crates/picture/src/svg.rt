@@ -3,9 +3,10 @@
 use crate::axis::{Label, place_columns};
 use crate::kinds::blocks_of;
 use crate::sheet::{EDGE, MOMENTS, NOTE, Sheet, TOP, end_of, left_of, letters_of, width_of};
-use crate::svg_elements::{Plain, write_stroke, write_words};
+use crate::svg_elements::{begin_words, write_plain, write_stroke, write_words};
 use crate::svg_rows::write_rows;
 use crate::{Column, Picture};
+use page::Page;
 use std::alloc::Global;
 use std::io;
 use std::io::Write;
@@ -70,119 +71,121 @@ pub fn write_svg<W: Write>(alloc: Global, out: &mut W, picture: Picture) -> io::
     let (picture, axis) = place_columns(alloc, picture, left, end_of(left))?;
     let blocks = blocks_of(alloc, &picture, letters_of(width_of(&axis)))?;
     let sheet = Sheet::of(left, axis, &blocks, picture.notes.len());
-    write_head(out, &picture.name, &sheet)?;
-    write_breaks(out, &sheet)?;
-    write_moments(out, &sheet)?;
-    write_rows(out, &blocks, &sheet)?;
-    write_foot(out, &picture.notes, &sheet)?;
-    write_titles(out, &picture.columns, &sheet)?;
-    writeln!(out, "</svg>")
+    let mut page = Page::new(alloc);
+    write_head(&mut page, &picture.name, &sheet);
+    write_breaks(&mut page, &sheet);
+    write_moments(&mut page, &sheet);
+    write_rows(&mut page, &blocks, &sheet);
+    write_foot(&mut page, &picture.notes, &sheet);
+    write_titles(&mut page, &picture.columns, &sheet);
+    page.text("</svg>\n");
+    page.write_to(out)
 }
 
 /// Writes what stands before all that is drawn, and the picture's name.
-fn write_head<W: Write>(out: &mut W, name: &str, sheet: &Sheet) -> io::Result<()> {
-    let width = sheet.width;
-    let height = sheet.height;
-    let title = Plain { text: name };
-    writeln!(
-        out,
-        "<svg xmlns=\"http://www.w3.org/2000/svg\" viewBox=\"0 0 {width} {height}\" \
-         width=\"{width}\" height=\"{height}\" \
-         font-family=\"system-ui, 'DejaVu Sans', sans-serif\" font-size=\"12\">\n\
-         <title>{title}</title>\n\
-         {STYLE}\n\
-         <rect width=\"100%\" height=\"100%\" fill=\"#fff\"/>"
-    )?;
-    write_words(out, "d", EDGE, TOP - 8, name)
+fn write_head(page: &mut Page, name: &str, sheet: &Sheet) {
+    page.text("<svg xmlns=\"http://www.w3.org/2000/svg\" viewBox=\"0 0 ");
+    page.count(sheet.width);
+    page.text(" ");
+    page.count(sheet.height);
+    write_size(page, "\" width=\"", sheet.width, sheet.height);
+    page.text("\" font-family=\"system-ui, 'DejaVu Sans', sans-serif\" font-size=\"12\">\n<title>");
+    write_plain(page, name);
+    page.text("</title>\n");
+    page.text(STYLE);
+    page.text("\n<rect width=\"100%\" height=\"100%\" fill=\"#fff\"/>\n");
+    write_words(page, "d", EDGE, TOP - 8, name);
+}
+
+/// Writes a width and a height as looks of an element, behind what begins them.
+fn write_size(page: &mut Page, begins: &str, width: usize, height: usize) {
+    page.text(begins);
+    page.count(width);
+    page.text("\" height=\"");
+    page.count(height);
+}
+
+/// Begins a rectangle of a class from the first heading down, at `x`, up to its further looks.
+fn begin_band(page: &mut Page, class: &str, x: usize, width: usize, sheet: &Sheet) {
+    page.text("<rect class=\"");
+    page.text(class);
+    page.text("\" x=\"");
+    page.count(x);
+    page.text("\" y=\"");
+    page.count(TOP);
+    write_size(page, "\" width=\"", width, sheet.bottom.saturating_sub(TOP));
 }
 
 /// Marks the times that are left out: a band over all rows, and two strokes below.
-fn write_breaks<W: Write>(out: &mut W, sheet: &Sheet) -> io::Result<()> {
-    let bottom = sheet.bottom;
-    let height = bottom.saturating_sub(TOP);
+fn write_breaks(page: &mut Page, sheet: &Sheet) {
+    let y = sheet.bottom.saturating_add(6);
     for left in sheet.axis.breaks.iter() {
-        let x = left.saturating_add(8);
-        let stroke = left.saturating_add(12);
-        let y = bottom.saturating_add(6);
-        writeln!(
-            out,
-            "<rect class=\"g\" x=\"{x}\" y=\"{TOP}\" width=\"20\" height=\"{height}\"/>\n\
-             <path class=\"z\" d=\"M{stroke} {y}l4 -12m4 12l4 -12\"/>"
-        )?;
+        begin_band(page, "g", left.saturating_add(8), 20, sheet);
+        page.text("\"/>\n<path class=\"z\" d=\"M");
+        page.count(left.saturating_add(12));
+        page.text(" ");
+        page.count(y);
+        page.text("l4 -12m4 12l4 -12\"/>\n");
     }
-    Ok(())
 }
 
 /// Draws a line for each moment, and writes its name below where there is room.
-fn write_moments<W: Write>(out: &mut W, sheet: &Sheet) -> io::Result<()> {
+fn write_moments(page: &mut Page, sheet: &Sheet) {
     let mut free: usize = 0;
     let end = sheet.bottom.saturating_add(4);
     for label in sheet.axis.labels.iter() {
         let x = label.x;
         let half = label.moment.width().saturating_mul(7) / 2;
-        write_stroke(out, "m", x, TOP, 'V', end)?;
+        write_stroke(page, "m", x, TOP, 'V', end);
         if x >= free.saturating_add(half) {
-            write_moment(out, label, sheet.bottom)?;
+            write_moment(page, label, sheet.bottom);
             free = x.saturating_add(half).saturating_add(6);
         }
     }
-    Ok(())
 }
 
 /// Writes the name of a moment below the rows.
-fn write_moment<W: Write>(out: &mut W, label: &Label, bottom: usize) -> io::Result<()> {
-    let x = label.x;
-    let y = bottom.saturating_add(18);
-    let moment = label.moment;
-    writeln!(
-        out,
-        "<text class=\"k\" x=\"{x}\" y=\"{y}\" text-anchor=\"middle\">{moment}</text>"
-    )
+fn write_moment(page: &mut Page, label: &Label, bottom: usize) {
+    begin_words(page, "k", label.x, bottom.saturating_add(18));
+    page.text("\" text-anchor=\"middle\">");
+    page.shown(&label.moment);
+    page.text("</text>\n");
 }
 
 /// Writes what the signs mean, and the notes.
-fn write_foot<W: Write>(out: &mut W, notes: &[String], sheet: &Sheet) -> io::Result<()> {
+fn write_foot(page: &mut Page, notes: &[String], sheet: &Sheet) {
     let mut y = sheet.bottom.saturating_add(MOMENTS + NOTE - 4);
-    write_signs(out, y)?;
+    write_signs(page, y);
     for note in notes {
         y = y.saturating_add(NOTE);
-        write_words(out, "x", EDGE, y, note)?;
+        write_words(page, "x", EDGE, y, note);
     }
-    Ok(())
 }
 
 /// Writes what the signs mean, on a line of text.
-fn write_signs<W: Write>(out: &mut W, y: usize) -> io::Result<()> {
-    writeln!(
-        out,
-        "<g transform=\"translate({EDGE} {y})\">\n{SIGNS}\n</g>"
-    )
+fn write_signs(page: &mut Page, y: usize) {
+    page.text("<g transform=\"translate(");
+    page.count(EDGE);
+    page.text(" ");
+    page.count(y);
+    page.text(")\">\n");
+    page.text(SIGNS);
+    page.text("\n</g>\n");
 }
 
 /// Writes what happened in each column, over all rows.
-fn write_titles<W: Write>(out: &mut W, columns: &[Column], sheet: &Sheet) -> io::Result<()> {
+fn write_titles(page: &mut Page, columns: &[Column], sheet: &Sheet) {
     for (number, column) in columns.iter().enumerate() {
-        write_title(out, column, number, sheet)?;
+        write_title(page, column, number, sheet);
     }
-    Ok(())
 }
 
 /// Writes what happened in a column of this number.
-fn write_title<W: Write>(
-    out: &mut W,
-    column: &Column,
-    number: usize,
-    sheet: &Sheet,
-) -> io::Result<()> {
-    let title = Plain {
-        text: &column.title,
-    };
+fn write_title(page: &mut Page, column: &Column, number: usize, sheet: &Sheet) {
     let x = sheet.place(number).left;
     let width = sheet.place(number.saturating_add(1)).left.saturating_sub(x);
-    let height = sheet.bottom.saturating_sub(TOP);
-    writeln!(
-        out,
-        "<rect class=\"c\" x=\"{x}\" y=\"{TOP}\" width=\"{width}\" height=\"{height}\">\
-         <title>{title}</title></rect>"
-    )
+    begin_band(page, "c", x, width, sheet);
+    page.text("\"><title>");
+    write_plain(page, &column.title);
+    page.text("</title></rect>\n");
 }

@@ -3,10 +3,9 @@
 use crate::kinds::Kind;
 use crate::parts::level_of;
 use crate::sheet::Sheet;
-use crate::svg_elements::{write_circle, write_number, write_stroke, write_words};
+use crate::svg_elements::{begin_path, write_circle, write_number, write_stroke, write_words};
 use crate::{Row, RowMark, Sign};
-use std::io;
-use std::io::Write;
+use page::Page;
 
 /// The greatest level.
 const GREATEST: usize = 254;
@@ -24,33 +23,20 @@ struct Spot {
 }
 
 /// Draws the line on which the marks of a row stand, and the marks.
-pub(crate) fn write_marks<W: Write>(
-    out: &mut W,
-    kind: Kind,
-    row: &Row,
-    sheet: &Sheet,
-    y: usize,
-) -> io::Result<()> {
-    write_stroke(out, "b", sheet.left, y, 'H', sheet.right())?;
+pub(crate) fn write_marks(page: &mut Page, kind: Kind, row: &Row, sheet: &Sheet, y: usize) {
+    write_stroke(page, "b", sheet.left, y, 'H', sheet.right());
     match kind {
-        Kind::Levels => write_levels(out, row, sheet, y)?,
-        Kind::Variables => write_values(out, row, sheet, y)?,
+        Kind::Levels => write_levels(page, row, sheet, y),
+        Kind::Variables => write_values(page, row, sheet, y),
         Kind::Sources | Kind::Tasks | Kind::Buses => {}
     }
-    write_signs(out, kind, row, sheet, y, false)?;
-    write_signs(out, kind, row, sheet, y, true)
+    write_signs(page, kind, row, sheet, y, false);
+    write_signs(page, kind, row, sheet, y, true);
 }
 
 /// Draws the marks of what went wrong, or the others: those of what went wrong come last, so that no
 /// other hides them.
-fn write_signs<W: Write>(
-    out: &mut W,
-    kind: Kind,
-    row: &Row,
-    sheet: &Sheet,
-    y: usize,
-    is_wrong: bool,
-) -> io::Result<()> {
+fn write_signs(page: &mut Page, kind: Kind, row: &Row, sheet: &Sheet, y: usize, is_wrong: bool) {
     for (number, mark) in row.marks.iter().enumerate() {
         if is_trouble(mark.sign) == is_wrong {
             let spot = Spot {
@@ -58,10 +44,9 @@ fn write_signs<W: Write>(
                 y,
                 next: next_of(row, number.saturating_add(1), sheet),
             };
-            write_mark(out, kind, mark.sign, spot, sheet)?;
+            write_mark(page, kind, mark.sign, spot, sheet);
         }
     }
-    Ok(())
 }
 
 /// Whether a mark is of something that went wrong.
@@ -93,63 +78,60 @@ fn next_of(row: &Row, number: usize, sheet: &Sheet) -> usize {
 }
 
 /// Draws a mark of a row of this kind.
-fn write_mark<W: Write>(
-    out: &mut W,
-    kind: Kind,
-    sign: Sign,
-    spot: Spot,
-    sheet: &Sheet,
-) -> io::Result<()> {
+fn write_mark(page: &mut Page, kind: Kind, sign: Sign, spot: Spot, sheet: &Sheet) {
     match kind {
-        Kind::Levels => write_level(out, sign, spot, sheet),
-        Kind::Sources => write_source(out, sign, spot, sheet),
-        Kind::Tasks => write_circle(out, "t", spot.x, spot.y, sheet.radius("3.5", "2.5")),
-        Kind::Variables => write_change(out, sign, spot, sheet),
-        Kind::Buses => write_bus(out, sign, spot, sheet),
+        Kind::Levels => write_level(page, sign, spot, sheet),
+        Kind::Sources => write_source(page, sign, spot, sheet),
+        Kind::Tasks => write_circle(page, "t", spot.x, spot.y, sheet.radius("3.5", "2.5")),
+        Kind::Variables => write_change(page, sign, spot, sheet),
+        Kind::Buses => write_bus(page, sign, spot, sheet),
     }
 }
 
 /// Draws the levels of a row over a base, as an area and its edge, and writes the one that it has
 /// at first.
-fn write_levels<W: Write>(out: &mut W, row: &Row, sheet: &Sheet, base: usize) -> io::Result<()> {
+fn write_levels(page: &mut Page, row: &Row, sheet: &Sheet, base: usize) {
     let right = sheet.right();
-    write_way(out, "a", row, sheet, base)?;
-    writeln!(out, "H{right}V{base}Z\"/>")?;
-    write_way(out, "e", row, sheet, base)?;
-    writeln!(out, "H{right}\"/>")?;
-    match row.level {
-        Some(level) => {
-            let spot = Spot {
-                x: sheet.left,
-                y: base,
-                next: next_of(row, 0, sheet),
-            };
-            write_value(out, level, spot, sheet)
-        }
-        None => Ok(()),
+    write_way(page, "a", row, sheet, base);
+    write_step(page, right, base);
+    page.text("Z\"/>\n");
+    write_way(page, "e", row, sheet, base);
+    end_path(page, right);
+    if let Some(level) = row.level {
+        let spot = Spot {
+            x: sheet.left,
+            y: base,
+            next: next_of(row, 0, sheet),
+        };
+        write_value(page, level, spot, sheet);
     }
 }
 
 /// Draws the line of a variable that is TRUE or FALSE, high or low, or writes the number that
 /// another one is at first.
-fn write_values<W: Write>(out: &mut W, row: &Row, sheet: &Sheet, base: usize) -> io::Result<()> {
+fn write_values(page: &mut Page, row: &Row, sheet: &Sheet, base: usize) {
     if let Some(number) = row.number {
         let spot = Spot {
             x: sheet.left,
             y: base.saturating_sub(3),
             next: next_of(row, 0, sheet),
         };
-        return write_beside(out, "v", number, 2, spot, sheet);
+        write_beside(page, "v", number, 2, spot, sheet);
+        return;
     }
-    let right = sheet.right();
-    let start = sheet.left;
-    let first = truth_height(base, row.level);
-    write!(out, "<path class=\"e\" d=\"M{start} {first}")?;
+    begin_path(page, "e", sheet.left, truth_height(base, row.level));
     for mark in row.marks.iter() {
         let height = truth_height(base, level_of(mark.sign));
-        write_step(out, x_of(mark, sheet), height)?;
+        write_step(page, x_of(mark, sheet), height);
     }
-    writeln!(out, "H{right}\"/>")
+    end_path(page, sheet.right());
+}
+
+/// Ends a way across, at `x`.
+fn end_path(page: &mut Page, x: usize) {
+    page.text("H");
+    page.count(x);
+    page.text("\"/>\n");
 }
 
 /// Where TRUE or FALSE is drawn over a base, by its level.
@@ -161,36 +143,29 @@ fn truth_height(base: usize, level: Option<u8>) -> usize {
 }
 
 /// Draws that a variable that is a number is another one, and writes that where there is room.
-fn write_change<W: Write>(out: &mut W, sign: Sign, spot: Spot, sheet: &Sheet) -> io::Result<()> {
+fn write_change(page: &mut Page, sign: Sign, spot: Spot, sheet: &Sheet) {
     match sign {
         Sign::Number(number) => {
-            write_stroke(out, "e", spot.x, spot.y, 'V', spot.y.saturating_sub(6))?;
+            write_stroke(page, "e", spot.x, spot.y, 'V', spot.y.saturating_sub(6));
             let y = spot.y.saturating_sub(3);
-            write_beside(out, "v", number, 3, Spot { y, ..spot }, sheet)
+            write_beside(page, "v", number, 3, Spot { y, ..spot }, sheet);
         }
-        _ => Ok(()),
+        _ => {}
     }
 }
 
 /// Begins the way along the levels of a row, from the base on, as far as the last mark.
-fn write_way<W: Write>(
-    out: &mut W,
-    class: &str,
-    row: &Row,
-    sheet: &Sheet,
-    base: usize,
-) -> io::Result<()> {
-    let start = start_of(row, sheet);
-    write!(out, "<path class=\"{class}\" d=\"M{start} {base}")?;
+fn write_way(page: &mut Page, class: &str, row: &Row, sheet: &Sheet, base: usize) {
+    begin_path(page, class, start_of(row, sheet), base);
     if let Some(level) = row.level {
-        write!(out, "V{}", height_at(base, level, sheet))?;
+        page.text("V");
+        page.count(height_at(base, level, sheet));
     }
     for mark in row.marks.iter() {
         if let Sign::Level(level) = mark.sign {
-            write_step(out, x_of(mark, sheet), height_at(base, level, sheet))?;
+            write_step(page, x_of(mark, sheet), height_at(base, level, sheet));
         }
     }
-    Ok(())
 }
 
 /// Where the levels of a row begin.
@@ -202,8 +177,11 @@ fn start_of(row: &Row, sheet: &Sheet) -> usize {
 }
 
 /// Writes the way to `x`, and there to a height.
-fn write_step<W: Write>(out: &mut W, x: usize, y: usize) -> io::Result<()> {
-    write!(out, "H{x}V{y}")
+fn write_step(page: &mut Page, x: usize, y: usize) {
+    page.text("H");
+    page.count(x);
+    page.text("V");
+    page.count(y);
 }
 
 /// Where a level is drawn over a base.
@@ -213,33 +191,24 @@ fn height_at(base: usize, level: u8, sheet: &Sheet) -> usize {
 }
 
 /// Writes the level that begins at a mark, where one does.
-fn write_level<W: Write>(out: &mut W, sign: Sign, spot: Spot, sheet: &Sheet) -> io::Result<()> {
+fn write_level(page: &mut Page, sign: Sign, spot: Spot, sheet: &Sheet) {
     match sign {
-        Sign::Level(level) => write_value(out, level, spot, sheet),
-        _ => Ok(()),
+        Sign::Level(level) => write_value(page, level, spot, sheet),
+        _ => {}
     }
 }
 
 /// Writes a level that begins at a spot, over where it is drawn, where there is room.
-fn write_value<W: Write>(out: &mut W, level: u8, spot: Spot, sheet: &Sheet) -> io::Result<()> {
+fn write_value(page: &mut Page, level: u8, spot: Spot, sheet: &Sheet) {
     let y = height_at(spot.y, level, sheet).saturating_sub(4);
-    write_beside(out, "v", i64::from(level), 2, Spot { y, ..spot }, sheet)
+    write_beside(page, "v", i64::from(level), 2, Spot { y, ..spot }, sheet)
 }
 
 /// Writes a number behind a spot, where there is room.
-fn write_beside<W: Write>(
-    out: &mut W,
-    class: &str,
-    number: i64,
-    gap: usize,
-    spot: Spot,
-    sheet: &Sheet,
-) -> io::Result<()> {
+fn write_beside(page: &mut Page, class: &str, number: i64, gap: usize, spot: Spot, sheet: &Sheet) {
     let width = digits(number).saturating_mul(DIGIT).saturating_add(gap);
     if sheet.has_room(spot.x, spot.next, width) {
-        write_number(out, class, spot.x.saturating_add(gap), spot.y, number)
-    } else {
-        Ok(())
+        write_number(page, class, spot.x.saturating_add(gap), spot.y, number);
     }
 }
 
@@ -258,24 +227,19 @@ pub(crate) fn digits(number: i64) -> usize {
 }
 
 /// Draws what was heard of a source.
-fn write_source<W: Write>(out: &mut W, sign: Sign, spot: Spot, sheet: &Sheet) -> io::Result<()> {
+fn write_source(page: &mut Page, sign: Sign, spot: Spot, sheet: &Sheet) {
     match sign {
-        Sign::Event(information) => write_event(out, information, spot, sheet),
-        _ => write_circle(out, "o", spot.x, spot.y, sheet.radius("4.5", "3")),
+        Sign::Event(information) => write_event(page, information, spot, sheet),
+        _ => write_circle(page, "o", spot.x, spot.y, sheet.radius("4.5", "3")),
     }
 }
 
 /// Draws an event with its information.
-fn write_event<W: Write>(
-    out: &mut W,
-    information: u16,
-    spot: Spot,
-    sheet: &Sheet,
-) -> io::Result<()> {
-    write_circle(out, "s", spot.x, spot.y, sheet.radius("5", "3.5"))?;
+fn write_event(page: &mut Page, information: u16, spot: Spot, sheet: &Sheet) {
+    write_circle(page, "s", spot.x, spot.y, sheet.radius("5", "3.5"));
     let y = spot.y.saturating_sub(3);
     write_beside(
-        out,
+        page,
         "i",
         i64::from(information),
         7,
@@ -285,34 +249,34 @@ fn write_event<W: Write>(
 }
 
 /// Draws what was sent on a bus.
-fn write_bus<W: Write>(out: &mut W, sign: Sign, spot: Spot, sheet: &Sheet) -> io::Result<()> {
+fn write_bus(page: &mut Page, sign: Sign, spot: Spot, sheet: &Sheet) {
     match sign {
-        Sign::Sent => write_tick(out, "f", spot),
-        Sign::Answered(value) => write_answer(out, value, spot, sheet),
-        Sign::Down => write_down(out, spot, sheet.right()),
-        Sign::Damaged => write_loss(out, "?", spot),
-        Sign::GaveUp => write_loss(out, "×", spot),
-        _ => write_loss(out, "!", spot),
+        Sign::Sent => write_tick(page, "f", spot),
+        Sign::Answered(value) => write_answer(page, value, spot, sheet),
+        Sign::Down => write_down(page, spot, sheet.right()),
+        Sign::Damaged => write_loss(page, "?", spot),
+        Sign::GaveUp => write_loss(page, "×", spot),
+        _ => write_loss(page, "!", spot),
     }
 }
 
 /// Draws a frame, with the looks of a class.
-fn write_tick<W: Write>(out: &mut W, class: &str, spot: Spot) -> io::Result<()> {
-    write_stroke(out, class, spot.x, spot.y, 'V', spot.y.saturating_sub(13))
+fn write_tick(page: &mut Page, class: &str, spot: Spot) {
+    write_stroke(page, class, spot.x, spot.y, 'V', spot.y.saturating_sub(13))
 }
 
 /// Draws a frame that was answered.
-fn write_answer<W: Write>(out: &mut W, value: u8, spot: Spot, sheet: &Sheet) -> io::Result<()> {
-    write_tick(out, "q", spot)?;
+fn write_answer(page: &mut Page, value: u8, spot: Spot, sheet: &Sheet) {
+    write_tick(page, "q", spot);
     let y = spot.y.saturating_sub(5);
-    write_beside(out, "r", i64::from(value), 4, Spot { y, ..spot }, sheet)
+    write_beside(page, "r", i64::from(value), 4, Spot { y, ..spot }, sheet)
 }
 
 /// Draws a frame that did not go well.
-fn write_loss<W: Write>(out: &mut W, sign: &str, spot: Spot) -> io::Result<()> {
-    write_tick(out, "l", spot)?;
+fn write_loss(page: &mut Page, sign: &str, spot: Spot) {
+    write_tick(page, "l", spot);
     write_words(
-        out,
+        page,
         "x",
         spot.x.saturating_add(4),
         spot.y.saturating_sub(5),
@@ -321,7 +285,7 @@ fn write_loss<W: Write>(out: &mut W, sign: &str, spot: Spot) -> io::Result<()> {
 }
 
 /// Draws that the bus is down from here on.
-fn write_down<W: Write>(out: &mut W, spot: Spot, right: usize) -> io::Result<()> {
-    write_stroke(out, "l", spot.x, spot.y, 'H', right)?;
-    write_words(out, "x", spot.x, spot.y.saturating_sub(5), "down")
+fn write_down(page: &mut Page, spot: Spot, right: usize) {
+    write_stroke(page, "l", spot.x, spot.y, 'H', right);
+    write_words(page, "x", spot.x, spot.y.saturating_sub(5), "down")
 }

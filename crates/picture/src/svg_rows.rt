@@ -3,54 +3,42 @@
 use crate::Row;
 use crate::kinds::{Block, Kind};
 use crate::sheet::{EDGE, HEADING, NOTE, Sheet, TOP};
-use crate::svg_elements::{Plain, write_words};
+use crate::svg_elements::{begin_words, write_plain, write_words};
 use crate::svg_marks::write_marks;
-use std::io;
-use std::io::Write;
+use page::Page;
 
 /// Draws all rows, kind by kind.
-pub(crate) fn write_rows<W: Write>(out: &mut W, blocks: &[Block], sheet: &Sheet) -> io::Result<()> {
+pub(crate) fn write_rows(page: &mut Page, blocks: &[Block], sheet: &Sheet) {
     let mut top = TOP;
     for block in blocks {
-        top = write_block(out, block, sheet, top)?;
+        top = write_block(page, block, sheet, top);
     }
-    Ok(())
 }
 
 /// Draws the rows of a kind from a height down; where they end.
-fn write_block<W: Write>(
-    out: &mut W,
-    block: &Block,
-    sheet: &Sheet,
-    top: usize,
-) -> io::Result<usize> {
+fn write_block(page: &mut Page, block: &Block, sheet: &Sheet, top: usize) -> usize {
     if block.rows.is_empty() {
-        return Ok(top);
+        return top;
     }
     let heading = block.kind.heading();
-    write_words(out, "h", EDGE, top.saturating_add(HEADING - 8), heading)?;
-    let below = write_block_rows(out, block, sheet, top.saturating_add(HEADING))?;
-    write_folded(out, &block.folded, below)
+    write_words(page, "h", EDGE, top.saturating_add(HEADING - 8), heading);
+    let below = write_block_rows(page, block, sheet, top.saturating_add(HEADING));
+    write_folded(page, &block.folded, below)
 }
 
 /// Draws the rows of a kind that are drawn; where they end.
-fn write_block_rows<W: Write>(
-    out: &mut W,
-    block: &Block,
-    sheet: &Sheet,
-    top: usize,
-) -> io::Result<usize> {
+fn write_block_rows(page: &mut Page, block: &Block, sheet: &Sheet, top: usize) -> usize {
     let kind = block.kind;
     let mut top = top;
     for row in block.rows {
         if block.shows(row) {
             let y = top.saturating_add(sheet.sizes.marks(kind));
-            write_label(out, row, sheet, y.saturating_add(name_below(kind)))?;
-            write_marks(out, kind, row, sheet, y)?;
+            write_label(page, row, sheet, y.saturating_add(name_below(kind)));
+            write_marks(page, kind, row, sheet, y);
             top = top.saturating_add(sheet.sizes.height(kind));
         }
     }
-    Ok(top)
+    top
 }
 
 /// From where the marks of a row stand down to the line of its name.
@@ -62,29 +50,27 @@ fn name_below(kind: Kind) -> usize {
 }
 
 /// Writes what is said of the rows that aren't drawn; where that ends.
-fn write_folded<W: Write>(out: &mut W, folded: &[String], top: usize) -> io::Result<usize> {
+fn write_folded(page: &mut Page, folded: &[String], top: usize) -> usize {
     let mut top = top;
     for line in folded {
-        write_words(out, "p", EDGE, top.saturating_add(NOTE - 6), line)?;
+        write_words(page, "p", EDGE, top.saturating_add(NOTE - 6), line);
         top = top.saturating_add(NOTE);
     }
-    Ok(top)
+    top
 }
 
 /// Writes the name and the place of a row on a line of text.
-fn write_label<W: Write>(out: &mut W, row: &Row, sheet: &Sheet, y: usize) -> io::Result<()> {
-    write_words(out, "n", EDGE, y, &row.name)?;
-    if row.place.is_empty() {
-        return Ok(());
+fn write_label(page: &mut Page, row: &Row, sheet: &Sheet, y: usize) {
+    write_words(page, "n", EDGE, y, &row.name);
+    if !row.place.is_empty() {
+        write_place(page, &row.place, sheet.left.saturating_sub(10), y);
     }
-    write_place(out, &row.place, sheet.left.saturating_sub(10), y)
 }
 
 /// Writes a place that ends at `x`.
-fn write_place<W: Write>(out: &mut W, place: &str, x: usize, y: usize) -> io::Result<()> {
-    let place = Plain { text: place };
-    writeln!(
-        out,
-        "<text class=\"p\" x=\"{x}\" y=\"{y}\" text-anchor=\"end\">{place}</text>"
-    )
+fn write_place(page: &mut Page, place: &str, x: usize, y: usize) {
+    begin_words(page, "p", x, y);
+    page.text("\" text-anchor=\"end\">");
+    write_plain(page, place);
+    page.text("</text>\n");
 }

@@ -3,6 +3,7 @@
 use crate::kinds::{Block, Kind, blocks_of};
 use crate::text_cells::{CELL, write_levels, write_moments, write_signs, write_values};
 use crate::{Picture, Row};
+use page::Page;
 use std::alloc::Global;
 use std::io;
 use std::io::Write;
@@ -40,6 +41,7 @@ pub fn write_text<W: Write>(alloc: Global, out: &mut W, picture: &Picture) -> io
     let blocks = blocks_of(alloc, picture, WIDTH)?;
     let whole = whole_band(picture.columns.len(), &blocks);
     let cells = (WIDTH.saturating_sub(whole.left()) / CELL).max(1);
+    let mut page = Page::new(alloc);
     for number in 0..(whole.end / cells).saturating_add(1) {
         let first = number.saturating_mul(cells);
         let band = Band {
@@ -47,26 +49,27 @@ pub fn write_text<W: Write>(alloc: Global, out: &mut W, picture: &Picture) -> io
             end: first.saturating_add(cells).min(whole.end),
             ..whole
         };
-        write_band(out, picture, &blocks, &band)?;
+        write_band(&mut page, picture, &blocks, &band);
     }
     for block in &blocks {
-        write_lines(out, &block.folded)?;
+        write_lines(&mut page, &block.folded);
     }
-    write_line(out, SIGNS)?;
-    write_lines(out, &picture.notes)
+    write_line(&mut page, SIGNS);
+    write_lines(&mut page, &picture.notes);
+    page.write_to(out)
 }
 
 /// Writes lines.
-fn write_lines<W: Write>(out: &mut W, lines: &[String]) -> io::Result<()> {
+fn write_lines(page: &mut Page, lines: &[String]) {
     for line in lines {
-        write_line(out, line)?;
+        write_line(page, line);
     }
-    Ok(())
 }
 
 /// Writes a line.
-fn write_line<W: Write>(out: &mut W, line: &str) -> io::Result<()> {
-    writeln!(out, "{line}")
+fn write_line(page: &mut Page, line: &str) {
+    page.text(line);
+    page.text("\n");
 }
 
 /// All columns beside each other.
@@ -99,52 +102,33 @@ fn widened(band: Band, block: &Block) -> Band {
 }
 
 /// Draws the columns of a band, where there are any.
-fn write_band<W: Write>(
-    out: &mut W,
-    picture: &Picture,
-    blocks: &[Block],
-    band: &Band,
-) -> io::Result<()> {
+fn write_band(page: &mut Page, picture: &Picture, blocks: &[Block], band: &Band) {
     if band.first >= band.end {
-        return Ok(());
+        return;
     }
     for block in blocks {
-        write_block(out, block, band)?;
+        write_block(page, block, band);
     }
-    write_moments(out, picture, band)?;
-    writeln!(out)
+    write_moments(page, picture, band);
+    page.text("\n");
 }
 
 /// Draws the rows of a kind.
-fn write_block<W: Write>(out: &mut W, block: &Block, band: &Band) -> io::Result<()> {
+fn write_block(page: &mut Page, block: &Block, band: &Band) {
     for row in block.rows.iter().filter(|row| block.shows(row)) {
-        write_name(out, row, band)?;
+        write_padded(page, &row.name, band.names);
+        write_padded(page, &row.place, band.places);
         match block.kind {
-            Kind::Levels => write_levels(out, row, band),
-            Kind::Variables => write_values(out, row, band),
-            Kind::Sources | Kind::Tasks | Kind::Buses => write_signs(out, row, band),
-        }?;
+            Kind::Levels => write_levels(page, row, band),
+            Kind::Variables => write_values(page, row, band),
+            Kind::Sources | Kind::Tasks | Kind::Buses => write_signs(page, row, band),
+        }
     }
-    Ok(())
-}
-
-/// Writes the name and the place of a row, in their widths.
-fn write_name<W: Write>(out: &mut W, row: &Row, band: &Band) -> io::Result<()> {
-    write_padded(out, &row.name, band.names)?;
-    write_padded(out, &row.place, band.places)
 }
 
 /// Writes a text in a width, and two spaces.
-fn write_padded<W: Write>(out: &mut W, text: &str, width: usize) -> io::Result<()> {
+fn write_padded(page: &mut Page, text: &str, width: usize) {
     let gap = width.saturating_sub(text.len());
-    write!(out, "{text}")?;
-    write_spaces(out, gap.saturating_add(2))
-}
-
-/// Writes so many spaces.
-pub(crate) fn write_spaces<W: Write>(out: &mut W, many: usize) -> io::Result<()> {
-    for _ in 0..many {
-        write!(out, " ")?;
-    }
-    Ok(())
+    page.text(text);
+    page.repeat(" ", gap.saturating_add(2));
 }

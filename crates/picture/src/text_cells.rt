@@ -2,10 +2,9 @@
 
 use crate::parts::{level_of, number_of};
 use crate::svg_marks::digits;
-use crate::text::{Band, write_spaces};
+use crate::text::Band;
 use crate::{Moment, Picture, Row, Sign};
-use std::io;
-use std::io::Write;
+use page::Page;
 
 /// The width of a cell.
 pub(crate) const CELL: usize = 5;
@@ -14,7 +13,7 @@ pub(crate) const CELL: usize = 5;
 const BLOCKS: [&str; 9] = ["_", "▁", "▂", "▃", "▄", "▅", "▆", "▇", "█"];
 
 /// Writes the levels of a row.
-pub(crate) fn write_levels<W: Write>(out: &mut W, row: &Row, band: &Band) -> io::Result<()> {
+pub(crate) fn write_levels(page: &mut Page, row: &Row, band: &Band) {
     let mut level = row.level_before(band.first);
     let mut gap = 0;
     for column in band.first..band.end {
@@ -24,14 +23,14 @@ pub(crate) fn write_levels<W: Write>(out: &mut W, row: &Row, band: &Band) -> io:
         }
         match level {
             Some(level) => {
-                write_spaces(out, gap)?;
+                page.repeat(" ", gap);
                 gap = 0;
-                write_level(out, level, begins.is_some() || column == band.first)?;
+                write_level(page, level, begins.is_some() || column == band.first);
             }
             None => gap = gap.saturating_add(CELL),
         }
     }
-    writeln!(out)
+    page.text("\n");
 }
 
 /// The level that begins in a column of a row.
@@ -43,17 +42,14 @@ fn level_at(row: &Row, column: usize) -> Option<u8> {
 }
 
 /// Writes the cell of a level, in which its number stands where it is new.
-fn write_level<W: Write>(out: &mut W, level: u8, is_new: bool) -> io::Result<()> {
+fn write_level(page: &mut Page, level: u8, is_new: bool) {
     let mut written = 0;
     if is_new {
-        write!(out, "{level}")?;
+        page.count(usize::from(level));
         written = digits(i64::from(level));
     }
     let block = block_of(level);
-    for _ in written..CELL {
-        write_word(out, block, 1)?;
-    }
-    Ok(())
+    page.repeat(block, CELL.saturating_sub(written));
 }
 
 /// How high a level is drawn.
@@ -66,32 +62,32 @@ fn block_of(level: u8) -> &'static str {
 }
 
 /// Writes the values of a variable: a number where it is new, and TRUE high, FALSE low.
-pub(crate) fn write_values<W: Write>(out: &mut W, row: &Row, band: &Band) -> io::Result<()> {
+pub(crate) fn write_values(page: &mut Page, row: &Row, band: &Band) {
     if row.number.is_some() {
-        write_numbers(out, row, band)
+        write_numbers(page, row, band)
     } else {
-        write_truths(out, row, band)
+        write_truths(page, row, band)
     }
 }
 
 /// Writes the numbers of a variable, each where there is room.
-fn write_numbers<W: Write>(out: &mut W, row: &Row, band: &Band) -> io::Result<()> {
+fn write_numbers(page: &mut Page, row: &Row, band: &Band) {
     let mut end: usize = 0;
     for column in band.first..band.end {
         let cell = column.saturating_sub(band.first).saturating_mul(CELL);
         if end == 0 || end < cell {
-            write_spaces(out, cell.saturating_sub(end))?;
+            page.repeat(" ", cell.saturating_sub(end));
             let width = match number_shown(row, column, band) {
                 Some(number) => {
-                    write!(out, "{number}")?;
+                    page.number(number);
                     digits(number)
                 }
-                None => write_word(out, "·", 1)?,
+                None => write_word(page, "·", 1),
             };
             end = cell.saturating_add(width);
         }
     }
-    writeln!(out)
+    page.text("\n");
 }
 
 /// The number that is written in a column of a row: a new one, and in the first column of a band the
@@ -105,83 +101,77 @@ fn number_shown(row: &Row, column: usize, band: &Band) -> Option<i64> {
 }
 
 /// Writes where a variable is TRUE, which is high, and where it is FALSE.
-fn write_truths<W: Write>(out: &mut W, row: &Row, band: &Band) -> io::Result<()> {
+fn write_truths(page: &mut Page, row: &Row, band: &Band) {
     let mut level = row.level_before(band.first);
     for column in band.first..band.end {
         level = level_at(row, column).or(level);
         let block = block_of(level.unwrap_or(0));
-        for _ in 0..CELL {
-            write_word(out, block, 1)?;
-        }
+        page.repeat(block, CELL);
     }
-    writeln!(out)
+    page.text("\n");
 }
 
 /// Writes the other marks of a row.
-pub(crate) fn write_signs<W: Write>(out: &mut W, row: &Row, band: &Band) -> io::Result<()> {
+pub(crate) fn write_signs(page: &mut Page, row: &Row, band: &Band) {
     let mut gap = 0;
     for column in band.first..band.end {
-        write_spaces(out, gap)?;
+        page.repeat(" ", gap);
         let written = match row.sign_at(column) {
-            Some(sign) => write_sign(out, sign),
-            None => write_word(out, "·", 1),
-        }?;
+            Some(sign) => write_sign(page, sign),
+            None => write_word(page, "·", 1),
+        };
         gap = CELL.saturating_sub(written);
     }
-    writeln!(out)
+    page.text("\n");
 }
 
 /// Writes a mark; its width.
-fn write_sign<W: Write>(out: &mut W, sign: Sign) -> io::Result<usize> {
+fn write_sign(page: &mut Page, sign: Sign) -> usize {
     match sign {
-        Sign::Level(level) => write_number(out, "=", u16::from(level)),
-        Sign::Truth(_) | Sign::Number(_) => Ok(0),
-        Sign::Event(information) => write_number(out, "●", information),
-        Sign::Answered(value) => write_number(out, "│", u16::from(value)),
-        Sign::Stray => write_word(out, "○", 1),
-        Sign::Scan => write_word(out, "•", 1),
-        Sign::Sent => write_word(out, "│", 1),
-        Sign::Damaged => write_word(out, "│?", 2),
-        Sign::GaveUp => write_word(out, "│×", 2),
-        Sign::Failed => write_word(out, "│!", 2),
-        Sign::Down => write_word(out, "down", 4),
+        Sign::Level(level) => write_number(page, "=", u16::from(level)),
+        Sign::Truth(_) | Sign::Number(_) => 0,
+        Sign::Event(information) => write_number(page, "●", information),
+        Sign::Answered(value) => write_number(page, "│", u16::from(value)),
+        Sign::Stray => write_word(page, "○", 1),
+        Sign::Scan => write_word(page, "•", 1),
+        Sign::Sent => write_word(page, "│", 1),
+        Sign::Damaged => write_word(page, "│?", 2),
+        Sign::GaveUp => write_word(page, "│×", 2),
+        Sign::Failed => write_word(page, "│!", 2),
+        Sign::Down => write_word(page, "down", 4),
     }
 }
 
 /// Writes a word of this width.
-fn write_word<W: Write>(out: &mut W, word: &str, width: usize) -> io::Result<usize> {
-    write!(out, "{word}")?;
-    Ok(width)
+fn write_word(page: &mut Page, word: &str, width: usize) -> usize {
+    page.text(word);
+    width
 }
 
 /// Writes a number behind a sign of width 1; their width.
-fn write_number<W: Write>(out: &mut W, sign: &str, number: u16) -> io::Result<usize> {
-    write!(out, "{sign}{number}")?;
-    Ok(digits(i64::from(number)).saturating_add(1))
+fn write_number(page: &mut Page, sign: &str, number: u16) -> usize {
+    page.text(sign);
+    page.count(usize::from(number));
+    digits(i64::from(number)).saturating_add(1)
 }
 
 /// Writes a line of the moments of a band, each where there is room; none where there is no moment.
-pub(crate) fn write_moments<W: Write>(
-    out: &mut W,
-    picture: &Picture,
-    band: &Band,
-) -> io::Result<()> {
+pub(crate) fn write_moments(page: &mut Page, picture: &Picture, band: &Band) {
     let mut written = 0;
     for column in band.first..band.end {
         let cell = column.saturating_sub(band.first).saturating_mul(CELL);
         let place = band.left().saturating_add(cell);
         if let Some(moment) = moment_at(picture, column) {
             if written < place {
-                write_spaces(out, place.saturating_sub(written))?;
-                write!(out, "{moment}")?;
+                page.repeat(" ", place.saturating_sub(written));
+                page.shown(&moment);
                 written = place.saturating_add(moment.width());
             }
         }
     }
-    if written == 0 {
-        return Ok(());
+    if written != 0 {
+        page.text("\n");
     }
-    writeln!(out)
 }
 
 /// The moment that begins in a column.

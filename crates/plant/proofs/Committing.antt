@@ -19,7 +19,7 @@ use Rattle.ilmachine.specs.Scans.{Scan, IsScan, store_of}
 use Rattle.ilcompile.specs.Loaded.{AreCodes, IsCodeOf}
 use Rattle.ilcompile.proofs.CodeLemmas.{zipped_at}
 use Rattle.plantevents.specs.declared.event.Event.{Event}
-use Rattle.plantevents.specs.declared.event.Event.TheVariants.{Tick, Heard, Take, Commit, Hand, Done, Down}
+use Rattle.plantevents.specs.declared.event.Event.TheVariants.{Tick, Heard, Take, Commit, Hand, Done, Down, Up}
 use Rattle.plantevents.specs.Plants.{Plant, first_tasks}
 use Rattle.plantevents.specs.Histories.{OpenScan, scan}
 use Rattle.plantevents.specs.Legal.{AreLegal, IsCommit, IsResult}
@@ -63,6 +63,7 @@ open_of_task p w running (Heard b f ∷ h) legal is = open_of_task p w running h
 open_of_task p w running (Hand b s x ∷ h) legal is = open_of_task p w running h legal.1 is
 open_of_task p w running (Done b n r ∷ h) legal is = open_of_task p w running h legal.1 is
 open_of_task p w running (Down b ∷ h) legal is = open_of_task p w running h legal.1 is
+open_of_task p w running (Up b ∷ h) legal is = open_of_task p w running h legal.1 is
 
 -- what a worker's place among the scans says
 pub open_is : (p : Shown) (k : KeptPlant) (w : ℕ) (running : OpenScan) (here : Option OpenScan) (result : Scan)

@@ -8,7 +8,7 @@ use Rattle.busqueue.specs.declared.class.Class.{Class}
 use Rattle.busqueue.specs.Queues.{class_number}
 use Rattle.ilmachine.specs.Scans.{Scan}
 use Rattle.plantevents.specs.declared.event.Event.{Event}
-use Rattle.plantevents.specs.declared.event.Event.TheVariants.{Tick, Heard, Take, Commit, Hand, Done, Down}
+use Rattle.plantevents.specs.declared.event.Event.TheVariants.{Tick, Heard, Take, Commit, Hand, Done, Down, Up}
 use Rattle.plantevents.specs.Plants.{Plant}
 use Rattle.plantevents.specs.Histories.{scan}
 use Rattle.plantevents.specs.Waiting.{most_waiting, is_for, after_offer, refused_count, kind_scanned}
@@ -47,6 +47,7 @@ dropped_few p b c (Take w t s ∷ h) legal = let rest = dropped_few p b c h lega
 dropped_few p b c (Hand d s x ∷ h) legal = let rest = dropped_few p b c h legal.1 in omega arith
 dropped_few p b c (Done d n r ∷ h) legal = let rest = dropped_few p b c h legal.1 in omega arith
 dropped_few p b c (Down d ∷ h) legal = let rest = dropped_few p b c h legal.1 in omega arith
+dropped_few p b c (Up d ∷ h) legal = let rest = dropped_few p b c h legal.1 in omega arith
 
 -- the count has room for as many as a scan may ask for
 pub drop_room : (p : Shown) (k : KeptPlant) (b : ℕ) (c : Class) (requests : List Request) → Says p k

@@ -14,7 +14,7 @@ use Rattle.gearcmd.specs.Requests.{class_of}
 use Rattle.busqueue.specs.declared.class.Class.{Class}
 use Rattle.busqueue.specs.Queues.{class_number}
 use Rattle.plantevents.specs.declared.event.Event.{Event}
-use Rattle.plantevents.specs.declared.event.Event.TheVariants.{Tick, Heard, Take, Commit, Hand, Done, Down}
+use Rattle.plantevents.specs.declared.event.Event.TheVariants.{Tick, Heard, Take, Commit, Hand, Done, Down, Up}
 use Rattle.plantevents.specs.declared.event.Origin.TheVariants.{Queued, Output}
 use Rattle.plantevents.specs.Plants.{Plant}
 use Rattle.plantevents.specs.Histories.{scan}
@@ -99,6 +99,7 @@ all_fit p b c (Commit w n result ∷ h) =
 all_fit p b c (Hand d s t ∷ h) = left c (eqb d b && is_queued c s t) (waiting p b c h) (all_fit p b c h)
 all_fit p b c (Done d n r ∷ h) = all_fit p b c h
 all_fit p b c (Down d ∷ h) = all_fit p b c h
+all_fit p b c (Up d ∷ h) = all_fit p b c h
 
 pub waiting_fits : (p : Plant) (b c : ℕ) (h : List Event) (r : Request) → slice_get (waiting p b c h) 0 ≡ Some r
     → FitsClass c r

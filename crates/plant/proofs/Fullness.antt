@@ -1,16 +1,24 @@
 -- A plant that is full stays full: an event takes a place of the history, and frees one at most.
-use Rattle.std.proofs.Common.{◌≡◌, ℕ, ◌+◌, ◌≤◌, Bool, true, false, not, ◌∷◌, length, Some, None}
+use Rattle.std.proofs.Common.{◌≡◌, ℕ, eqb, ◌+◌, ◌-◌, ◌≤◌, Bool, true, false, not, ◌∷◌, length, Some, None}
 use Rattle.std.proofs.Common.{sym, ap, arith}
 use Rattle.std.proofs.lemmas.Bool.{ne_eqb}
 use Rattle.std.proofs.lemmas.Grind.{common_steps}
 use Rattle.std.specs.Prelude.{if◌then◌else◌, nat_lt, is_some}
 use Rattle.plantevents.specs.declared.event.Event.{Event}
-use Rattle.plantevents.specs.declared.event.Event.TheVariants.{Tick, Heard, Take, Commit, Hand, Done, Down}
+use Rattle.plantevents.specs.declared.event.Event.TheVariants.{Tick, Heard, Take, Commit, Hand, Done, Down, Up}
 use Rattle.plantevents.specs.declared.role.Role.{Role}
 use Rattle.plantevents.specs.declared.role.Role.TheVariants.{Worker, Bus, Clock}
 use Rattle.plantevents.specs.Histories.{scan, is_down}
-use Rattle.plant.specs.Shown.{Shown, grown, reserving, kept, is_full, is_unreported}
-use Rattle.plant.proofs.Counting.{one_most, count_near, count_unset, count_set}
+use Rattle.plant.specs.Shown.{Shown, grown, reserving, kept, is_full, unreported}
+use Rattle.plant.proofs.Counting.{one_most, count_near, count_unset, count_set, sum_near}
+
+handed_near : (same : Bool) (n : ℕ) → n ≤ (if same then n + 1 else n) + 1
+handed_near true n = omega arith
+handed_near false n = omega arith
+
+reported_near : (same : Bool) (n : ℕ) → n ≤ (if same then n - 1 else n) + 1
+reported_near true n = omega arith
+reported_near false n = omega arith
 
 -- one place is freed at most
 near : (p : Shown) (e : Event) → kept p ≤ kept (grown p e) + 1
@@ -29,18 +37,25 @@ near p (Commit w n r) =
     in omega arith
 near p (Hand b s t) =
     let less =
-    count_near (λ c. is_unreported c p.history) (λ c. is_unreported c (Hand b s t ∷ p.history)) p.plant.plan.buses b
-    (λ c ne. ap (λ (same : Bool). if same then true else is_unreported c p.history) (ne_eqb b c (λ e. ne (sym e))))
-    in omega arith
+    sum_near (λ c. unreported c p.history) (λ c. unreported c (Hand b s t ∷ p.history)) p.plant.plan.buses b
+    (handed_near (eqb b b) (unreported b p.history))
+    (λ c ne. ap (λ (same : Bool). if same then unreported c p.history + 1 else unreported c p.history)
+    (ne_eqb b c (λ e. ne (sym e)))) in omega arith
 near p (Done b n r) =
     let less =
-    count_near (λ c. is_unreported c p.history) (λ c. is_unreported c (Done b n r ∷ p.history)) p.plant.plan.buses b
-    (λ c ne. ap (λ (same : Bool). if same then false else is_unreported c p.history) (ne_eqb b c (λ e. ne (sym e))))
-    in omega arith
+    sum_near (λ c. unreported c p.history) (λ c. unreported c (Done b n r ∷ p.history)) p.plant.plan.buses b
+    (reported_near (eqb b b) (unreported b p.history))
+    (λ c ne. ap (λ (same : Bool). if same then unreported c p.history - 1 else unreported c p.history)
+    (ne_eqb b c (λ e. ne (sym e)))) in omega arith
 near p (Down b) =
     let less =
     count_near (λ c. not (is_down c p.history)) (λ c. not (is_down c (Down b ∷ p.history))) p.plant.plan.buses b
     (λ c ne. ap (λ (same : Bool). not (if same then true else is_down c p.history)) (ne_eqb b c (λ e. ne (sym e))))
+    in omega arith
+near p (Up b) =
+    let less =
+    count_near (λ c. not (is_down c p.history)) (λ c. not (is_down c (Up b ∷ p.history))) p.plant.plan.buses b
+    (λ c ne. ap (λ (same : Bool). not (if same then false else is_down c p.history)) (ne_eqb b c (λ e. ne (sym e))))
     in omega arith
 
 -- no place is freed by one that is kept back

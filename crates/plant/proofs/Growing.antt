@@ -4,21 +4,23 @@ use Rattle.std.proofs.Common.{◌∷◌, length, refl, sym, ap, ◌∙◌, ◌-�
 use Rattle.std.proofs.lemmas.Bool.{eq-eqb, ne_eqb}
 use Rattle.std.specs.Prelude.{if◌then◌else◌, slice_index_or}
 use Rattle.plantevents.specs.declared.event.Event.{Event}
-use Rattle.plantevents.specs.declared.event.Event.TheVariants.{Tick, Heard, Take, Commit, Hand, Done, Down}
+use Rattle.plantevents.specs.declared.event.Event.TheVariants.{Tick, Heard, Take, Commit, Hand, Done, Down, Up}
 use Rattle.plantevents.specs.declared.role.Role.TheVariants.{Bus, Clock}
 use Rattle.plantevents.specs.Histories.{moment, is_down, heards}
 use Rattle.taskset.specs.TaskSets.{TaskSet, Follows}
 use Rattle.ilimage.specs.Images.{ProcessImage, ImageVariable, layout_of, value_of, blocks_of}
 use Rattle.plantevents.specs.Plants.{Plant}
 use Rattle.plantevents.specs.Variables.{newest, write_of}
-use Rattle.plantevents.specs.Legal.{IsUp}
+use Rattle.plantevents.specs.Legal.{IsUp, IsBack}
 use Rattle.plantbuses.specs.KeptSteps.{KeptBus, bus_at, BusesFollow, ImageFollows}
+use Rattle.plantbuses.specs.OwedSteps.{OwedFollow}
+use Rattle.plantbuses.specs.declared.owed.OwedLevels.{OwedLevels}
 use Rattle.plantbuses.proofs.OwedChanges.{owed_heard}
-use Rattle.plant.specs.Shown.{Shown, grown, reserving, kept, count_below}
+use Rattle.plant.specs.Shown.{Shown, grown, reserving, kept, is_full, count_below}
 use Rattle.plant.specs.Refusals.{is_full_for}
 use Rattle.plant.specs.KeptSteps.{KeptPlant, CountsFollow, Says}
 use Rattle.plant.specs.InputSteps.{input_at}
-use Rattle.plant.proofs.Refusing.{room_left, room_kept}
+use Rattle.plant.proofs.Refusing.{not_below, room_left, room_kept}
 use Rattle.plant.proofs.Counting.{count_less, count_after_set}
 
 pub tick_says : (p : Shown) (k : KeptPlant) (m : ℕ) (tasks : TaskSet) (after : ℕ) → Says p k → moment p.history ≤ m
@@ -94,6 +96,48 @@ down_says p k b buses says up follows run = record {
   within = let w = says.within in let e = says.places in let s = some_kept p b up in omega arith;
 }
 
+-- ---- a bus that comes up again
+
+-- one bus more is up, so a place is kept for its next Down
+one_up_more : (p : Shown) (b : ℕ) → IsBack p.plant p.history b
+    → count_below (λ c. not (is_down c p.history)) p.plant.plan.buses + 1
+    ≡ count_below (λ c. not (is_down c (Up b ∷ p.history))) p.plant.plan.buses
+one_up_more p b back =
+    count_less (λ c. not (is_down c (Up b ∷ p.history))) (λ c. not (is_down c p.history)) p.plant.plan.buses b
+    back.known
+    (ap (λ s. not (if s then false else is_down b p.history)) (eq-eqb b b refl)) (ap not back.down)
+    (λ c ne. sym (ap (λ s. not (if s then false else is_down c p.history)) (ne_eqb b c (λ e. ne (sym e)))))
+
+pub up_says : (p : Shown) (k : KeptPlant) (b : ℕ) (buses : List KeptBus) (owed : List OwedLevels) → Says p k
+    → IsBack p.plant p.history b → is_full p ≡ false
+    → Follows p.plant (Up b ∷ p.history) k.tasks → BusesFollow p.plant (Up b ∷ p.history) buses
+    → OwedFollow p.plant (Up b ∷ p.history) owed
+    → Says (grown p (Up b)) (record k { buses = buses; owed = owed; length = k.length + 1; kept = k.kept + 1 })
+up_says p k b buses owed says back room follows run owes = record {
+  most = says.most;
+  legal = (back, says.legal);
+  each_task = follows;
+  each_variable = record {
+    laid = says.each_variable.laid;
+    values = says.each_variable.values;
+    instances =
+        says.each_variable.instances;
+  };
+  each_source = (says.each_source.0, λ i lt. record { counted = (says.each_source.1 i lt).counted });
+  each_take = says.each_take;
+  each_worker = says.each_worker;
+  each_bus = run;
+  each_input = says.each_input;
+  each_output = says.each_output;
+  each_owed = owes;
+  each_place = says.each_place;
+  clock = says.clock;
+  place = let e = says.place in omega arith;
+  places = let e = says.places in let m = one_up_more p b back in omega arith;
+  within = let e = says.places in let l = says.place in
+      let r = not_below p.limit (length p.history + kept p + 2) room in omega arith;
+}
+
 -- ---- a frame that is heard
 
 one_more : (same : Bool) (n len : ℕ) → n ≤ len → (if same then n + 1 else n) ≤ len + 1
@@ -110,6 +154,7 @@ heards_few b (Commit w n r ∷ h) = let r = heards_few b h in omega arith
 heards_few b (Hand c s t ∷ h) = let r = heards_few b h in omega arith
 heards_few b (Done c n r ∷ h) = let r = heards_few b h in omega arith
 heards_few b (Down c ∷ h) = let r = heards_few b h in omega arith
+heards_few b (Up c ∷ h) = let r = heards_few b h in omega arith
 
 -- what a frame writes is the same by the counts that are kept
 abbrev WritesSame : Plant → ℕ → ℕ → List Event → List ℕ → Type 0

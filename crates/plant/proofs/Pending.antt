@@ -8,7 +8,7 @@ use Rattle.plantevents.specs.declared.activator.PendingEvent.{PendingEvent}
 use Rattle.plantevents.specs.declared.activator.Activator.{Activator}
 use Rattle.plantevents.specs.declared.activator.Activator.TheVariants.{Interval, Messages}
 use Rattle.plantevents.specs.declared.event.Event.{Event}
-use Rattle.plantevents.specs.declared.event.Event.TheVariants.{Tick, Heard, Take, Commit, Hand, Done, Down}
+use Rattle.plantevents.specs.declared.event.Event.TheVariants.{Tick, Heard, Take, Commit, Hand, Done, Down, Up}
 use Rattle.dalievent.specs.Messages.{first_message}
 use Rattle.plantevents.specs.Members.{Has}
 use Rattle.plantevents.specs.Readiness.{activates, pending, pending_event, most_pending}
@@ -50,3 +50,4 @@ pending_small a t (Commit w n r ∷ h) e has = pending_small a t h e has
 pending_small a t (Hand b s x ∷ h) e has = pending_small a t h e has
 pending_small a t (Done b n r ∷ h) e has = pending_small a t h e has
 pending_small a t (Down b ∷ h) e has = pending_small a t h e has
+pending_small a t (Up b ∷ h) e has = pending_small a t h e has

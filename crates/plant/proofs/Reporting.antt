@@ -7,57 +7,61 @@ use Rattle.gearcmd.specs.FrameLists.{FrameList, most_frames}
 use Rattle.transact.specs.Attempts.{ReportParts, IsReportParts}
 use Rattle.ilimage.specs.Images.{ProcessImage}
 use Rattle.plantevents.specs.declared.event.Event.{Event}
-use Rattle.plantevents.specs.declared.event.Event.TheVariants.{Tick, Heard, Take, Commit, Hand, Done, Down}
+use Rattle.plantevents.specs.declared.event.Event.TheVariants.{Tick, Heard, Take, Commit, Hand, Done, Down, Up}
 use Rattle.plantevents.specs.Histories.{OpenHand, hand}
 use Rattle.plantevents.specs.Legal.{IsDone}
 use Rattle.taskset.specs.TaskSets.{Follows}
 use Rattle.plantbuses.specs.KeptSteps.{KeptBus, bus_at, BusesFollow, ImageFollows}
 use Rattle.plantbuses.proofs.OwedChanges.{owed_done}
-use Rattle.plant.specs.Shown.{Shown, grown, kept, is_unreported, count_below}
+use Rattle.plant.specs.Shown.{Shown, grown, kept, unreported, sum_below}
 use Rattle.plant.specs.Matches.{IsReportOf}
 use Rattle.plant.specs.KeptSteps.{KeptPlant, Says}
-use Rattle.plant.proofs.Counting.{count_less}
+use Rattle.plant.proofs.Counting.{sum_more}
 use Rattle.plant.proofs.Reports.{hand_short, report_short, frames_few}
 
 -- ---- what is open was not reported
 
-handed_now : (same before : Bool) (here x : OpenHand) (o : Option OpenHand) → (o ≡ Some x → before ≡ true)
-    → (if same then Some here else o) ≡ Some x → (if same then true else before) ≡ true
-handed_now true before here x o earlier is = refl
+handed_now : (same : Bool) (before : ℕ) (here x : OpenHand) (o : Option OpenHand) → (o ≡ Some x → 1 ≤ before)
+    → (if same then Some here else o) ≡ Some x → 1 ≤ (if same then before + 1 else before)
+handed_now true before here x o earlier is = omega arith
 handed_now false before here x o earlier is = earlier is
 
-reported_now : (same before : Bool) (x : OpenHand) (o : Option OpenHand) → (o ≡ Some x → before ≡ true)
-    → (if same then None else o) ≡ Some x → (if same then false else before) ≡ true
+reported_now : (same : Bool) (before : ℕ) (x : OpenHand) (o : Option OpenHand) → (o ≡ Some x → 1 ≤ before)
+    → (if same then None else o) ≡ Some x → 1 ≤ (if same then before - 1 else before)
 reported_now true before x o earlier is = absurd (cc)
 reported_now false before x o earlier is = earlier is
 
-closed_now : (same before : Bool) (x : OpenHand) (o : Option OpenHand) → (o ≡ Some x → before ≡ true)
-    → (if same then None else o) ≡ Some x → before ≡ true
+closed_now : (same : Bool) (before : ℕ) (x : OpenHand) (o : Option OpenHand) → (o ≡ Some x → 1 ≤ before)
+    → (if same then None else o) ≡ Some x → 1 ≤ before
 closed_now true before x o earlier is = absurd (cc)
 closed_now false before x o earlier is = earlier is
 
-open_unreported : (b : ℕ) (h : List Event) (x : OpenHand) → hand b h ≡ Some x → is_unreported b h ≡ true
+open_unreported : (b : ℕ) (h : List Event) (x : OpenHand) → hand b h ≡ Some x → 1 ≤ unreported b h
 open_unreported b [] x is = absurd (cc)
 open_unreported b (Tick m ∷ h) x is = open_unreported b h x is
 open_unreported b (Heard c f ∷ h) x is = open_unreported b h x is
 open_unreported b (Take w t s ∷ h) x is = open_unreported b h x is
 open_unreported b (Commit w n r ∷ h) x is = open_unreported b h x is
 open_unreported b (Hand c s t ∷ h) x is =
-    handed_now (eqb c b) (is_unreported b h) (record { place = length h; origin = s; transaction = t }) x (hand b h)
+    handed_now (eqb c b) (unreported b h) (record { place = length h; origin = s; transaction = t }) x (hand b h)
     (open_unreported b h x) is
 open_unreported b (Done c n r ∷ h) x is =
-    reported_now (eqb c b) (is_unreported b h) x (hand b h) (open_unreported b h x) is
-open_unreported b (Down c ∷ h) x is = closed_now (eqb c b) (is_unreported b h) x (hand b h) (open_unreported b h x) is
+    reported_now (eqb c b) (unreported b h) x (hand b h) (open_unreported b h x) is
+open_unreported b (Down c ∷ h) x is = closed_now (eqb c b) (unreported b h) x (hand b h) (open_unreported b h x) is
+open_unreported b (Up c ∷ h) x is = open_unreported b h x is
 
--- one bus fewer waits for a report
+-- one report fewer is awaited
 one_report_less : (p : Shown) (b n : ℕ) (r : ReportParts) → IsDone p.plant p.history b n r
-    → count_below (λ c. is_unreported c (Done b n r ∷ p.history)) p.plant.plan.buses + 1
-    ≡ count_below (λ c. is_unreported c p.history) p.plant.plan.buses
+    → sum_below (λ c. unreported c (Done b n r ∷ p.history)) p.plant.plan.buses + 1
+    ≡ sum_below (λ c. unreported c p.history) p.plant.plan.buses
 one_report_less p b n r done =
-    count_less (λ c. is_unreported c p.history) (λ c. is_unreported c (Done b n r ∷ p.history)) p.plant.plan.buses b
-    done.known (open_unreported b p.history done.handed done.is_open)
-    (ap (λ (s : Bool). if s then false else is_unreported b p.history) (eq-eqb b b refl))
-    (λ c ne. ap (λ (s : Bool). if s then false else is_unreported c p.history) (ne_eqb b c (λ e. ne (sym e))))
+    let some = open_unreported b p.history done.handed done.is_open in
+    let less : unreported b (Done b n r ∷ p.history) ≡ unreported b p.history - 1 =
+    ap (λ (s : Bool). if s then unreported b p.history - 1 else unreported b p.history) (eq-eqb b b refl) in
+    sym (sum_more (λ c. unreported c (Done b n r ∷ p.history)) (λ c. unreported c p.history) p.plant.plan.buses b
+    done.known (omega arith)
+    (λ c ne. sym (ap (λ (s : Bool). if s then unreported c p.history - 1 else unreported c p.history)
+    (ne_eqb b c (λ e. ne (sym e))))))
 
 some_kept : (p : Shown) (b n : ℕ) (r : ReportParts) → IsDone p.plant p.history b n r → 1 ≤ kept p
 some_kept p b n r done = let l = one_report_less p b n r done in omega arith

@@ -18,7 +18,7 @@ use Rattle.transact.specs.declared.marks.Sent.{Sent}
 use Rattle.transact.specs.Attempts.{Attempt, IsReport, ReportParts, IsReportParts, marks_of, sent_with, all_sent}
 use Rattle.transact.specs.Attempts.{most_sent}
 use Rattle.plantevents.specs.declared.event.Event.{Event}
-use Rattle.plantevents.specs.declared.event.Event.TheVariants.{Tick, Heard, Take, Commit, Hand, Done, Down}
+use Rattle.plantevents.specs.declared.event.Event.TheVariants.{Tick, Heard, Take, Commit, Hand, Done, Down, Up}
 use Rattle.plantevents.specs.Plants.{Plant}
 use Rattle.plantevents.specs.Histories.{OpenHand, hand, frames}
 use Rattle.plantevents.specs.Legal.{AreLegal, IsDone}
@@ -105,6 +105,7 @@ hand_short p b (Hand c s t ∷ h) x legal is =
     (hand_short p b h x legal.1) is
 hand_short p b (Done c n r ∷ h) x legal is = closed_here (eqb c b) x (hand b h) (hand_short p b h x legal.1) is
 hand_short p b (Down c ∷ h) x legal is = closed_here (eqb c b) x (hand b h) (hand_short p b h x legal.1) is
+hand_short p b (Up c ∷ h) x legal is = hand_short p b h x legal.1 is
 
 -- ---- frames of a report
 
@@ -163,3 +164,4 @@ frames_few p b (Done c n r ∷ h) legal =
     let m = more_frames (eqb c b) (frames b h) (length r.attempts) (length h) (frames_few p b h legal.1)
     (done_short p c n r h legal.1 legal.0) in omega arith
 frames_few p b (Down c ∷ h) legal = let r = frames_few p b h legal.1 in omega arith
+frames_few p b (Up c ∷ h) legal = let r = frames_few p b h legal.1 in omega arith

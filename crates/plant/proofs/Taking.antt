@@ -17,7 +17,7 @@ use Rattle.ilimage.specs.Images.{verified_of, blocks_of, variable_in, overridden
 use Rattle.ilimage.specs.Snapshots.{ScanStart}
 use Rattle.plantevents.specs.declared.activator.PendingEvent.{PendingEvent}
 use Rattle.plantevents.specs.declared.event.Event.{Event}
-use Rattle.plantevents.specs.declared.event.Event.TheVariants.{Tick, Heard, Take, Commit, Hand, Done, Down}
+use Rattle.plantevents.specs.declared.event.Event.TheVariants.{Tick, Heard, Take, Commit, Hand, Done, Down, Up}
 use Rattle.plantevents.specs.Plants.{Plant, first_tasks, layout, trigger_of, activator}
 use Rattle.plantevents.specs.Histories.{OpenScan, moment, scan, scans}
 use Rattle.plantevents.specs.Readiness.{pending}
@@ -152,6 +152,7 @@ scans_few t (Commit w n r ∷ h) = let r = scans_few t h in omega arith
 scans_few t (Hand c s x ∷ h) = let r = scans_few t h in omega arith
 scans_few t (Done c n r ∷ h) = let r = scans_few t h in omega arith
 scans_few t (Down c ∷ h) = let r = scans_few t h in omega arith
+scans_few t (Up c ∷ h) = let r = scans_few t h in omega arith
 
 pub take_room : (p : Shown) (k : KeptPlant) (t : ℕ) → Says p k → t < length p.plant.plan.tasks
     → slice_index_or k.takes t 0 + 1 < 18446744073709551616

@@ -66,6 +66,10 @@ hand_cases p b =
 abbrev pub down_cases : Shown → ℕ → List Case
 down_cases p b = (has_no_bus p b, Stranger) ∷ (is_down b p.history, BusDown) ∷ []
 
+-- a bus that is not down has nothing to come up from
+abbrev pub up_cases : Shown → ℕ → List Case
+up_cases p b = (has_no_bus p b, Stranger) ∷ (not (is_down b p.history), NothingReady) ∷ (is_full p, Full) ∷ []
+
 -- ---- what is answered
 
 -- the refusal of the first case that holds

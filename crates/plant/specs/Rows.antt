@@ -1,8 +1,9 @@
--- Worked plants: what is refused at the end of a history, and that the clock does not go back.
+-- Worked plants: what is refused at the end of a history, that the clock does not go back, and a bus that comes up.
 use Rattle.std.specs.Prelude.{ℕ, zero, suc, [], ◌+◌}
 use Rattle.ilplan.specs.Plans.{plan_of}
 use Rattle.ilcompile.specs.Loaded.{Loaded, loaded_of}
-use Rattle.plantevents.specs.declared.event.Event.TheVariants.{Tick}
+use Rattle.plantevents.specs.declared.event.Event.TheVariants.{Tick, Down, Up}
+use Rattle.plantevents.specs.Rows.{hand_lamp}
 use Rattle.plant.specs.Shown.{Shown, opened, grown}
 
 -- one bus, no task
@@ -16,3 +17,11 @@ quiet = opened idle_house 1 100
 abbrev pub ticked : ℕ → Shown
 ticked zero = quiet
 ticked (suc n) = grown (ticked n) (Tick (n + 1))
+
+-- its bus was handed the lamp's level
+abbrev pub handed : Shown → Shown
+handed p = grown p hand_lamp
+
+-- its bus went down and came up again
+abbrev pub back : Shown → Shown
+back p = grown (grown p (Down 0)) (Up 0)

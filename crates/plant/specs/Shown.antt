@@ -1,6 +1,6 @@
 -- A plant as callers see it, and how many places of its history are kept back (profile).
 use Rattle.std.specs.Prelude.{ℕ, ◌<◌, ◌≤◌, zero, suc, ◌+◌, ◌==◌, Bool, true, false, not, if◌then◌else◌, List, [], ◌∷◌}
-use Rattle.std.specs.Prelude.{length}
+use Rattle.std.specs.Prelude.{◌-◌, length}
 use Rattle.std.specs.Prelude.{replicate, slice_set, slice_index_or, is_some, nat_lt}
 use Rattle.limits.specs.Limits.{few_buses, most_workers, least_events, least_events_of_many, most_events}
 use Rattle.ilcompile.specs.Loaded.{Loaded}
@@ -95,12 +95,17 @@ grown p e = record p { history = e ∷ p.history; reserved = after_use e p.reser
 
 -- ---- how many places are kept
 
--- a transaction was handed to bus b, and no report of it came: it is open, or the bus went down meanwhile
-abbrev pub is_unreported : ℕ → List Event → Bool
-is_unreported b [] = false
-is_unreported b (Hand c s t ∷ h) = if c == b then true else is_unreported b h
-is_unreported b (Done c n r ∷ h) = if c == b then false else is_unreported b h
-is_unreported b (e ∷ h) = is_unreported b h
+-- how many transactions were handed to bus b of which no report came: one may be open, and in others the bus went down
+abbrev pub unreported : ℕ → List Event → ℕ
+unreported b [] = 0
+unreported b (Hand c s t ∷ h) = if c == b then unreported b h + 1 else unreported b h
+unreported b (Done c n r ∷ h) = if c == b then unreported b h - 1 else unreported b h
+unreported b (e ∷ h) = unreported b h
+
+-- the sum of these numbers below n
+abbrev pub sum_below : (ℕ → ℕ) → ℕ → ℕ
+sum_below each zero = 0
+sum_below each (suc n) = sum_below each n + each n
 
 -- how many of the numbers below n pass the test
 abbrev pub count_below : (ℕ → Bool) → ℕ → ℕ
@@ -117,7 +122,7 @@ count_true (b ∷ more) = (if b then 1 else 0) + count_true more
 abbrev pub kept : Shown → ℕ
 kept p =
     count_below (λ w. is_some (scan w p.history)) p.plant.workers
-    + count_below (λ b. is_unreported b p.history) p.plant.plan.buses
+    + sum_below (λ b. unreported b p.history) p.plant.plan.buses
     + count_below (λ b. not (is_down b p.history)) p.plant.plan.buses
     + (count_true p.reserved.buses + (if p.reserved.clock then 1 else 0))
 

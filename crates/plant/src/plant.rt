@@ -12,6 +12,7 @@ ghost use Rattle.plant.specs.Shown.{IsWorkerCount, IsLimit, IsRoomy, IsOpenFault
 ghost use Rattle.plant.specs.Refusals.{GivesFirst, tick_cases, may_tick_cases, heard_cases};
 ghost use Rattle.plant.specs.Refusals.{down_cases, is_full_for};
 
+mod coming_up;
 mod committing;
 mod handing;
 mod owing;

@@ -7,7 +7,8 @@ use std::alloc::AllocError;
 pub enum CallRefusal {
     /// 2: the moment is below the last one.
     ClockBack,
-    /// 3: no task is ready without an open scan, or nothing is to be sent on the bus.
+    /// 3: no task is ready without an open scan, nothing is to be sent on the bus, or the bus that
+    /// is to come up is not down.
     NothingReady,
     /// 4: there is no such worker or bus, or what was given back is not what is open there.
     Stranger,

@@ -1,13 +1,14 @@
 //! Worked plants: each clause is proved by computing it.
 
 ghost use Rattle.std.specs.Prelude.{◌≡◌, true, false, Some, None};
-ghost use Rattle.plantevents.specs.declared.event.Event.TheVariants.{Tick, Down};
+ghost use Rattle.plantevents.specs.declared.event.Event.TheVariants.{Tick, Down, Up};
 ghost use Rattle.plantevents.specs.declared.role.Role.TheVariants.{Clock, Bus};
 ghost use Rattle.plant.specs.declared.refusal.CallRefusal.TheVariants.{ClockBack, BusDown, Full};
+ghost use Rattle.plant.specs.declared.refusal.CallRefusal.TheVariants.{NothingReady, Stranger};
 ghost use Rattle.plant.specs.Refusals.{first_refusal, tick_cases, may_tick_cases, down_cases};
-ghost use Rattle.plant.specs.Refusals.{heard_cases};
+ghost use Rattle.plant.specs.Refusals.{heard_cases, up_cases};
 ghost use Rattle.plant.specs.Shown.{grown, reserving, kept, is_full};
-ghost use Rattle.plant.specs.Rows.{quiet, ticked};
+ghost use Rattle.plant.specs.Rows.{quiet, ticked, handed, back};
 
 /// With a limit of 100 and one bus 98 ticks are accepted, and then the bus may still go down.
 fn hundred_places()
@@ -23,6 +24,17 @@ fn hundred_places()
 fn clock_back()
     ensures back { first_refusal (tick_cases (grown quiet (Tick 9)) 5) ≡ Some ClockBack }
     ensures again { first_refusal (tick_cases (grown quiet (Tick 9)) 9) ≡ None }
+{}
+
+/// A bus that is down may come up, which keeps a place for its next Down. The place of a report that
+/// never comes stays kept beside that of the next transaction.
+fn bus_comes_back()
+    ensures up { first_refusal (up_cases (grown quiet (Down 0)) 0) ≡ None }
+    ensures not_down { first_refusal (up_cases quiet 0) ≡ Some NothingReady }
+    ensures stranger { first_refusal (up_cases quiet 1) ≡ Some Stranger }
+    ensures full { first_refusal (up_cases (grown (ticked 98) (Down 0)) 0) ≡ Some Full }
+    ensures once { kept (back quiet) ≡ 1 }
+    ensures unreported { kept (handed (back (handed quiet))) ≡ 3 }
 {}
 
 /// A place that is kept back is used where no other is left.

@@ -1,4 +1,5 @@
 pub mod Answering
+pub mod ComingUp
 pub mod Fitting
 pub mod Handing
 pub mod LocatedLevels

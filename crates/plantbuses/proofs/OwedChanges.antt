@@ -46,7 +46,7 @@ use Rattle.plantbuses.proofs.OwedAt.{located}
 -- ---- what stays
 
 -- what is owed at an address stays, where its variable is not written and no level of it is handed out
-owed_stays : (p : Plant) (b c a : ℕ) (e : Event) (h : List Event)
+pub owed_stays : (p : Plant) (b c a : ℕ) (e : Event) (h : List Event)
     → ((g : ℕ) → location p g ≡ Some (Level b a) → write_of p (Global g) e h ≡ None)
     → handed_level b a (e ∷ h) ≡ handed_level b a h
     → owed_at p b c (e ∷ h) a ≡ owed_at p b c h a

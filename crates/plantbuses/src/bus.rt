@@ -1,10 +1,10 @@
 //! What is kept of a bus.
 
 ghost use Rattle.std.specs.Prelude.{◌≡◌, ◌+◌, ◌<◌, ◌^◌, [], ◌∷◌, ℕ, List, length, drop, IfOk};
-ghost use Rattle.std.specs.Prelude.{if◌then◌else◌};
+ghost use Rattle.std.specs.Prelude.{if◌then◌else◌, slice_index_or};
 ghost use Rattle.busqueue.specs.declared.class.Class.{Class as RequestClass};
 ghost use Rattle.plantevents.specs.declared.event.Event.{Event};
-ghost use Rattle.plantevents.specs.declared.event.Event.TheVariants.{Heard, Hand, Done, Down};
+ghost use Rattle.plantevents.specs.declared.event.Event.TheVariants.{Heard, Hand, Done, Down, Up};
 ghost use Rattle.plantevents.specs.Plants.{Plant as Made};
 ghost use Rattle.plantbuses.specs.KeptSteps.{AreFresh, BusFollows, BusesFollow, bus_at};
 ghost use Rattle.plantbuses.specs.HandingSteps.{IsOfClass, IsAfterHand, is_taken, levels_after};
@@ -68,7 +68,8 @@ pub struct BusState {
     is_down: bool,
     hand: Option<OpenTransaction>,
     pub(crate) queues: Queues,
-    /// The level that was handed out last for each address, 0 to 80; 255 before the first.
+    /// The level that was handed out last for each address, 0 to 80, since it came up; 255 before
+    /// the first.
     pub(crate) levels: Vec<u8>,
     frames: u64,
     heards: u64,
@@ -104,7 +105,7 @@ impl BusState {
         })
     }
 
-    /// Whether it went down.
+    /// Whether it is down.
     pub fn is_down(&self) -> bool
         ensures value { result ≡ self.now.is_down }
     {
@@ -208,6 +209,27 @@ pub fn note_down(buses: &mut Vec<BusState>, bus: u8)
     let state = &mut buses[usize::from(bus)];
     state.is_down = true;
     state.hand = None;
+}
+
+/// Notes for each address that no level was handed out.
+fn forget_levels(levels: &mut Vec<u8>)
+    ensures many { length levels.new.items ≡ length levels.old.items }
+    ensures none { (a : ℕ) → slice_index_or levels.new.items a 255 ≡ 255 }
+{
+    for a in 0..levels.len() {
+        levels[a] = 255;
+    }
+}
+
+/// Notes that a bus is up again: no level was handed out to it since. It takes no memory.
+pub fn note_up(buses: &mut Vec<BusState>, bus: u8)
+    requires known { bus < length buses.old.items }
+    ensures { (p : Made) (h : List Event) → BusesFollow p h buses.old.items
+        → BusesFollow p (Up bus ∷ h) buses.new.items }
+{
+    let state = &mut buses[usize::from(bus)];
+    state.is_down = false;
+    forget_levels(&mut state.levels);
 }
 
 /// Notes that a bus was handed what is next, at this place of the history.

@@ -27,11 +27,11 @@ mod storing;
 
 pub use answers::answer_to;
 pub use bus::{
-    BusState, OpenTransaction, fresh_buses, note_down, note_hand, note_heard, note_report,
+    BusState, OpenTransaction, fresh_buses, note_down, note_hand, note_heard, note_report, note_up,
 };
 pub use next::{Next, first_of, level_in, transaction_of};
 pub use offers::offer_all;
 pub use outputs::{BusOutputs, LevelOutput, outputs_of};
-pub use owed::{OwedLevels, note_handed, owed_levels};
+pub use owed::{OwedLevels, note_handed, note_owed_anew, owed_levels};
 pub use running::{RunningScan, idle_workers, note_end, note_scan, note_take};
 pub use stores::note_stores;

@@ -8,7 +8,7 @@ ghost use Rattle.gearcmd.specs.Requests.{task_class};
 ghost use Rattle.busqueue.specs.declared.class.Class.{Class as RequestClass};
 ghost use Rattle.busqueue.specs.Queues.{class_number};
 ghost use Rattle.plantevents.specs.declared.event.Event.{Event};
-ghost use Rattle.plantevents.specs.declared.event.Event.TheVariants.{Hand};
+ghost use Rattle.plantevents.specs.declared.event.Event.TheVariants.{Hand, Up};
 ghost use Rattle.plantevents.specs.Plants.{Plant as Made};
 ghost use Rattle.plantevents.specs.Waiting.{handouts, if_new, natural_in};
 ghost use Rattle.plantbuses.specs.AddressSets.{HasNone, IsLeast, one_if};
@@ -156,6 +156,28 @@ pub fn owed_levels(
         owed.push(bus_owed(&outputs[bus], &buses[bus], image))?;
     }
     Ok(owed)
+}
+
+/// Notes which levels of a bus are owed now that it is up again: it goes over the addresses of that
+/// bus alone. It takes no memory.
+pub fn note_owed_anew(
+    owed: &mut Vec<OwedLevels>,
+    outputs: &[BusOutputs],
+    buses: &[BusState],
+    image: &Image,
+    bus: u8,
+)
+    requires known { bus < length owed.old.items }
+    requires located { bus < length outputs.now }
+    requires kept { bus < length buses.now }
+    requires outputs { length (outputs_at outputs.now bus) ≡ 81 }
+    requires levels { length (bus_at buses.now bus).levels ≡ 81 }
+    ensures { (p : Made) (h : List Event) → OutputsFollow p outputs.now
+        → BusesFollow p (Up bus ∷ h) buses.now → ImageFollows p (Up bus ∷ h) image.now
+        → OwedFollow p h owed.old.items → OwedFollow p (Up bus ∷ h) owed.new.items }
+{
+    let number = usize::from(bus);
+    owed[number] = bus_owed(&outputs[number], &buses[number], image);
 }
 
 /// Notes that a bus was handed what is next: a level is owed no more.

@@ -11,7 +11,7 @@ use Rattle.plantevents.specs.declared.activator.PendingEvent.{PendingEvent}
 use Rattle.plantevents.specs.declared.activator.Activator.{Activator}
 use Rattle.plantevents.specs.declared.activator.Activator.TheVariants.{Messages}
 use Rattle.plantevents.specs.declared.event.Event.{Event}
-use Rattle.plantevents.specs.declared.event.Event.TheVariants.{Tick, Heard, Take, Commit, Hand, Done, Down}
+use Rattle.plantevents.specs.declared.event.Event.TheVariants.{Tick, Heard, Take, Commit, Hand, Done, Down, Up}
 use Rattle.plantevents.specs.Plants.{Plant, activator}
 use Rattle.plantevents.specs.Histories.{scans, is_scanned}
 use Rattle.plantevents.specs.Readiness.{most_pending, activates, pending_event, pending, lost, ready}
@@ -46,6 +46,7 @@ few_pending a t (Commit w n r ∷ h) = few_pending a t h
 few_pending a t (Hand b s x ∷ h) = few_pending a t h
 few_pending a t (Done b n r ∷ h) = few_pending a t h
 few_pending a t (Down b ∷ h) = few_pending a t h
+few_pending a t (Up b ∷ h) = few_pending a t h
 
 -- ---- in order
 
@@ -157,6 +158,7 @@ left_in p bus source t (Commit w n r ∷ h) is legal = left_in p bus source t h 
 left_in p bus source t (Hand b s x ∷ h) is legal = left_in p bus source t h is legal.1
 left_in p bus source t (Done b n r ∷ h) is legal = left_in p bus source t h is legal.1
 left_in p bus source t (Down b ∷ h) is legal = left_in p bus source t h is legal.1
+left_in p bus source t (Up b ∷ h) is legal = left_in p bus source t h is legal.1
 
 pub pending_in_order : (p : Plant) (bus : ℕ) (source : EventSource) (t : ℕ) (h : List Event)
     → activator p t ≡ Some (Messages bus source) → AreLegal p h

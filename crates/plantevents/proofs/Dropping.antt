@@ -5,7 +5,7 @@ use Rattle.std.specs.Prelude.{if◌then◌else◌, nat_lt}
 use Rattle.gearcmd.specs.declared.requests.Request.{Request}
 use Rattle.gearcmd.specs.declared.requests.TaskKind.{TaskKind}
 use Rattle.plantevents.specs.declared.event.Event.{Event}
-use Rattle.plantevents.specs.declared.event.Event.TheVariants.{Tick, Heard, Take, Commit, Hand, Done, Down}
+use Rattle.plantevents.specs.declared.event.Event.TheVariants.{Tick, Heard, Take, Commit, Hand, Done, Down, Up}
 use Rattle.plantevents.specs.Plants.{Plant}
 use Rattle.plantevents.specs.Histories.{scan}
 use Rattle.plantevents.specs.Waiting.{most_waiting, kind_scanned, is_for, refused_count, waiting, dropped}
@@ -46,3 +46,4 @@ accepted_or_dropped p b c (Commit w n result ∷ h) =
 accepted_or_dropped p b c (Hand d s t ∷ h) = accepted_or_dropped p b c h
 accepted_or_dropped p b c (Done d n r ∷ h) = accepted_or_dropped p b c h
 accepted_or_dropped p b c (Down d ∷ h) = accepted_or_dropped p b c h
+accepted_or_dropped p b c (Up d ∷ h) = accepted_or_dropped p b c h

@@ -81,35 +81,38 @@ reports = record {
 
 pub one_of_each_is_legal : AreLegal working_house one_of_each
 one_of_each_is_legal = (
-  record { known = omega arith; up = refl },
+  record { known = omega arith; down = refl },
   (
     record { known = omega arith; up = refl },
     (
-      record {
-        known = omega arith;
-        handed = _;
-        is_open = refl;
-        place = refl;
-        transaction = refl;
-        tries = refl;
-        report = reports;
-      },
+      record { known = omega arith; up = refl },
       (
         record {
-          up = record { known = omega arith; up = refl };
-          idle = refl;
-          first = refl;
-          legal = inl (inl refl, inl (Short 5, 0, omega arith, omega arith, refl));
+          known = omega arith;
+          handed = _;
+          is_open = refl;
+          place = refl;
+          transaction = refl;
+          tries = refl;
+          report = reports;
         },
         (
           record {
-            known = omega arith;
-            running = _;
-            is_open = refl;
-            place = refl;
-            meant = record { number = refl; snapshot = refl; task = _; is_task = refl; meant = refl; run = runs };
+            up = record { known = omega arith; up = refl };
+            idle = refl;
+            first = refl;
+            legal = inl (inl refl, inl (Short 5, 0, omega arith, omega arith, refl));
           },
-          (takes, (omega arith, tt)),
+          (
+            record {
+              known = omega arith;
+              running = _;
+              is_open = refl;
+              place = refl;
+              meant = record { number = refl; snapshot = refl; task = _; is_task = refl; meant = refl; run = runs };
+            },
+            (takes, (omega arith, tt)),
+          ),
         ),
       ),
     ),

@@ -1,4 +1,5 @@
 pub mod Arriving
+pub mod ComingUp
 pub mod Dropped
 pub mod Dropping
 pub mod GivenUp

@@ -5,9 +5,10 @@ use Rattle.std.specs.Prelude.{if◌then◌else◌, ◌==◌}
 use Rattle.transact.specs.declared.marks.Sent.{Sent}
 use Rattle.plantevents.specs.declared.role.Role.TheVariants.{Bus, Clock}
 use Rattle.plantevents.specs.declared.event.Event.{Event}
-use Rattle.plantevents.specs.declared.event.Event.TheVariants.{Tick, Heard, Take, Commit, Hand, Done, Down}
-use Rattle.plantevents.specs.Histories.{sent_in, heard_in, downs_in, given_in, frames, heards}
-use Rattle.plantevents.specs.Parts.{placed, part, shown_sent, shown_heard, shown_downs, shown_given}
+use Rattle.plantevents.specs.declared.event.Event.TheVariants.{Tick, Heard, Take, Commit, Hand, Done, Down, Up}
+use Rattle.plantevents.specs.Histories.{sent_in, heard_in, downs_in, ups_in, given_in, frames, heards}
+use Rattle.plantevents.specs.Parts.{placed, part, shown_sent, shown_heard, shown_downs, shown_ups}
+use Rattle.plantevents.specs.Parts.{shown_given}
 
 pub sent_shown : (b : ℕ) (h : List Event) → sent_in b h ≡ shown_sent (part (Bus b) h)
 sent_shown b [] = refl
@@ -35,6 +36,12 @@ sent_shown b (Done c n r ∷ h) =
 sent_shown b (Down c ∷ h) =
     elim (c == b) as (λ (x : Bool).
     sent_in b h ≡ shown_sent (if x then placed (length h) (Down c) ∷ part (Bus b) h else part (Bus b) h)) [
+      | true ↦ sent_shown b h
+      | false ↦ sent_shown b h
+    ]
+sent_shown b (Up c ∷ h) =
+    elim (c == b) as (λ (x : Bool).
+    sent_in b h ≡ shown_sent (if x then placed (length h) (Up c) ∷ part (Bus b) h else part (Bus b) h)) [
       | true ↦ sent_shown b h
       | false ↦ sent_shown b h
     ]
@@ -68,6 +75,12 @@ heard_shown b (Down c ∷ h) =
       | true ↦ heard_shown b h
       | false ↦ heard_shown b h
     ]
+heard_shown b (Up c ∷ h) =
+    elim (c == b) as (λ (x : Bool).
+    heard_in b h ≡ shown_heard (if x then placed (length h) (Up c) ∷ part (Bus b) h else part (Bus b) h)) [
+      | true ↦ heard_shown b h
+      | false ↦ heard_shown b h
+    ]
 
 pub downs_shown : (b : ℕ) (h : List Event) → downs_in b h ≡ shown_downs (part (Bus b) h)
 downs_shown b [] = refl
@@ -98,6 +111,48 @@ downs_shown b (Down c ∷ h) =
       | true ↦ ap (λ (before : ℕ). before + 1) (downs_shown b h)
       | false ↦ downs_shown b h
     ]
+downs_shown b (Up c ∷ h) =
+    elim (c == b) as (λ (x : Bool).
+    downs_in b h ≡ shown_downs (if x then placed (length h) (Up c) ∷ part (Bus b) h else part (Bus b) h)) [
+      | true ↦ downs_shown b h
+      | false ↦ downs_shown b h
+    ]
+
+pub ups_shown : (b : ℕ) (h : List Event) → ups_in b h ≡ shown_ups (part (Bus b) h)
+ups_shown b [] = refl
+ups_shown b (Tick m ∷ h) = ups_shown b h
+ups_shown b (Heard c f ∷ h) =
+    elim (c == b) as (λ (x : Bool).
+    ups_in b h ≡ shown_ups (if x then placed (length h) (Heard c f) ∷ part (Bus b) h else part (Bus b) h)) [
+      | true ↦ ups_shown b h
+      | false ↦ ups_shown b h
+    ]
+ups_shown b (Take w t s ∷ h) = ups_shown b h
+ups_shown b (Commit w n r ∷ h) = ups_shown b h
+ups_shown b (Hand c s t ∷ h) =
+    elim (c == b) as (λ (x : Bool).
+    ups_in b h ≡ shown_ups (if x then placed (length h) (Hand c s t) ∷ part (Bus b) h else part (Bus b) h)) [
+      | true ↦ ups_shown b h
+      | false ↦ ups_shown b h
+    ]
+ups_shown b (Done c n r ∷ h) =
+    elim (c == b) as (λ (x : Bool).
+    ups_in b h ≡ shown_ups (if x then placed (length h) (Done c n r) ∷ part (Bus b) h else part (Bus b) h)) [
+      | true ↦ ups_shown b h
+      | false ↦ ups_shown b h
+    ]
+ups_shown b (Down c ∷ h) =
+    elim (c == b) as (λ (x : Bool).
+    ups_in b h ≡ shown_ups (if x then placed (length h) (Down c) ∷ part (Bus b) h else part (Bus b) h)) [
+      | true ↦ ups_shown b h
+      | false ↦ ups_shown b h
+    ]
+ups_shown b (Up c ∷ h) =
+    elim (c == b) as (λ (x : Bool). (if x then ups_in b h + 1 else ups_in b h)
+    ≡ shown_ups (if x then placed (length h) (Up c) ∷ part (Bus b) h else part (Bus b) h)) [
+      | true ↦ ap (λ (before : ℕ). before + 1) (ups_shown b h)
+      | false ↦ ups_shown b h
+    ]
 
 pub given_shown : (h : List Event) → given_in h ≡ shown_given (part Clock h)
 given_shown [] = refl
@@ -108,6 +163,7 @@ given_shown (Commit w n r ∷ h) = given_shown h
 given_shown (Hand c s t ∷ h) = given_shown h
 given_shown (Done c n r ∷ h) = given_shown h
 given_shown (Down c ∷ h) = given_shown h
+given_shown (Up c ∷ h) = given_shown h
 
 -- ---- counts
 
@@ -126,6 +182,7 @@ frames_counted b (Done c n r ∷ h) =
       | false ↦ frames_counted b h
     ]
 frames_counted b (Down c ∷ h) = frames_counted b h
+frames_counted b (Up c ∷ h) = frames_counted b h
 
 pub heards_counted : (b : ℕ) (h : List Event) → heards b h ≡ length (heard_in b h)
 heards_counted b [] = refl
@@ -141,3 +198,4 @@ heards_counted b (Commit w n r ∷ h) = heards_counted b h
 heards_counted b (Hand c s t ∷ h) = heards_counted b h
 heards_counted b (Done c n r ∷ h) = heards_counted b h
 heards_counted b (Down c ∷ h) = heards_counted b h
+heards_counted b (Up c ∷ h) = heards_counted b h

@@ -14,7 +14,7 @@ use Rattle.plantevents.specs.declared.activator.PendingEvent.{PendingEvent}
 use Rattle.plantevents.specs.declared.activator.Activator.{Activator}
 use Rattle.plantevents.specs.declared.activator.Activator.TheVariants.{Messages}
 use Rattle.plantevents.specs.declared.event.Event.{Event}
-use Rattle.plantevents.specs.declared.event.Event.TheVariants.{Tick, Heard, Take, Commit, Hand, Done, Down}
+use Rattle.plantevents.specs.declared.event.Event.TheVariants.{Tick, Heard, Take, Commit, Hand, Done, Down, Up}
 use Rattle.dalievent.specs.Messages.{is_message, information}
 use Rattle.plantevents.specs.Plants.{Plant, location, source_at, task_at, trigger_by, trigger_of, activator_by}
 use Rattle.plantevents.specs.Plants.{activator, messages_at}
@@ -97,6 +97,7 @@ all_by bus t source (Commit w n r ∷ h) a has = later_by bus source (Commit w n
 all_by bus t source (Hand b s x ∷ h) a has = later_by bus source (Hand b s x) h a (all_by bus t source h a has)
 all_by bus t source (Done b n r ∷ h) a has = later_by bus source (Done b n r) h a (all_by bus t source h a has)
 all_by bus t source (Down b ∷ h) a has = later_by bus source (Down b) h a (all_by bus t source h a has)
+all_by bus t source (Up b ∷ h) a has = later_by bus source (Up b) h a (all_by bus t source h a has)
 
 -- ---- the values just after a message
 

@@ -7,7 +7,7 @@ use Rattle.std.specs.Prelude.{if◌then◌else◌}
 use Rattle.ilimage.specs.Snapshots.{ScanStart}
 use Rattle.ilmachine.specs.Scans.{Scan}
 use Rattle.plantevents.specs.declared.event.Event.{Event}
-use Rattle.plantevents.specs.declared.event.Event.TheVariants.{Tick, Heard, Take, Commit, Hand, Done, Down}
+use Rattle.plantevents.specs.declared.event.Event.TheVariants.{Tick, Heard, Take, Commit, Hand, Done, Down, Up}
 use Rattle.plantevents.specs.Plants.{Plant, activator}
 use Rattle.plantevents.specs.Histories.{OpenScan, scan, is_scanned}
 use Rattle.plantevents.specs.Readiness.{ready}
@@ -137,6 +137,7 @@ agree p (Commit w n r ∷ h) legal =
 agree p (Hand b s t ∷ h) legal = same (Hand b s t) h (λ w. refl) (λ t. refl) (agree p h legal.1)
 agree p (Done b n r ∷ h) legal = same (Done b n r) h (λ w. refl) (λ t. refl) (agree p h legal.1)
 agree p (Down b ∷ h) legal = same (Down b) h (λ w. refl) (λ t. refl) (agree p h legal.1)
+agree p (Up b ∷ h) legal = same (Up b) h (λ w. refl) (λ t. refl) (agree p h legal.1)
 
 pub scanned_law : (p : Plant) (t : ℕ) (h : List Event) → AreLegal p h
     → (is_scanned t h ≡ true → IsScanned t h) × (IsScanned t h → is_scanned t h ≡ true)

@@ -3,7 +3,7 @@ use Rattle.std.proofs.Common.{◌≡◌, ℕ, Bool, true, false, List, [], ◌�
 use Rattle.std.specs.Prelude.{if◌then◌else◌, ◌==◌}
 use Rattle.plantevents.specs.declared.role.Role.TheVariants.{Worker, Bus, Clock}
 use Rattle.plantevents.specs.declared.event.Event.{Event}
-use Rattle.plantevents.specs.declared.event.Event.TheVariants.{Tick, Heard, Take, Commit, Hand, Done, Down}
+use Rattle.plantevents.specs.declared.event.Event.TheVariants.{Tick, Heard, Take, Commit, Hand, Done, Down, Up}
 use Rattle.plantevents.specs.Histories.{moment, scan, hand, is_down}
 use Rattle.plantevents.specs.Parts.{Placed, part, shown_moment, shown_scan, shown_hand, shown_down}
 
@@ -20,6 +20,7 @@ moment_shown (Commit w n r ∷ h) = moment_shown h
 moment_shown (Hand b s t ∷ h) = moment_shown h
 moment_shown (Done b n r ∷ h) = moment_shown h
 moment_shown (Down b ∷ h) = moment_shown h
+moment_shown (Up b ∷ h) = moment_shown h
 
 pub scan_shown : (w : ℕ) (h : List Event) → scan w h ≡ shown_scan (part (Worker w) h)
 scan_shown w [] = refl
@@ -40,6 +41,7 @@ scan_shown w (Commit v n r ∷ h) =
 scan_shown w (Hand b s t ∷ h) = scan_shown w h
 scan_shown w (Done b n r ∷ h) = scan_shown w h
 scan_shown w (Down b ∷ h) = scan_shown w h
+scan_shown w (Up b ∷ h) = scan_shown w h
 
 pub hand_shown : (b : ℕ) (h : List Event) → hand b h ≡ shown_hand (part (Bus b) h)
 hand_shown b [] = refl
@@ -75,6 +77,12 @@ hand_shown b (Down c ∷ h) =
       | true ↦ refl
       | false ↦ hand_shown b h
     ]
+hand_shown b (Up c ∷ h) =
+    elim (c == b) as (λ (x : Bool).
+    hand b h ≡ shown_hand (if x then at (Up c) h ∷ part (Bus b) h else part (Bus b) h)) [
+      | true ↦ hand_shown b h
+      | false ↦ hand_shown b h
+    ]
 
 pub down_shown : (b : ℕ) (h : List Event) → is_down b h ≡ shown_down (part (Bus b) h)
 down_shown b [] = refl
@@ -102,6 +110,12 @@ down_shown b (Done c n r ∷ h) =
 down_shown b (Down c ∷ h) =
     elim (c == b) as (λ (x : Bool). (if x then true else is_down b h)
     ≡ shown_down (if x then at (Down c) h ∷ part (Bus b) h else part (Bus b) h)) [
+      | true ↦ refl
+      | false ↦ down_shown b h
+    ]
+down_shown b (Up c ∷ h) =
+    elim (c == b) as (λ (x : Bool). (if x then false else is_down b h)
+    ≡ shown_down (if x then at (Up c) h ∷ part (Bus b) h else part (Bus b) h)) [
       | true ↦ refl
       | false ↦ down_shown b h
     ]

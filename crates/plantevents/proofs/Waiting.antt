@@ -10,7 +10,7 @@ use Rattle.gearcmd.specs.declared.requests.TaskKind.{TaskKind}
 use Rattle.gearcmd.specs.FrameLists.{FrameList}
 use Rattle.plantevents.specs.declared.event.Origin.{Origin}
 use Rattle.plantevents.specs.declared.event.Event.{Event}
-use Rattle.plantevents.specs.declared.event.Event.TheVariants.{Tick, Heard, Take, Commit, Hand, Done, Down}
+use Rattle.plantevents.specs.declared.event.Event.TheVariants.{Tick, Heard, Take, Commit, Hand, Done, Down, Up}
 use Rattle.plantevents.specs.Plants.{Plant}
 use Rattle.plantevents.specs.Histories.{scan}
 use Rattle.plantevents.specs.Waiting.{most_waiting, kind_scanned, is_for, is_queued, after_offers, waiting, owed}
@@ -118,3 +118,4 @@ waiting_law p b c (Hand d s t ∷ h) legal =
     hand_takes p b c d s t h (d == b && is_queued c s t) refl legal.0.first (waiting_law p b c h legal.1)
 waiting_law p b c (Done d n r ∷ h) legal = waiting_law p b c h legal.1
 waiting_law p b c (Down d ∷ h) legal = waiting_law p b c h legal.1
+waiting_law p b c (Up d ∷ h) legal = waiting_law p b c h legal.1

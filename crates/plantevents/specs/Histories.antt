@@ -8,7 +8,7 @@ use Rattle.transact.specs.declared.marks.Sent.{Sent}
 use Rattle.ilimage.specs.Snapshots.{ScanStart}
 use Rattle.plantevents.specs.declared.event.Origin.{Origin}
 use Rattle.plantevents.specs.declared.event.Event.{Event}
-use Rattle.plantevents.specs.declared.event.Event.TheVariants.{Tick, Heard, Take, Commit, Hand, Done, Down}
+use Rattle.plantevents.specs.declared.event.Event.TheVariants.{Tick, Heard, Take, Commit, Hand, Done, Down, Up}
 use Rattle.dalievent.specs.Messages.{is_message}
 
 -- the moment of the last tick, else 0
@@ -70,9 +70,11 @@ hand b (Done c n r ∷ h) = if c == b then None else hand b h
 hand b (Down c ∷ h) = if c == b then None else hand b h
 hand b (e ∷ h) = hand b h
 
+-- whether bus b went down, and did not come up since
 abbrev pub is_down : ℕ → List Event → Bool
 is_down b [] = false
 is_down b (Down c ∷ h) = if c == b then true else is_down b h
+is_down b (Up c ∷ h) = if c == b then false else is_down b h
 is_down b (e ∷ h) = is_down b h
 
 -- ---- counts
@@ -118,3 +120,9 @@ abbrev pub downs_in : ℕ → List Event → ℕ
 downs_in b [] = 0
 downs_in b (Down c ∷ h) = if c == b then downs_in b h + 1 else downs_in b h
 downs_in b (e ∷ h) = downs_in b h
+
+-- how often bus b came up again
+abbrev pub ups_in : ℕ → List Event → ℕ
+ups_in b [] = 0
+ups_in b (Up c ∷ h) = if c == b then ups_in b h + 1 else ups_in b h
+ups_in b (e ∷ h) = ups_in b h

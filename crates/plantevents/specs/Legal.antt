@@ -1,5 +1,5 @@
 -- Which histories are legal (IEC 61131-3, 2.7.2, IEC 62386-101, and profile).
-use Rattle.std.specs.Prelude.{◌≡◌, ℕ, ◌<◌, ◌≤◌, false, List, [], ◌∷◌, slice_get, Some, None, ⊤}
+use Rattle.std.specs.Prelude.{◌≡◌, ℕ, ◌<◌, ◌≤◌, true, false, List, [], ◌∷◌, slice_get, Some, None, ⊤}
 use Rattle.gearcmd.specs.FrameLists.{FrameList, IsLegal}
 use Rattle.transact.specs.Attempts.{ReportParts, IsReportParts}
 use Rattle.ilplan.specs.Plans.{PlannedTask}
@@ -8,7 +8,7 @@ use Rattle.ilimage.specs.Snapshots.{ScanStart}
 use Rattle.ilmachine.specs.Scans.{Scan, IsScan, store_of}
 use Rattle.plantevents.specs.declared.event.Origin.{Origin}
 use Rattle.plantevents.specs.declared.event.Event.{Event}
-use Rattle.plantevents.specs.declared.event.Event.TheVariants.{Tick, Heard, Take, Commit, Hand, Done, Down}
+use Rattle.plantevents.specs.declared.event.Event.TheVariants.{Tick, Heard, Take, Commit, Hand, Done, Down, Up}
 use Rattle.plantevents.specs.Plants.{Plant, task_at, tries_of}
 use Rattle.plantevents.specs.Histories.{OpenScan, OpenHand, moment, scan, hand, is_down}
 use Rattle.plantevents.specs.Variables.{IsSnapshot}
@@ -19,6 +19,11 @@ use Rattle.plantevents.specs.Waiting.{handouts}
 pub record IsUp (p : Plant) (h : List Event) (b : ℕ) : Type 0 where
   pub known : b < p.plan.buses
   pub up : is_down b h ≡ false
+
+-- the bus is there, and is down: so it may come up
+pub record IsBack (p : Plant) (h : List Event) (b : ℕ) : Type 0 where
+  pub known : b < p.plan.buses
+  pub down : is_down b h ≡ true
 
 -- a worker that has no scan open takes the next task, with a snapshot of it
 pub record IsTake (p : Plant) (h : List Event) (w t : ℕ) (s : ScanStart) : Type 0 where
@@ -71,6 +76,7 @@ Allowed p h (Commit w n r) = IsCommit p h w n r
 Allowed p h (Hand b s t) = IsHand p h b s t
 Allowed p h (Done b n r) = IsDone p h b n r
 Allowed p h (Down b) = IsUp p h b
+Allowed p h (Up b) = IsBack p h b
 
 -- each event is allowed after its front
 abbrev pub AreLegal : Plant → List Event → Type 0

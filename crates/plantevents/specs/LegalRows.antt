@@ -1,5 +1,5 @@
 -- A legal history with an event of each kind: the first task of the worked plant is scanned, the lamp's first level is
--- sent, the button is pushed, and the bus goes down.
+-- sent, the button is pushed, and the bus goes down and comes up again.
 use Rattle.std.specs.Prelude.{List, [], ◌∷◌, drop, map, false}
 use Rattle.daliframe.specs.declared.forward.Frame.TheVariants.{Forward16}
 use Rattle.gearcmd.specs.FrameLists.{FrameList}
@@ -16,7 +16,7 @@ use Rattle.ilverify.specs.Verdicts.{Accepted}
 use Rattle.ilimage.specs.Snapshots.{ScanStart, start_of}
 use Rattle.ilmachine.specs.Scans.{Scan}
 use Rattle.plantevents.specs.declared.event.Event.{Event}
-use Rattle.plantevents.specs.declared.event.Event.TheVariants.{Tick, Take, Commit, Hand, Done, Down}
+use Rattle.plantevents.specs.declared.event.Event.TheVariants.{Tick, Take, Commit, Hand, Done, Down, Up}
 use Rattle.plantevents.specs.declared.event.Origin.TheVariants.{Output}
 use Rattle.plantevents.specs.Plants.{Plant}
 use Rattle.plantevents.specs.Variables.{whole}
@@ -64,7 +64,8 @@ lamp_report =
 
 abbrev pub one_of_each : List Event
 one_of_each =
-    Down 0
+    Up 0
+    ∷ Down 0
     ∷ push 9
     ∷ Done 0 3 lamp_report
     ∷ Hand 0 (Output 5 0) lamp_off

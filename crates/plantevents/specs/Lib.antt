@@ -1,6 +1,7 @@
 pub mod Acceptances
 pub mod Arrivals
 pub mod Choices
+pub mod ComingUp
 pub mod Fronts
 pub mod Histories
 pub mod Legal

@@ -5,7 +5,7 @@ use Rattle.transact.specs.declared.marks.Sent.{Sent}
 use Rattle.plantevents.specs.declared.role.Role.{Role}
 use Rattle.plantevents.specs.declared.role.Role.TheVariants.{Worker, Bus, Clock}
 use Rattle.plantevents.specs.declared.event.Event.{Event}
-use Rattle.plantevents.specs.declared.event.Event.TheVariants.{Tick, Heard, Take, Commit, Hand, Done, Down}
+use Rattle.plantevents.specs.declared.event.Event.TheVariants.{Tick, Heard, Take, Commit, Hand, Done, Down, Up}
 use Rattle.plantevents.specs.Histories.{OpenScan, OpenHand}
 
 -- who an event comes from
@@ -17,6 +17,7 @@ role_of (Commit w n r) = Worker w
 role_of (Hand b s t) = Bus b
 role_of (Done b n r) = Bus b
 role_of (Down b) = Bus b
+role_of (Up b) = Bus b
 
 abbrev pub is_same_role : Role → Role → Bool
 is_same_role (Worker v) (Worker w) = v == w
@@ -71,6 +72,7 @@ shown_hand (newest ∷ older) = hand_by newest.place newest.event (shown_hand ol
 -- whether a bus is down
 abbrev pub down_by : Event → Bool → Bool
 down_by (Down b) before = true
+down_by (Up b) before = false
 down_by e before = before
 
 abbrev pub shown_down : List Placed → Bool
@@ -114,3 +116,12 @@ downs_by e before = before
 abbrev pub shown_downs : List Placed → ℕ
 shown_downs [] = 0
 shown_downs (newest ∷ older) = downs_by newest.event (shown_downs older)
+
+-- how often a bus came up again
+abbrev pub ups_by : Event → ℕ → ℕ
+ups_by (Up b) before = before + 1
+ups_by e before = before
+
+abbrev pub shown_ups : List Placed → ℕ
+shown_ups [] = 0
+shown_ups (newest ∷ older) = ups_by newest.event (shown_ups older)

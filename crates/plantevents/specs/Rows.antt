@@ -37,7 +37,7 @@ use Rattle.ilverify.specs.Verdicts.{Accepted}
 use Rattle.ilimage.specs.Snapshots.{ScanStart, start_of}
 use Rattle.ilmachine.specs.Scans.{Scan}
 use Rattle.plantevents.specs.declared.event.Event.{Event}
-use Rattle.plantevents.specs.declared.event.Event.TheVariants.{Tick, Heard, Take, Commit, Hand, Done}
+use Rattle.plantevents.specs.declared.event.Event.TheVariants.{Tick, Heard, Take, Commit, Hand, Done, Down, Up}
 use Rattle.plantevents.specs.declared.event.Origin.TheVariants.{Queued, Output}
 use Rattle.plantevents.specs.Plants.{Plant}
 use Rattle.plantevents.specs.Variables.{whole}
@@ -188,6 +188,13 @@ lamp_on = record { frames = Forward16 0x0AC8 ∷ []; first_priority = 2 }
 
 abbrev pub hand_lamp : Event
 hand_lamp = Hand 0 (Output 5 200) lamp_on
+
+-- the lamp's level was handed out, its bus went down, and it came up again
+abbrev pub lost_bus : List Event
+lost_bus = Down 0 ∷ hand_lamp ∷ lit
+
+abbrev pub back : List Event
+back = Up 0 ∷ lost_bus
 
 -- DTR1, DTR0, READ MEMORY LOCATION of gear 63
 abbrev pub read_frames : FrameList

@@ -19,7 +19,7 @@ use Rattle.ilimage.specs.Images.{Global}
 use Rattle.plantevents.specs.declared.event.Origin.{Origin}
 use Rattle.plantevents.specs.declared.event.Origin.TheVariants.{Queued, Output}
 use Rattle.plantevents.specs.declared.event.Event.{Event}
-use Rattle.plantevents.specs.declared.event.Event.TheVariants.{Commit, Hand}
+use Rattle.plantevents.specs.declared.event.Event.TheVariants.{Commit, Hand, Up}
 use Rattle.plantevents.specs.Plants.{Plant, kind_of, output_at, storing_kind}
 use Rattle.plantevents.specs.Histories.{OpenScan, scan}
 use Rattle.plantevents.specs.Variables.{value}
@@ -81,10 +81,11 @@ abbrev pub level_by : Origin → ℕ
 level_by (Output address level) = level
 level_by (Queued request) = 255
 
--- the level that was handed out last for address a of bus b: 255, no new level, before the first
+-- the level that was handed out last for address a of bus b since the bus came up: 255, no new level, before the first
 abbrev pub handed_level : ℕ → ℕ → List Event → ℕ
 handed_level b a [] = 255
 handed_level b a (Hand d s t ∷ h) = if d == b && is_output_at a s then level_by s else handed_level b a h
+handed_level b a (Up d ∷ h) = if d == b then 255 else handed_level b a h
 handed_level b a (e ∷ h) = handed_level b a h
 
 -- a level with its address, 0 to 63 for a short address, 64 to 79 for a group, 80 for broadcast

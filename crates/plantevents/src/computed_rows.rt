@@ -8,7 +8,7 @@ ghost use Rattle.transact.specs.declared.marks.Outcome.TheVariants.{Done, GaveUp
 ghost use Rattle.ilimage.specs.Images.{Global, Own};
 ghost use Rattle.plantevents.specs.declared.event.Origin.TheVariants.{Queued, Output};
 ghost use Rattle.plantevents.specs.Plants.{activator};
-ghost use Rattle.plantevents.specs.Histories.{moment, is_scanned, hand};
+ghost use Rattle.plantevents.specs.Histories.{moment, is_scanned, hand, is_down};
 ghost use Rattle.plantevents.specs.Readiness.{pending, lost, ready, since};
 ghost use Rattle.plantevents.specs.Variables.{value, snapshot_value, whole};
 ghost use Rattle.plantevents.specs.Waiting.{waiting, dropped, owed, handouts};
@@ -16,7 +16,7 @@ ghost use Rattle.plantevents.specs.Legal.{AreLegal};
 ghost use Rattle.plantevents.specs.LegalRows.{working_house, one_of_each};
 ghost use Rattle.plantevents.specs.Rows.{house, overlapping, lit, second_turn, crowded, pushes};
 ghost use Rattle.plantevents.specs.Rows.{asking, answered, hand_lamp, lamp_on, hand_reading};
-ghost use Rattle.plantevents.specs.Rows.{reading, read_frames, level};
+ghost use Rattle.plantevents.specs.Rows.{reading, read_frames, level, lost_bus, back};
 
 /// A task reads its snapshot, and not what another task wrote while it was scanned.
 fn overlapping_scans()
@@ -63,6 +63,14 @@ fn lamp()
         ≡ record { origin = Output 5 200; transaction = lamp_on } ∷ [] }
     ensures other_class { owed house 0 4 lit ≡ [] }
     ensures handed { owed house 0 2 (hand_lamp ∷ lit) ≡ [] }
+{}
+
+/// A level that was handed out is owed again once its bus was down and came up.
+fn lamp_again()
+    ensures down { is_down 0 lost_bus ≡ true }
+    ensures handed { owed house 0 2 lost_bus ≡ [] }
+    ensures up { is_down 0 back ≡ false }
+    ensures owed { owed house 0 2 back ≡ record { address = 5; level = 200 } ∷ [] }
 {}
 
 /// What may be handed out goes by class, and in a class requests before levels. A read goes last.

@@ -60,4 +60,8 @@ pub enum Event {
     Down {
         bus: u8,
     },
+    /// A bus that was down is up again.
+    Up {
+        bus: u8,
+    },
 }

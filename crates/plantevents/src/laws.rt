@@ -1,6 +1,7 @@
 //! What the questions mean, asked of a whole history.
 
-ghost use Rattle.std.specs.Prelude.{◌≡◌, ◌↔◌, ◌⊎◌, ℕ, ◌≤◌, true, List, [], Option, Some};
+ghost use Rattle.std.specs.Prelude.{◌≡◌, ◌≢◌, ◌↔◌, ◌⊎◌, ℕ, ◌≤◌, true, List, [], Option};
+ghost use Rattle.std.specs.Prelude.{Some, None};
 ghost use Rattle.std.specs.Prelude.{map, drop, length, slice_get, ◌+◌, ◌++◌, ◌∷◌};
 ghost use Rattle.iltypes.specs.declared.value.Value.{Value};
 ghost use Rattle.dalievent.specs.declared.messages.EventSource.{EventSource};
@@ -16,14 +17,15 @@ ghost use Rattle.plantevents.specs.declared.activator.PendingEvent.{PendingEvent
 ghost use Rattle.plantevents.specs.declared.activator.Activator.{Activator};
 ghost use Rattle.plantevents.specs.declared.activator.Activator.TheVariants.{Messages};
 ghost use Rattle.plantevents.specs.declared.event.Event.{Event};
-ghost use Rattle.plantevents.specs.declared.event.Event.TheVariants.{Heard, Commit, Hand};
+ghost use Rattle.plantevents.specs.declared.event.Event.TheVariants.{Heard, Commit, Hand, Up};
 ghost use Rattle.plantevents.specs.declared.event.Origin.{Origin as OriginOf};
 ghost use Rattle.plantevents.specs.declared.role.Role.{Role};
 ghost use Rattle.plantevents.specs.declared.role.Role.TheVariants.{Worker, Bus, Clock};
 ghost use Rattle.plantevents.specs.Plants.{Plant, task_at, source_at, trigger_of, activator};
 ghost use Rattle.plantevents.specs.Slots.{IsSlotOf};
 ghost use Rattle.plantevents.specs.Histories.{moment, scans, scan, is_scanned, hand, is_down};
-ghost use Rattle.plantevents.specs.Histories.{sent_in, heard_in, downs_in, given_in, frames, heards};
+ghost use Rattle.plantevents.specs.Histories.{sent_in, heard_in, downs_in, ups_in, given_in};
+ghost use Rattle.plantevents.specs.Histories.{frames, heards};
 ghost use Rattle.plantevents.specs.Readiness.{ready, since, pending, lost, most_pending};
 ghost use Rattle.plantevents.specs.Arrivals.{arrivals, GivesUp};
 ghost use Rattle.plantevents.specs.Waiting.{OwedLevel, Handout, waiting, dropped};
@@ -33,10 +35,11 @@ ghost use Rattle.plantevents.specs.Acceptances.{accepted_requests, handed_count,
 ghost use Rattle.plantevents.specs.Writes.{IsWrittenFrom, IsNotWritten, HasLast, HasFirst};
 ghost use Rattle.plantevents.specs.Members.{Has, IsPendingEvent, IsOwed, IsFirstOwed};
 ghost use Rattle.plantevents.specs.Members.{HasNothing, IsNextHandout, IsInPart};
+ghost use Rattle.plantevents.specs.ComingUp.{IsOwedAnew, IsUnchanged};
 ghost use Rattle.plantevents.specs.Legal.{AreLegal, IsTake, IsCommit};
 ghost use Rattle.plantevents.specs.Parts.{Placed, part};
 ghost use Rattle.plantevents.specs.Parts.{shown_moment, shown_scan, shown_hand, shown_down};
-ghost use Rattle.plantevents.specs.Parts.{shown_sent, shown_heard, shown_downs, shown_given};
+ghost use Rattle.plantevents.specs.Parts.{shown_sent, shown_heard, shown_downs, shown_ups, shown_given};
 
 /// `since` is the least length from which on a task that is ready was ready without a break.
 pub fn since_is_least()
@@ -67,11 +70,13 @@ pub fn what_a_part_shows()
 {}
 
 /// What a part shows of the links is so in the whole history: the frames that a bus sent by its
-/// reports, those that were heard there, how often it went down, and the moments of the clock.
+/// reports, those that were heard there, how often it went down and came up, and the moments of the
+/// clock.
 pub fn what_a_part_shows_of_links()
     ensures sent { (b : ℕ) (h : List Event) → sent_in b h ≡ shown_sent (part (Bus b) h) }
     ensures heard { (b : ℕ) (h : List Event) → heard_in b h ≡ shown_heard (part (Bus b) h) }
     ensures downs { (b : ℕ) (h : List Event) → downs_in b h ≡ shown_downs (part (Bus b) h) }
+    ensures ups { (b : ℕ) (h : List Event) → ups_in b h ≡ shown_ups (part (Bus b) h) }
     ensures given { (h : List Event) → given_in h ≡ shown_given (part Clock h) }
 {}
 
@@ -144,6 +149,22 @@ pub fn what_is_owed()
         → Has (owed p b c h) o ↔ IsOwed p b c h o }
     ensures first { (p : Plant) (b c : ℕ) (h : List Event) (o : OwedLevel)
         → (slice_get (owed p b c h) 0 ≡ Some o) ↔ IsFirstOwed p b c h o }
+{}
+
+/// A bus that comes up again owes exactly each level whose value isn't 255. The other buses owe what
+/// they owed, and nothing else that a history says of variables, tasks and requests differs.
+pub fn what_coming_up_changes()
+    ensures owed { (p : Plant) (b c : ℕ) (h : List Event) (o : OwedLevel)
+        → Has (owed p b c (Up b ∷ h)) o ↔ IsOwedAnew p b c h o }
+    ensures others { (p : Plant) (b other c : ℕ) (h : List Event)
+        → other ≢ b → owed p other c (Up b ∷ h) ≡ owed p other c h }
+    ensures same { (p : Plant) (b : ℕ) (h : List Event) → IsUnchanged p h (Up b ∷ h) }
+{}
+
+/// In a legal history a bus that is down has no transaction open.
+pub fn what_a_bus_has_open_that_is_down()
+    ensures { (p : Plant) (b : ℕ) (h : List Event)
+        → AreLegal p h → is_down b h ≡ true → hand b h ≡ None }
 {}
 
 /// What is handed to a bus first is of the least class that has anything: the oldest request, or

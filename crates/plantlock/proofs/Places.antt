@@ -5,7 +5,7 @@ use Rattle.std.specs.Prelude.{slice_index_or, slice_set}
 use Rattle.plantevents.specs.declared.role.Role.{Role}
 use Rattle.plantevents.specs.declared.role.Role.TheVariants.{Worker, Bus, Clock}
 use Rattle.plantevents.specs.declared.event.Event.{Event}
-use Rattle.plantevents.specs.declared.event.Event.TheVariants.{Tick, Heard, Take, Commit, Hand, Done, Down}
+use Rattle.plantevents.specs.declared.event.Event.TheVariants.{Tick, Heard, Take, Commit, Hand, Done, Down, Up}
 use Rattle.plantevents.specs.Parts.{role_of}
 use Rattle.plant.specs.Shown.{Shown, grown, reserving, is_reserved}
 use Rattle.receipts.specs.Receipts.{reserved_after}
@@ -26,6 +26,7 @@ reserved_mine p (Commit w n r) = refl
 reserved_mine p (Hand b s t) = refl
 reserved_mine p (Done b n r) = refl
 reserved_mine p (Down b) = refl
+reserved_mine p (Up b) = refl
 
 pub reserved_other : (p : Shown) (r : Role) (e : Event) → role_of e ≢ r → is_reserved r (grown p e) ≡ is_reserved r p
 reserved_other p (Worker w) e apart = refl
@@ -36,6 +37,7 @@ reserved_other p Clock (Commit w n r) apart = refl
 reserved_other p Clock (Hand b s t) apart = refl
 reserved_other p Clock (Done b n r) apart = refl
 reserved_other p Clock (Down b) apart = refl
+reserved_other p Clock (Up b) apart = refl
 reserved_other p (Bus c) (Tick m) apart = refl
 reserved_other p (Bus c) (Heard b f) apart =
     get_or-set_other p.reserved.buses b c false false (λ (is : c ≡ b). apart (ap Bus (sym is)))
@@ -44,6 +46,7 @@ reserved_other p (Bus c) (Commit w n r) apart = refl
 reserved_other p (Bus c) (Hand b s t) apart = refl
 reserved_other p (Bus c) (Done b n r) apart = refl
 reserved_other p (Bus c) (Down b) apart = refl
+reserved_other p (Bus c) (Up b) apart = refl
 
 pub reserved_now : (r : Role) (p : Shown) → HasPlace r p → is_reserved r (reserving r p) ≡ true
 reserved_now Clock p has = refl

@@ -10,12 +10,12 @@ use Rattle.plantevents.specs.Histories.{moment, is_down}
 use Rattle.plantevents.specs.Parts.{part, shown_moment, shown_down}
 use Rattle.plant.specs.declared.refusal.CallError.{CallError}
 use Rattle.plant.specs.declared.refusal.CallRefusal.{CallRefusal}
-use Rattle.plant.specs.declared.refusal.CallRefusal.TheVariants.{ClockBack, Stranger, BusDown, Full}
+use Rattle.plant.specs.declared.refusal.CallRefusal.TheVariants.{ClockBack, Stranger, NothingReady, BusDown, Full}
 use Rattle.plant.specs.Refusals.{Case, GivesFirstOrMemory, first_refusal, tick_cases, heard_cases, hand_cases}
-use Rattle.plant.specs.Refusals.{take_cases, down_cases, has_no_bus}
+use Rattle.plant.specs.Refusals.{take_cases, down_cases, up_cases, has_no_bus}
 use Rattle.plant.specs.Shown.{Shown, is_reserved, is_full}
 use Rattle.receipts.specs.Receipts.{ShareParts, IsRole, whole}
-use Rattle.plantlock.specs.Answers.{IsUnheard}
+use Rattle.plantlock.specs.Answers.{IsNotUp, IsUnheard}
 
 pub error_as : {A E : Type 0} → (result : Result A E) (error : E) → IsErrAnd result (λ e. e ≡ error)
     → result ≡ Err error
@@ -130,6 +130,37 @@ pub hand_up : (p : Shown) (s : ShareParts) (b : ℕ) → s.role ≡ Bus b → wh
     → shown_down (whole s) ≡ false
 hand_up p s b role agree shown is =
     sym (down_shown p s b role agree shown) ∙ second_fails (hand_cases p b) is
+
+-- of a bus that comes up
+was_down : (down : Bool) → not down ≡ false → down ≡ true
+was_down true is = refl
+was_down false is = absurd (true≢false is)
+
+pub up_down : (p : Shown) (s : ShareParts) (b : ℕ) → s.role ≡ Bus b → whole s ≡ part s.role p.history
+    → is_down b p.history ≡ shown_down (part (Bus b) p.history) → first_refusal (up_cases p b) ≡ None
+    → shown_down (whole s) ≡ true
+up_down p s b role agree shown is =
+    sym (down_shown p s b role agree shown) ∙ was_down (is_down b p.history) (second_fails (up_cases p b) is)
+
+up_refused : (nobody down full : Bool) (refusal : CallRefusal) (s : ShareParts)
+    → first_refusal ((nobody, Stranger) ∷ (not down, NothingReady) ∷ (full, Full) ∷ []) ≡ Some refusal
+    → nobody ≡ false → down ≡ shown_down (whole s) → IsNotUp (whole s) refusal
+up_refused true down full refusal s is known shown = absurd (true≢false known)
+up_refused false false full refusal s is known shown =
+    let why : NothingReady ≡ refusal = cc in
+    subst (λ (r : CallRefusal). IsNotUp (whole s) r) why (sym shown)
+up_refused false true true refusal s is known shown =
+    let why : Full ≡ refusal = cc in
+    subst (λ (r : CallRefusal). IsNotUp (whole s) r) why refl
+up_refused false true false refusal s is known shown = absurd (cc)
+
+pub not_up : (p : Shown) (s : ShareParts) (b : ℕ) (refusal : CallRefusal) → s.role ≡ Bus b
+    → whole s ≡ part s.role p.history → is_down b p.history ≡ shown_down (part (Bus b) p.history)
+    → b < p.plant.plan.buses → first_refusal (up_cases p b) ≡ Some refusal
+    → IsNotUp (whole s) refusal
+not_up p s b refusal role agree shown known is =
+    up_refused (has_no_bus p b) (is_down b p.history) (is_full p) refusal s is
+    (ap not (lt-ltb b p.plant.plan.buses known)) (down_shown p s b role agree shown)
 
 -- ---- a scan worker
 

@@ -1,12 +1,12 @@
 -- What a call under the lock answers; what a Share shows open: a commit or a report of that is never refused.
-use Rattle.std.specs.Prelude.{◌≡◌, ℕ, List, Some, true, Result, Ok, Err, MatchResult}
+use Rattle.std.specs.Prelude.{◌≡◌, ℕ, List, Some, true, false, Result, Ok, Err, MatchResult}
 use Rattle.gearcmd.specs.FrameLists.{FrameList}
 use Rattle.ilmachine.specs.Scans.{Scan}
 use Rattle.plantevents.specs.Histories.{OpenScan, OpenHand}
 use Rattle.plantevents.specs.Legal.{AreLegal}
 use Rattle.plantevents.specs.Parts.{Placed, part, shown_scan, shown_hand, shown_down}
 use Rattle.plant.specs.declared.refusal.CallRefusal.{CallRefusal}
-use Rattle.plant.specs.declared.refusal.CallRefusal.TheVariants.{BusDown, Full}
+use Rattle.plant.specs.declared.refusal.CallRefusal.TheVariants.{BusDown, NothingReady, Full}
 use Rattle.plant.specs.Refusals.{GivesFirst, hand_cases}
 use Rattle.plant.specs.Shown.{Shown, is_reserved}
 use Rattle.receipts.specs.Receipts.{ShareParts, whole}
@@ -57,6 +57,11 @@ Decides P (Err e) = ¬ P
 abbrev pub IsUnheard : List Placed → CallRefusal → Type 0
 IsUnheard part BusDown = shown_down part ≡ true
 IsUnheard part refusal = refusal ≡ Full
+
+-- why a bus does not come up: it is not down, as the part shows; or the history is full
+abbrev pub IsNotUp : List Placed → CallRefusal → Type 0
+IsNotUp part NothingReady = shown_down part ≡ false
+IsNotUp part refusal = refusal ≡ Full
 
 -- ---- what a Share shows open
 

@@ -13,10 +13,10 @@ ghost use Rattle.receipts.specs.Opened.{AreFreshShares, HaveAllParts, HaveReceip
 ghost use Rattle.receipts.specs.Receipts.{ShareParts, IsNoted, IsReserved, whole};
 ghost use Rattle.receipts.specs.Seats.{AreUnused};
 ghost use Rattle.plant.specs.Matches.{IsOpenScan, IsReportOf};
-ghost use Rattle.plant.specs.Refusals.{GivesFirst, GivesFirstOrMemory, down_cases};
+ghost use Rattle.plant.specs.Refusals.{GivesFirst, GivesFirstOrMemory, down_cases, up_cases};
 ghost use Rattle.plant.specs.Refusals.{heard_cases, may_tick_cases, take_cases, tick_cases};
 ghost use Rattle.plant.specs.Shown.{grown, reserving};
-ghost use Rattle.plantlock.specs.Answers.{Decides, GivesHand, IsAnswered, IsOwn, IsUnheard};
+ghost use Rattle.plantlock.specs.Answers.{Decides, GivesHand, IsAnswered, IsNotUp, IsOwn, IsUnheard};
 ghost use Rattle.plantlock.specs.Answers.{ShowsScan, ShowsTransaction};
 ghost use Rattle.plantlock.specs.Tied.{IsFront, IsMet};
 
@@ -347,6 +347,29 @@ impl<'a, J: LockStart, T: Tally, K: Tallies<T>> Shared<'a, J, T, K> {
         let mut locked = self.locked.lock(rt);
         locked.meet(share);
         let answer = locked.down(rt, share, bus);
+        locked.meet(share);
+        answer
+    }
+
+    /// Opens a bus that was down again.
+    pub fn up<R: Wait>(
+        &self,
+        rt: &R,
+        share: &mut Share<'a, J, T>,
+        bus: u8,
+    ) -> Result<(), CallRefusal>
+        requires role { share.old.role ≡ roles.Bus bus }
+        ensures answered { IsAnswered J.start share.old share.new
+            (λ p. GivesFirst (up_cases p bus))
+            (λ _ p. grown p (event.Up bus)) result }
+        ensures noted { OnOk result ((n : ℕ) × IsNoted n (event.Up bus) share.old share.new) }
+        ensures down { OnOk result (shown_down (whole share.old) ≡ true) }
+        ensures why { IfErr result (IsNotUp (whole share.old)) }
+        ensures err { OnErr result (share.new ≡ share.old) }
+    {
+        let mut locked = self.locked.lock(rt);
+        locked.meet(share);
+        let answer = locked.up(rt, share, bus);
         locked.meet(share);
         answer
     }

@@ -57,7 +57,7 @@ linked_driven firsts p q before after driven are b below =
 linked_tick : (first : BusLog) (b m : ℕ) (h : List PlantEvent) (log : BusLog) → IsStillLinked first b h log
     → IsStillLinked first b (event.Tick m ∷ h) log
 linked_tick first b m h log is =
-    record { same = is.same; sent = is.sent; heard = is.heard; failed = is.failed }
+    record { same = is.same; sent = is.sent; heard = is.heard; failed = is.failed; mended = is.mended }
 
 linked_arrival : (first : BusLog) (b : ℕ) (h : List PlantEvent) (log : BusLog) → IsStillLinked first b h log
     → IsStillLinked first b h (after_arrival log)
@@ -67,6 +67,7 @@ linked_arrival first b h log is =
       sent = is.sent;
       heard = is.heard;
       failed = is.failed;
+      mended = is.mended;
     }
 
 linked_arriving : (firsts : List BusLog) (b : ℕ) (s : Stage) → AreStillLinked firsts s.plant.history s.logs

@@ -78,6 +78,7 @@ linked_first logs b below =
       sent = sym (append-nil log.sent);
       heard = sym (append-nil log.heard);
       failed = refl;
+      mended = refl;
     }
 
 -- all is to come

@@ -106,7 +106,8 @@ IsPlayedTo NoMemory all s t = IsPlayedSomeFar all s t
 -- ---- buses and history
 
 -- Since the first log the bus sent the attempts of its reports and nothing else, the history has what was heard there,
--- and the bus went down as often as its interface failed; whatever has come meanwhile.
+-- the bus went down as often as its interface failed, and came up as often as it was taken up again; whatever has come
+-- meanwhile.
 abbrev pub IsStillLinked : BusLog → ℕ → List PlantEvent → BusLog → Type 0
 IsStillLinked first b h log = IsLinked (record first { arrivals = log.arrivals }) b h log
 

@@ -15,5 +15,5 @@ mod report;
 mod running;
 mod staging;
 
-pub use report::write_run;
+pub use report::{ended_name, write_run, write_tasks};
 pub use running::run;

@@ -13,7 +13,7 @@ use workers::Ended;
 ///
 /// The writer's.
 pub fn write_run<W: Write>(out: &mut W, ended: Ended, plant: &Plant) -> io::Result<()> {
-    writeln!(out, "ended {}", name_of(ended))?;
+    writeln!(out, "ended {}", ended_name(ended))?;
     writeln!(out, "events {}", plant.len())?;
     write_buses(out, plant)?;
     write_tasks(out, plant)?;
@@ -21,7 +21,7 @@ pub fn write_run<W: Write>(out: &mut W, ended: Ended, plant: &Plant) -> io::Resu
 }
 
 /// Why a run ended, as it is printed.
-fn name_of(ended: Ended) -> &'static str {
+pub fn ended_name(ended: Ended) -> &'static str {
     match ended {
         Ended::Asked => "asked",
         Ended::Limit => "limit",
@@ -40,8 +40,13 @@ fn write_buses<W: Write>(out: &mut W, plant: &Plant) -> io::Result<()> {
     Ok(())
 }
 
-/// A line for each task, with how often it was taken and how many events were given up for it.
-fn write_tasks<W: Write>(out: &mut W, plant: &Plant) -> io::Result<()> {
+/// Writes a line for each task, with how often it was taken and how many events were given up for
+/// it.
+///
+/// # Errors
+///
+/// The writer's.
+pub fn write_tasks<W: Write>(out: &mut W, plant: &Plant) -> io::Result<()> {
     let plan = plant.setup().plan();
     for task in 0..plan.tasks() {
         let name = plan.task_name(task);

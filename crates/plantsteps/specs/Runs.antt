@@ -14,9 +14,10 @@ use Rattle.plant.specs.declared.refusal.CallRefusal.{CallRefusal}
 use Rattle.plant.specs.declared.refusal.CallRefusal.TheVariants.{Stranger}
 use Rattle.plant.specs.Matches.{IsOpenTransaction}
 use Rattle.plant.specs.Refusals.{first_refusal, tick_cases, heard_cases, take_cases, hand_cases, down_cases}
+use Rattle.plant.specs.Refusals.{up_cases}
 use Rattle.plant.specs.Shown.{Shown, grown}
 use Rattle.plantsteps.specs.declared.step.Step.{Step}
-use Rattle.plantsteps.specs.declared.step.Step.TheVariants.{Tick, Heard, Take, Commit, Hand, Done, Down}
+use Rattle.plantsteps.specs.declared.step.Step.TheVariants.{Tick, Heard, Take, Commit, Hand, Done, Down, Up}
 use Rattle.plantsteps.specs.declared.step.StepReply.{StepReply}
 use Rattle.plantsteps.specs.declared.step.StepReply.TheVariants.{Noted, Taken, Handed, Refused, Memory}
 
@@ -41,6 +42,7 @@ IsRefused p (Commit w) refusal = (refusal ≡ Stranger) × HasNoScan p w
 IsRefused p (Hand b) refusal = first_refusal (hand_cases p b) ≡ Some refusal
 IsRefused p (Done b n marks) refusal = (refusal ≡ Stranger) × HasNoReport p b n marks.items
 IsRefused p (Down b) refusal = first_refusal (down_cases p b) ≡ Some refusal
+IsRefused p (Up b) refusal = first_refusal (up_cases p b) ≡ Some refusal
 
 abbrev pub NothingIsRefused : Shown → Step → Type 0
 NothingIsRefused p step = (refusal : CallRefusal) → ¬ IsRefused p step refusal
@@ -59,6 +61,7 @@ IsEventOf n (Done b number marks) Noted e =
     (report : ReportParts) × Spells report.transaction report.tries marks.items report
     × (e ≡ event.Done b number report)
 IsEventOf n (Down b) Noted e = e ≡ event.Down b
+IsEventOf n (Up b) Noted e = e ≡ event.Up b
 IsEventOf n step reply e = ⊥
 
 -- A step is accepted where nothing stands against it. It adds its event, which may follow the history.

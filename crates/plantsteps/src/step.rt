@@ -39,6 +39,10 @@ pub enum Step {
     Down {
         bus: u8,
     },
+    /// A bus that is down comes up again.
+    Up {
+        bus: u8,
+    },
 }
 
 /// What a step is answered.

@@ -110,6 +110,7 @@ impl SteppedPlant {
             Step::Hand { bus } => self.hand(*bus),
             Step::Done { bus, number, marks } => self.note_report(*bus, *number, marks),
             Step::Down { bus } => self.down(*bus),
+            Step::Up { bus } => self.up(*bus),
         }
     }
 
@@ -227,6 +228,18 @@ impl SteppedPlant {
             Err(refusal) => return StepReply::Refused(refusal),
         }
         note_sent(&mut self.sendings, bus);
+        let _legal = self.plant.len();
+        StepReply::Noted
+    }
+
+    /// A bus comes up again.
+    fn up(&mut self, bus: u8) -> StepReply
+        ensures { Answered self.old (steps.Up bus) result self.new }
+    {
+        match self.plant.up(bus) {
+            Ok(()) => {}
+            Err(refusal) => return StepReply::Refused(refusal),
+        }
         let _legal = self.plant.len();
         StepReply::Noted
     }

@@ -1,9 +1,8 @@
--- What became of a row's line: of the simulated bus, or of the host's line.
+-- What became of a row's line: of the simulated bus, or of the line that gives the answers of a file.
 use Rattle.buslink.specs.BusLog.{BusLog}
-use Rattle.simbus.specs.Simulated.{Simulated}
 use Rattle.rows.specs.declared.simulated.RowsLine.{RowsLine}
-use Rattle.rows.specs.declared.simulated.RowsLine.TheVariants.{Simulated as OfScenario, Host}
+use Rattle.rows.specs.declared.simulated.RowsLine.TheVariants.{Answering, Simulated}
 
-abbrev pub line_log : {B : Type 0} → (B → BusLog) → RowsLine B → BusLog
-line_log host_log (OfScenario bus) = bus.log
-line_log host_log (Host line) = host_log line
+abbrev pub line_log : RowsLine → BusLog
+line_log (Simulated bus) = bus.log
+line_log (Answering line) = line.line.log

@@ -12,6 +12,9 @@ use workedrows::StoredFile;
 /// beginning of 1970.
 const SECONDS: u64 = 1_795_815_310;
 
+/// The name of a file beside which time passes: each date is ten seconds after the one before.
+const PASSING: &str = "passing";
+
 /// The memory that every building of a row takes for its own, in KiB.
 const MEMORY: u64 = 8192;
 
@@ -24,10 +27,15 @@ pub struct Left {
     pub is_written: bool,
     /// What was written to standard error.
     pub told: Vec<u8>,
+    /// How often the file `nearly-full` was written.
+    writings: u32,
+    /// The seconds that passed.
+    passed: u64,
 }
 
 /// The files of a row, and standard error, for the threads of one command. A file `full` takes
-/// nothing, since the disk is full, and a file `starved` can't be written for lack of memory.
+/// nothing, since the disk is full, a file `nearly-full` takes what is written two times, and a file
+/// `starved` can't be written for lack of memory.
 #[derive(Drop)]
 pub struct RowsDisk {
     alloc: Global,
@@ -43,6 +51,8 @@ impl RowsDisk {
                 files,
                 is_written: false,
                 told: Vec::new(alloc),
+                writings: 0,
+                passed: 0,
             }),
         }
     }
@@ -74,6 +84,36 @@ impl RowsDisk {
         }
     }
 
+    /// Has a file of this name written once more.
+    ///
+    /// # Errors
+    ///
+    /// What keeps it from being written.
+    fn begin_writing(&self, path: &str) -> io::Result<()> {
+        match path {
+            "full" => Err(io::Error::from(ErrorKind::StorageFull)),
+            "starved" => Err(io::Error::from(ErrorKind::OutOfMemory)),
+            "nearly-full" => {
+                let mut left = self.left()?;
+                left.writings = left.writings.saturating_add(1);
+                match left.writings {
+                    0..=2 => Ok(()),
+                    _ => Err(io::Error::from(ErrorKind::StorageFull)),
+                }
+            }
+            _ => Ok(()),
+        }
+    }
+
+    /// The seconds that passed, of which there are ten more where time passes in this row.
+    fn passed(&self) -> io::Result<u64> {
+        let mut left = self.left()?;
+        if left.files.iter().any(|file| file.path.as_str() == PASSING) {
+            left.passed = left.passed.saturating_add(10);
+        }
+        Ok(left.passed)
+    }
+
     /// Puts a file with these bytes at a path, in place of one that is there.
     fn put(&self, path: &str, bytes: Vec<u8>) -> io::Result<()> {
         let path = String::from_str(self.alloc, path)?;
@@ -102,27 +142,16 @@ fn remove(files: &mut Vec<StoredFile>, path: &str) {
     files.retain(|file| file.path.as_str() != path);
 }
 
-/// What keeps a file of this name from being written.
-fn trouble_with(path: &str) -> Option<ErrorKind> {
-    match path {
-        "full" => Some(ErrorKind::StorageFull),
-        "starved" => Some(ErrorKind::OutOfMemory),
-        _ => None,
-    }
-}
-
 impl<S> Storage for RowsSite<'_, S> {
     fn append(&self, path: &str, bytes: &[u8]) -> io::Result<u64> {
-        match trouble_with(path) {
-            Some(kind) if !bytes.is_empty() => Err(io::Error::from(kind)),
-            _ => self.disk.extend(path, bytes),
+        if !bytes.is_empty() {
+            self.disk.begin_writing(path)?;
         }
+        self.disk.extend(path, bytes)
     }
 
     fn replace(&self, alloc: Global, path: &str, bytes: &[u8], _lasts: bool) -> io::Result<()> {
-        if let Some(kind) = trouble_with(path) {
-            return Err(io::Error::from(kind));
-        }
+        self.disk.begin_writing(path)?;
         self.disk.put(path, Vec::from_slice(alloc, bytes)?)
     }
 
@@ -139,7 +168,7 @@ impl<S> Storage for RowsSite<'_, S> {
     }
 
     fn seconds(&self) -> u64 {
-        SECONDS
+        SECONDS.saturating_add(self.disk.passed().unwrap_or(0))
     }
 
     fn memory(&self) -> Option<u64> {

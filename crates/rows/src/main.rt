@@ -10,13 +10,14 @@
 //! is a call.
 #![tactic(auto)]
 
+mod answering;
 mod disk;
 mod pages;
 mod running;
 mod simulated;
 mod wrong;
 
-use building::{HostSite, Site};
+use building::{HostDevices, HostSite, LineStarter, Site};
 use pages::judge_page;
 use running::judge_lines;
 use std::process::ExitCode;
@@ -29,7 +30,13 @@ use workedrows::{Judge, RowsStop};
 use wrong::{refuse_pages, refuse_rows};
 
 fn main(rt: HostRuntime) -> io::Result<ExitCode> {
-    match judge_files(&rt, &HostSite { rt: &rt }) {
+    let devices = HostDevices { rt };
+    let site = HostSite {
+        rt: &rt,
+        devices: &devices,
+        starter: &LineStarter::start(rt.alloc(), rt)?,
+    };
+    match judge_files(&rt, &site) {
         Ok((rows, wrong)) => {
             println!(rt; "{rows} rows hold, and {wrong} wrong rows don't")?;
             Ok(ExitCode::SUCCESS)

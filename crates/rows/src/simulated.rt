@@ -1,20 +1,24 @@
-//! Where the lines of a row's buildings are: a bus that a scenario simulates, or a line of the host.
+//! Where the lines of a row's buildings are: buses that scenarios simulate, and files of answers.
 
 ghost use Rattle.std.specs.Prelude.{⊤, IfOk};
 ghost use Rattle.building.specs.Sites.{IsNewBus};
+ghost use Rattle.rows.specs.Lines.{line_log};
 
+use crate::answering::AnsweringLine;
 use crate::disk::RowsDisk;
-use building::{End, Site, SiteFault};
+use building::{DownWatch, End, Site, SiteFault};
 use buslink::{Bus, Fault};
 use daliframe::{BusNumber, Frame, Frame24};
 use invocations::LineWord;
-use simbus::{BusSetup, ScenarioFault, SimBus, parse};
+use simbus::{BusSetup, SimBus, parse};
 use std::alloc::{AllocError, Global};
 use std::num::NonZeroU64;
+use std::sync::Arc;
 use transact::Reply;
 
 /// The site of a row. A line whose path ends with `.scenario` is the simulated bus of that scenario,
-/// a file of the row, and all that comes on it has come. Any other line, and the clock, are those of
+/// a file of the row, and all that comes on it has come. Any other line gives the answers of the file
+/// of the row at the path that is read; where the row has none it is not there. The clock is that of
 /// the host. What is written beside a building goes to the row's disk.
 #[derive(Clone, Copy)]
 pub struct RowsSite<'a, S> {
@@ -23,24 +27,41 @@ pub struct RowsSite<'a, S> {
 }
 
 impl<'r, S: Site> Site for RowsSite<'r, S> {
-    type Line = RowsLine<S::Line>;
+    type Line = RowsLine;
 
     type Clock = S::Clock;
 
     ghost refuses = { λ _ _ _. ⊤ };
+
+    ghost is_of = { λ _ _ _ _. ⊤ };
+
+    ghost is_timed = { λ _ _ _ _ _. ⊤ };
+
+    fn line<'a>(
+        &self,
+        alloc: Global,
+        line: LineWord<'a>,
+        number: BusNumber,
+        _patience: u32,
+        _watch: &Arc<DownWatch>,
+    ) -> Result<Self::Line, AllocError> {
+        line_at(alloc, self.disk, line, number)
+    }
+
+    fn settle(&self, _lines: &[Self::Line]) {}
 
     fn open<'a>(
         &self,
         alloc: Global,
         line: LineWord<'a>,
         number: BusNumber,
+        _patience: u32,
     ) -> Result<Self::Line, SiteFault> {
-        if line.to.is_none() && line.from.ends_with(".scenario") {
-            let bus = simulated(alloc, self.disk, line.from, number)?;
-            return Ok(RowsLine::Simulated(bus));
+        match line_at(alloc, self.disk, line, number) {
+            Ok(line) if line.is_there() => Ok(line),
+            Ok(_) => Err(SiteFault::Failed),
+            Err(_) => Err(SiteFault::Memory),
         }
-        let line = self.host.open(alloc, line, number)?;
-        Ok(RowsLine::Host(line))
     }
 
     fn clock<'a>(
@@ -53,65 +74,99 @@ impl<'r, S: Site> Site for RowsSite<'r, S> {
     }
 }
 
-/// The simulated bus of this number of the scenario at a path.
-fn simulated(
+/// The line of a bus of this number, by its word.
+///
+/// # Errors
+///
+/// The allocator is out of memory.
+fn line_at(
     alloc: Global,
     disk: &RowsDisk,
-    path: &str,
+    line: LineWord,
     number: BusNumber,
-) -> Result<SimBus, SiteFault>
-    ensures { IfOk result (λ bus. IsNewBus number bus.log) }
+) -> Result<RowsLine, AllocError>
+    ensures { IfOk result (λ line. IsNewBus number (line_log line)) }
 {
-    let Ok(bytes) = disk.read(path) else {
-        return Err(SiteFault::Failed);
+    let Ok(bytes) = disk.read(line.from) else {
+        return Ok(RowsLine::Answering(AnsweringLine::absent(number)));
     };
-    let scenario = match parse(alloc, &bytes) {
-        Ok(scenario) => scenario,
-        Err(ScenarioFault::Memory) => return Err(SiteFault::Memory),
-        Err(_) => return Err(SiteFault::Failed),
+    if line.to.is_none() && line.from.ends_with(".scenario") {
+        return simulated(alloc, &bytes, number);
+    }
+    Ok(RowsLine::Answering(AnsweringLine::new(bytes, number)))
+}
+
+/// The bus of this number that a scenario simulates; one that is not there, where it is no scenario.
+///
+/// # Errors
+///
+/// The allocator is out of memory.
+fn simulated(alloc: Global, scenario: &[u8], number: BusNumber) -> Result<RowsLine, AllocError>
+    ensures { IfOk result (λ line. IsNewBus number (line_log line)) }
+{
+    let Ok(scenario) = parse(alloc, scenario) else {
+        return Ok(RowsLine::Answering(AnsweringLine::absent(number)));
     };
-    let Ok(setup) = BusSetup::of(alloc, &scenario, number) else {
-        return Err(SiteFault::Memory);
-    };
-    let Ok(mut bus) = SimBus::new(alloc, setup) else {
-        return Err(SiteFault::Memory);
-    };
+    let setup = BusSetup::of(alloc, &scenario, number)?;
+    let mut bus = SimBus::new(alloc, setup)?;
     bus.arrive_all();
-    Ok(bus)
+    Ok(RowsLine::Simulated(bus))
 }
 
 /// The line of a bus in a row.
 #[derive(Drop)]
-pub enum RowsLine<B> {
+pub enum RowsLine {
     /// A simulated bus.
     Simulated(SimBus),
-    /// A line of the host.
-    Host(B),
+    /// A line that gives the answers of a file.
+    Answering(AnsweringLine),
 }
 
-impl<B: Bus> Bus for RowsLine<B> {
-    ghost use Rattle.rows.specs.Lines.{line_log};
+impl RowsLine {
+    /// Whether its interface is there, and greeted.
+    fn is_there(&self) -> bool {
+        match self {
+            RowsLine::Simulated(_) => true,
+            RowsLine::Answering(line) => line.is_there(),
+        }
+    }
+}
 
-    ghost log = { line_log B.log };
+impl Bus for RowsLine {
+    ghost log = { line_log };
 
     fn room(&mut self, frames: usize) -> Result<(), AllocError> {
         match self {
             RowsLine::Simulated(bus) => bus.room(frames),
-            RowsLine::Host(line) => line.room(frames),
+            RowsLine::Answering(line) => line.room(frames),
         }
     }
 
     fn send(&mut self, frame: Frame, priority: u8) -> Result<Reply, Fault> {
         match self {
             RowsLine::Simulated(bus) => bus.send(frame, priority),
-            RowsLine::Host(line) => line.send(frame, priority),
+            RowsLine::Answering(line) => line.send(frame, priority),
         }
     }
 
     fn hear(&mut self) -> Result<Option<Frame24>, Fault> {
         match self {
             RowsLine::Simulated(bus) => bus.hear(),
-            RowsLine::Host(line) => line.hear(),
+            RowsLine::Answering(line) => line.hear(),
+        }
+    }
+
+    fn mend(&mut self) -> bool {
+        match self {
+            RowsLine::Simulated(bus) => bus.mend(),
+            RowsLine::Answering(line) => line.mend(),
+        }
+    }
+
+    fn resume(&mut self) {
+        match self {
+            RowsLine::Simulated(bus) => bus.resume(),
+            RowsLine::Answering(line) => line.resume(),
         }
     }
 }

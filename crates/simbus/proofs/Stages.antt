@@ -1,10 +1,10 @@
 -- A bus stays equipped as a scenario says it.
 use Rattle.std.proofs.Common.{◌≡◌, ℕ, List, Option, None, Some, Ok, Err, refl, sym, ap, ◌∙◌, subst}
-use Rattle.std.specs.Prelude.{Result}
+use Rattle.std.specs.Prelude.{Bool, Result}
 use Rattle.daliframe.specs.declared.forward.Frame.{Frame}
 use Rattle.transact.specs.declared.marks.Reply.{Reply}
 use Rattle.buslink.specs.declared.faults.Fault.{Fault}
-use Rattle.buslink.specs.BusLog.{BusLog, after_hear, after_send, with_spare}
+use Rattle.buslink.specs.BusLog.{BusLog, after_hear, after_mend, after_resume, after_send, with_spare}
 use Rattle.wordlines.specs.declared.statements.Statement.{Statement}
 use Rattle.simbus.specs.Simulated.{Simulated, after_hearing}
 use Rattle.simbus.specs.Staged.{IsOnStage}
@@ -45,3 +45,10 @@ module _ (scenario : List Statement) (old : Simulated) (staged : IsOnStage scena
   heard_stays result new is =
       let there = stays (after_hear result old.log) (hear_number result old.log) in
       subst (IsOnStage scenario) (sym is) (record { setup = there.setup; script = there.script })
+
+  pub asked_stays : (answers : Bool) (new : Simulated) → new ≡ record old { log = after_mend answers old.log }
+      → IsOnStage scenario new
+  asked_stays answers new is = subst (IsOnStage scenario) (sym is) (stays (after_mend answers old.log) refl)
+
+  pub resumed_stays : (new : Simulated) → new ≡ record old { log = after_resume old.log } → IsOnStage scenario new
+  resumed_stays new is = subst (IsOnStage scenario) (sym is) (stays (after_resume old.log) refl)

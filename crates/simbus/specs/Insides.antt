@@ -1,5 +1,6 @@
 -- What is inside a simulated bus and a scripted clock, and what their callers see of it.
-use Rattle.std.specs.Prelude.{◌≡◌, ◌+◌, ◌≤◌, ◌++◌, Some, reverse, take, drop, vec_len, vec_capacity}
+use Rattle.std.specs.Prelude.{◌≡◌, ◌+◌, ◌≤◌, ◌++◌, false, Some, reverse, take, drop, vec_len}
+use Rattle.std.specs.Prelude.{vec_capacity}
 use Rattle.std.specs.List.{AllPairs}
 use Rattle.std.specs.VecDeque.{deque_len, deque_capacity}
 use Rattle.simbus.specs.declared.buses.SimBus.TheInside.{Inside}
@@ -23,6 +24,8 @@ simulated bus = record {
     failures = bus.failures;
     hears = bus.hears;
     heard_none = bus.heard_none;
+    mends = 0;
+    is_mended = false;
   };
 }
 

@@ -47,6 +47,8 @@ new_bus number setup script arrivals = record {
     failures = 0;
     hears = 0;
     heard_none = false;
+    mends = 0;
+    is_mended = false;
   };
 }
 

@@ -1,7 +1,8 @@
 //! Simulated buses.
 ghost use Rattle.std.specs.Prelude.{◌≡◌, ◌+◌, ◌<◌, ◌≤◌, ◌↔◌, IfOk, IsOk, OnOk, IsTrue, length};
-ghost use Rattle.std.specs.Prelude.{reverse};
+ghost use Rattle.std.specs.Prelude.{reverse, true};
 ghost use Rattle.buslink.specs.BusLog.{TellsAll, after_arrival, after_send, with_spare, with_sent};
+ghost use Rattle.buslink.specs.BusLog.{after_mend, after_resume};
 ghost use Rattle.simbus.specs.Histories.{variables_at, instance_variables_at};
 ghost use Rattle.simbus.specs.Simulated.{setup_in, new_bus, fate_at, Sends, Hears, after_hearing};
 ghost use Rattle.simbus.specs.Simulated.{IsAsSetUp, arrived, all_arrived, due_mark, later_in};
@@ -253,5 +254,21 @@ impl Bus for SimBus {
                 Err(Fault)
             }
         }
+    }
+
+    /// A simulated interface that failed does not answer again.
+    fn mend(&mut self) -> bool
+        ensures after { self.new ≡ record self.old { log = after_mend result self.old.log } }
+    {
+        let _none = self.failures;
+        false
+    }
+
+    fn resume(&mut self)
+        requires { self.old.log.is_mended ≡ true }
+        ensures after { self.new ≡ record self.old { log = after_resume self.old.log } }
+    {
+        let _none = self.failures;
+        unreachable!()
     }
 }

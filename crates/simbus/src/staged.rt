@@ -78,4 +78,12 @@ impl<S: Scene> Bus for Staged<S> {
     fn hear(&mut self) -> Result<Option<Frame24>, Fault> {
         self.bus.hear()
     }
+
+    fn mend(&mut self) -> bool {
+        self.bus.mend()
+    }
+
+    fn resume(&mut self) {
+        self.bus.resume();
+    }
 }

@@ -4,7 +4,8 @@
 //! Nothing crosses the boundary. The tests (`at_once`) stand on public items of the crates alone,
 //! over texts that `house` writes. The buses and the clock are in `links`; what holds scans, frames
 //! and the clock back, and how long at most, is in `watch`. Runs that go on once there is memory are
-//! in `memory`, and what is written beside a run in `observed`. `rt test` runs them.
+//! in `memory`, what is written beside a run in `observed`, and the files of the machine to which it
+//! goes in `storage`. `rt test` runs them.
 #![tactic(auto)]
 
 #[cfg(test)]
@@ -17,5 +18,7 @@ mod links;
 mod memory;
 #[cfg(test)]
 mod observed;
+#[cfg(test)]
+mod storage;
 #[cfg(test)]
 mod watch;

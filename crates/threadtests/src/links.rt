@@ -80,6 +80,14 @@ impl<'w, 'r, R: Timer> Bus for WatchedBus<'w, 'r, R> {
             Err(fault) => Err(fault),
         }
     }
+
+    fn mend(&mut self) -> bool {
+        self.bus.mend()
+    }
+
+    fn resume(&mut self) {
+        self.bus.resume();
+    }
 }
 
 /// The clock of a scenario that comes to its end at one of its answers, and then goes on.

@@ -14,6 +14,7 @@ use std::sync::{Mutex, Wait};
 use std::test::Fail;
 use std::thread::Threads;
 use std::time::Clock as Timer;
+use turns::{Gate, Happened};
 use workers::Opening;
 
 /// A house in which each bus has an event, a task and a lamp, over several runs.
@@ -39,7 +40,17 @@ const BESIDE: Beside = Beside {
     keep: None,
 };
 
-/// A storage that holds what is told.
+/// The status and the record alone are wanted.
+const PAGES: Beside = Beside {
+    log: None,
+    log_size: 10_000,
+    record: Some("record"),
+    status: Some("status"),
+    is_json: false,
+    keep: None,
+};
+
+/// A storage that holds what is told, and each page that is written.
 #[derive(Drop)]
 struct Held<'r, R: Wait> {
     rt: &'r R,
@@ -51,7 +62,9 @@ impl<R: Wait> Storage for Held<'_, R> {
         Ok(0)
     }
 
-    fn replace(&self, _alloc: Global, _path: &str, _bytes: &[u8], _lasts: bool) -> io::Result<()> {
+    fn replace(&self, _alloc: Global, _path: &str, bytes: &[u8], _lasts: bool) -> io::Result<()> {
+        let mut told = self.told.lock(self.rt);
+        told.extend_from_slice(bytes)?;
         Ok(())
     }
 
@@ -131,6 +144,63 @@ fn is_logged<R: Threads + Wait + Timer + Sync>(rt: &R, alloc: Global) -> Result<
     let told = held.told.lock(rt);
     let text = str::from_utf8(&told).unwrap_or("");
     Ok(numbered(text) == Some(lived.left.plant().len()))
+}
+
+/// Whether the pages that are written beside these events have this text.
+fn have_pages<R: Threads + Wait + Timer + Sync>(
+    rt: &R,
+    alloc: Global,
+    events: Vec<Happened>,
+    text: &str,
+) -> Result<bool, Fail> {
+    let held = Held {
+        rt,
+        told: Mutex::new(Vec::new(alloc)),
+    };
+    let setup = HOUSE.setup(alloc)?;
+    let Ok(observer) = BuildingObserver::open(rt, alloc, &held, &PAGES, setup, WORKERS, b"") else {
+        return Err(Fail::new("the pages aren't opened"));
+    };
+    let mut place: u64 = 0;
+    for event in events {
+        observer.after(place, event);
+        place = place.saturating_add(1);
+    }
+    observer.finish();
+    let told = held.told.lock(rt);
+    Ok(str::from_utf8(&told).unwrap_or("").contains(text))
+}
+
+#[test]
+fn a_bus_that_is_up_again_is_so_in_the_status_and_ends_the_record(
+    rt: HostRuntime,
+) -> Result<(), Fail> {
+    let alloc = rt.alloc();
+    let down = vec![in alloc;
+        Happened::Ticked { moment: 7 },
+        Happened::WentDown { bus: 1 },
+    ]?;
+    let is_down = have_pages(&rt, alloc, down, "bus 1 down sent 0 heard 0")?;
+    assert!(rt; is_down, "a bus that is down");
+    for (text, why) in [
+        (
+            "moment 7\nevents 3\nbus 0 up sent 0 heard 0 waiting 0 dropped 0\nbus 1 up sent",
+            "up",
+        ),
+        (
+            "# bus 1 came up again, and the record ends here\n",
+            "the record's end",
+        ),
+    ] {
+        let up = vec![in alloc;
+            Happened::Ticked { moment: 7 },
+            Happened::WentDown { bus: 1 },
+            Happened::CameUp { bus: 1 },
+        ]?;
+        let is_up = have_pages(&rt, alloc, up, text)?;
+        assert!(rt; is_up, "{why}");
+    }
+    Ok(())
 }
 
 #[test]

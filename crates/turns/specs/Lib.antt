@@ -1,2 +1,4 @@
+pub mod Handouts
 pub mod Logs
+pub mod Outcomes
 pub mod TurnSteps

@@ -1,10 +1,11 @@
 -- Between two turns nothing is open, and the receipts of a Share are what went over its link.
 use Rattle.std.specs.Prelude.{◌≡◌, ℕ, ◌≤◌, [], ◌++◌, None, true, false}
 use Rattle.plantevents.specs.declared.role.Role.TheVariants.{Worker, Bus, Clock}
-use Rattle.plantevents.specs.Parts.{shown_moment, shown_scan, shown_hand, shown_sent, shown_heard, shown_downs, shown_given}
-use Rattle.buslink.specs.BusLog.{BusLog, one_more_failure}
+use Rattle.plantevents.specs.Parts.{shown_moment, shown_scan, shown_hand, shown_sent, shown_heard, shown_downs}
+use Rattle.plantevents.specs.Parts.{shown_ups, shown_given}
+use Rattle.buslink.specs.BusLog.{BusLog, one_more}
 use Rattle.buslink.specs.ClockLog.{ClockLog, HasGivenAll, IsNotBefore}
-use Rattle.driving.specs.Links.{HasGrown, IsNoLess, more_failures}
+use Rattle.driving.specs.Links.{HasGrown, IsNoLess, so_many_more}
 use Rattle.receipts.specs.Receipts.{ShareParts, whole}
 
 abbrev pub no_moment : ClockLog
@@ -18,8 +19,8 @@ pub record IsWorker (worker : ℕ) (s : ShareParts) : Type 0 where
   pub idle : shown_scan (whole s) ≡ None
 
 -- The Share of this bus, which has no transaction open: what the bus sent and heard since the first log is what the
--- part says, it failed as often as the part says that it went down, and its count of calls that heard is no less. It is
--- the same bus, and nothing came on it meanwhile.
+-- part says, it failed as often as the part says that it went down, it was taken up as often as the part says that it
+-- came up, and its count of calls that heard is no less. It is the same bus, and nothing came on it meanwhile.
 pub record IsServed (first : BusLog) (bus : ℕ) (s : ShareParts) (log : BusLog) : Type 0 where
   pub role : s.role ≡ Bus bus
   pub idle : shown_hand (whole s) ≡ None
@@ -27,7 +28,8 @@ pub record IsServed (first : BusLog) (bus : ℕ) (s : ShareParts) (log : BusLog)
   pub arrivals : log.arrivals ≡ first.arrivals
   pub sent : log.sent ≡ first.sent ++ shown_sent (whole s)
   pub heard : log.heard ≡ first.heard ++ shown_heard (whole s)
-  pub failed : log.failures ≡ more_failures (shown_downs (whole s)) first.failures
+  pub failed : log.failures ≡ so_many_more (shown_downs (whole s)) first.failures
+  pub mended : log.mends ≡ so_many_more (shown_ups (whole s)) first.mends
   pub hears : IsNoLess first.hears log.hears
 
 -- the same, but for one failure more: the bus is to go down
@@ -38,7 +40,8 @@ pub record HasFailed (first : BusLog) (bus : ℕ) (s : ShareParts) (log : BusLog
   pub arrivals : log.arrivals ≡ first.arrivals
   pub sent : log.sent ≡ first.sent ++ shown_sent (whole s)
   pub heard : log.heard ≡ first.heard ++ shown_heard (whole s)
-  pub failed : log.failures ≡ one_more_failure (more_failures (shown_downs (whole s)) first.failures)
+  pub failed : log.failures ≡ one_more (so_many_more (shown_downs (whole s)) first.failures)
+  pub mended : log.mends ≡ so_many_more (shown_ups (whole s)) first.mends
   pub hears : IsNoLess first.hears log.hears
 
 -- a moment that the clock may give is not below the one that the part shows

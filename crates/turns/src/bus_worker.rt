@@ -1,14 +1,15 @@
 //! A turn of the worker of a bus.
 
-ghost use Rattle.std.specs.Prelude.{◌≡◌, ◌≢◌, ◌⊎◌, false, OnOk, IfErr};
+ghost use Rattle.std.specs.Prelude.{◌≡◌, ◌≢◌, ℕ, false, OnOk, IfErr};
 ghost use Rattle.transact.specs.declared.marks.Outcome.TheVariants as outcomes;
 ghost use Rattle.plantevents.specs.Parts.{shown_down};
-ghost use Rattle.plant.specs.declared.refusal.CallRefusal.TheVariants.{BusDown, NothingReady};
-ghost use Rattle.receipts.specs.Receipts.{whole};
-ghost use Rattle.driving.specs.declared.halt.Halt.TheVariants.{Refused, Unwritten};
+ghost use Rattle.plantevents.specs.declared.event.Event.TheVariants.{Down};
+ghost use Rattle.receipts.specs.Receipts.{IsNoted, whole};
 ghost use Rattle.driving.specs.Links.{HasGrown, log_of};
+ghost use Rattle.turns.specs.Handouts.{HasHandedNone};
 ghost use Rattle.turns.specs.Logs.{HasFailed, IsServed};
-ghost use Rattle.turns.specs.TurnSteps.{IsUnasked, IsUnwritten};
+ghost use Rattle.turns.specs.Outcomes.{ComesUp, SendsTurn, turn_where_refused};
+ghost use Rattle.turns.specs.TurnSteps.{IsDownWhereFailed, IsTold, IsUnasked, SendsOnce, turn_after};
 
 use crate::links::Links;
 use crate::turn::Turn;
@@ -28,19 +29,20 @@ pub struct BusWithShare<'a, B: Bus, J: LockStart, T: Tally> {
     pub share: Share<'a, J, T>,
 }
 
-/// Where there was nothing to do, or the bus is down, the turn is idle.
-pub(crate) fn idle_where_refused(halt: Halt) -> Result<Turn, Halt>
-    ensures idle { OnOk result ((halt ≡ Refused NothingReady) ⊎ (halt ≡ Refused BusDown)) }
+/// Where there was nothing to do the turn is idle, and where the bus is down it says so.
+pub(crate) fn turn_where_refused(halt: Halt) -> Result<Turn, Halt>
+    ensures { result ≡ turn_where_refused halt }
 {
     match halt {
-        Halt::Refused(CallRefusal::NothingReady | CallRefusal::BusDown) => Ok(Turn::Idle),
+        Halt::Refused(CallRefusal::NothingReady) => Ok(Turn::Idle),
+        Halt::Refused(CallRefusal::BusDown) => Ok(Turn::Down),
         other => Err(other),
     }
 }
 
 /// What a turn did, once an observer was told of it.
 fn as_told(told: io::Result<()>, turn: Turn) -> Result<Turn, Halt>
-    ensures { IfErr result IsUnwritten }
+    ensures { IsTold turn result }
 {
     told?;
     Ok(turn)
@@ -61,7 +63,9 @@ fn tell_report<B, O: Observer<B>>(
     bus: u8,
     report: &Report,
     line: &B,
-) -> Result<Turn, Halt> {
+) -> Result<Turn, Halt>
+    ensures { IsTold (turn_after down) result }
+{
     handed?;
     observer.note_report(place, bus, report, line)?;
     match down {
@@ -82,6 +86,7 @@ fn go_down<'a, B: Bus, J: LockStart + Links, T: Tally, K: Tallies<T>, R: Wait>(
     requires failed { HasFailed (log_of J.buses bus) bus served.old.share (B.log served.old.line) }
     ensures served { IsServed (log_of J.buses bus) bus served.new.share (B.log served.new.line) }
     ensures line { served.new.line ≡ served.old.line }
+    ensures noted { (n : ℕ) × IsNoted n (Down bus) served.old.share served.new.share }
 {
     let Ok(()) = shared.down(rt, &mut served.share, bus) else {
         unreachable!()
@@ -103,6 +108,8 @@ fn down_where_failed<'a, B: Bus, J: LockStart + Links, T: Tally, K: Tallies<T>, 
     requires failed { outcome ≡ outcomes.Failed
         → HasFailed (log_of J.buses bus) bus served.old.share (B.log served.old.line) }
     ensures served { IsServed (log_of J.buses bus) bus served.new.share (B.log served.new.line) }
+    ensures line { served.new.line ≡ served.old.line }
+    ensures down { IsDownWhereFailed bus outcome result served.old.share served.new.share }
 {
     match outcome {
         Outcome::Done(_) | Outcome::GaveUp => None,
@@ -122,6 +129,8 @@ fn send_once<'a, B: Bus, J: LockStart + Links, T: Tally, K: Tallies<T>, O: Obser
 ) -> Result<Turn, Halt>
     requires served { IsServed (log_of J.buses bus) bus served.old.share (B.log served.old.line) }
     ensures served { IsServed (log_of J.buses bus) bus served.new.share (B.log served.new.line) }
+    ensures sends { SendsOnce J.start bus served.old.share served.new.share
+        (B.log served.old.line) (B.log served.new.line) result }
 {
     served.line.room(MOST_SENT)?;
     let handed = shared.hand(rt, &mut served.share, bus)?;
@@ -153,6 +162,8 @@ fn hear_once<'a, B: Bus, J: LockStart + Links, T: Tally, K: Tallies<T>, O: Obser
     ensures asked { OnOk result
         (HasGrown (B.log served.old.line).hears (B.log served.new.line).hears) }
     ensures why { IfErr result (IsUnasked (whole served.old.share)) }
+    ensures none { HasHandedNone served.old.share served.new.share
+        (B.log served.old.line) (B.log served.new.line) }
 {
     served.line.room(1)?;
     shared.may_hear(rt, &mut served.share, bus)?;
@@ -198,10 +209,12 @@ pub fn send_turn<
 ) -> Result<Turn, Halt>
     requires served { IsServed (log_of J.buses bus) bus served.old.share (B.log served.old.line) }
     ensures served { IsServed (log_of J.buses bus) bus served.new.share (B.log served.new.line) }
+    ensures sends { SendsTurn J.start bus served.old.share served.new.share
+        (B.log served.old.line) (B.log served.new.line) result }
 {
     match send_once(rt, observer, shared, bus, served) {
         Ok(turn) => Ok(turn),
-        Err(halt) => idle_where_refused(halt),
+        Err(halt) => turn_where_refused(halt),
     }
 }
 
@@ -231,9 +244,42 @@ pub fn hear_turn<
     ensures served { IsServed (log_of J.buses bus) bus served.new.share (B.log served.new.line) }
     ensures asked { OnOk result (shown_down (whole served.old.share) ≡ false
         → HasGrown (B.log served.old.line).hears (B.log served.new.line).hears) }
+    ensures none { HasHandedNone served.old.share served.new.share
+        (B.log served.old.line) (B.log served.new.line) }
 {
     match hear_once(rt, observer, shared, bus, served) {
         Ok(turn) => Ok(turn),
-        Err(halt) => idle_where_refused(halt),
+        Err(halt) => turn_where_refused(halt),
+    }
+}
+
+/// Asks a bus that is down whether its interface answers again, outside the lock. Where it does, the
+/// bus comes up under the lock, and is taken up. It never waits for the interface.
+///
+/// # Errors
+///
+/// The history is full: the interface is asked again in a later turn. Or an observer failed, once
+/// the bus was up.
+pub fn come_up<'a, B: Bus, J: LockStart + Links, T: Tally, K: Tallies<T>, O: Observer<B>, R: Wait>(
+    rt: &R,
+    observer: &mut O,
+    shared: &Shared<'a, J, T, K>,
+    bus: u8,
+    served: &mut BusWithShare<'a, B, J, T>,
+) -> Result<Turn, Halt>
+    requires served { IsServed (log_of J.buses bus) bus served.old.share (B.log served.old.line) }
+    ensures served { IsServed (log_of J.buses bus) bus served.new.share (B.log served.new.line) }
+    ensures comes { ComesUp bus served.old.share served.new.share
+        (B.log served.old.line) (B.log served.new.line) result }
+{
+    if !served.line.mend() {
+        return Ok(Turn::Down);
+    }
+    match shared.up(rt, &mut served.share, bus) {
+        Ok(()) => {
+            served.line.resume();
+            as_told(observer.note_up(served.share.last_place(), bus), Turn::Busy)
+        }
+        Err(refusal) => turn_where_refused(Halt::Refused(refusal)),
     }
 }

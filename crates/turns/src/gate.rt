@@ -101,4 +101,9 @@ impl<'g, B, G: Gate> Observer<B> for Passing<'g, G> {
         self.gate.after(place, Happened::WentDown { bus });
         Ok(())
     }
+
+    fn note_up(&mut self, place: u64, bus: u8) -> io::Result<()> {
+        self.gate.after(place, Happened::CameUp { bus });
+        Ok(())
+    }
 }

@@ -42,4 +42,8 @@ pub enum Happened {
     WentDown {
         bus: u8,
     },
+    /// A bus that was down is up again, since its interface answers.
+    CameUp {
+        bus: u8,
+    },
 }

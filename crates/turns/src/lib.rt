@@ -1,7 +1,8 @@
 //! One turn of each worker: of a bus, of a scan worker, and of the clock.
 //!
 //! What crosses the boundary: [`send_turn`] sends what is to be sent next on a bus, [`hear_turn`]
-//! hears what came there, [`scan_turn`] makes the next scan, and [`tick_once`] asks the clock. Each
+//! hears what came there, [`come_up`] asks a bus that is down whether its interface answers again,
+//! [`scan_turn`] makes the next scan, and [`tick_once`] asks the clock. Each
 //! takes the plant's lock for its events alone: frames are sent, scans are made and the clock is
 //! asked outside it. A turn begins and ends with nothing open, and what went over a link is what
 //! its Share has receipts for. The definitions to read first are `IsServed`, `IsWorker` and
@@ -10,7 +11,7 @@
 //!
 //! ```text
 //! match send_turn(rt, &mut Passing { gate }, shared, bus, &mut served) {
-//!     Ok(Turn::Down) => return, // the bus interface failed
+//!     Ok(Turn::Down) => come_up(..), // the bus interface failed
 //!     turn => ..
 //! }
 //! ```
@@ -24,7 +25,7 @@ mod links;
 mod scan_worker;
 mod turn;
 
-pub use bus_worker::{BusWithShare, hear_turn, send_turn};
+pub use bus_worker::{BusWithShare, come_up, hear_turn, send_turn};
 pub use clock_worker::{ClockWithShare, tick_once};
 pub use gate::{Gate, OpenGate, Passing};
 pub use happened::Happened;

@@ -1,8 +1,10 @@
 //! A turn of a scan worker.
 
 ghost use Rattle.turns.specs.Logs.{IsWorker};
+ghost use Rattle.turns.specs.Outcomes.{ScansTurn};
+ghost use Rattle.turns.specs.TurnSteps.{IsUnwritten, ScansOnce};
 
-use crate::bus_worker::idle_where_refused;
+use crate::bus_worker::turn_where_refused;
 use crate::turn::Turn;
 use driving::{Halt, Observer};
 use ilmachine::scan_into;
@@ -37,6 +39,7 @@ fn scan_once<'a, B, J: LockStart, T: Tally, K: Tallies<T>, O: Observer<B>, R: Wa
 ) -> Result<(), Halt>
     requires worker { IsWorker worker share.old }
     ensures worker { IsWorker worker share.new }
+    ensures scans { ScansOnce J.start worker share.old share.new result }
 {
     let order = shared.take(rt, alloc, share, worker)?;
     let task = order.task;
@@ -66,9 +69,10 @@ pub fn scan_turn<'a, B, J: LockStart, T: Tally, K: Tallies<T>, O: Observer<B>, R
 ) -> Result<Turn, Halt>
     requires worker { IsWorker worker share.old }
     ensures worker { IsWorker worker share.new }
+    ensures scans { ScansTurn J.start worker share.old share.new result }
 {
     match scan_once::<B, J, T, K, O, R>(rt, alloc, observer, shared, worker, share) {
         Ok(()) => Ok(Turn::Busy),
-        Err(halt) => idle_where_refused(halt),
+        Err(halt) => turn_where_refused(halt),
     }
 }

@@ -5,11 +5,11 @@ use Rattle.std.proofs.Math.Nat.{mod-eq_of_lt, mod-lt}
 use Rattle.std.proofs.Math.Seq.{take-append_seam}
 use Rattle.std.proofs.lemmas.List.{length-append}
 use Rattle.std.specs.Prelude.{slice_get}
-use Rattle.buslink.specs.BusLog.{BusLog, one_more_failure}
+use Rattle.buslink.specs.BusLog.{BusLog, one_more}
 use Rattle.buslink.specs.ClockLog.{ClockLog}
 use Rattle.plantevents.specs.declared.event.Event.{Event}
-use Rattle.plantevents.specs.Histories.{sent_in, heard_in, downs_in, given_in}
-use Rattle.driving.specs.Links.{log_of, more_failures}
+use Rattle.plantevents.specs.Histories.{sent_in, heard_in, downs_in, ups_in, given_in}
+use Rattle.driving.specs.Links.{log_of, so_many_more}
 use Rattle.driving.specs.Links.{IsLinked}
 
 -- ---- what stood before the end of a list
@@ -28,39 +28,38 @@ front_back xs front back is =
     (ap (λ (ys : List _). take (length xs - length back) ys) is
     ∙ (ap (λ n. take n (front ++ back)) front_long ∙ take-append_seam front back)))
 
--- ---- counts of failures, modulo 2^64
+-- ---- counts, modulo 2^64
 
 abbrev pub one_less : ℕ → ℕ
 one_less zero = 2 ^ 64 - 1
 one_less (suc n) = n
 
-abbrev pub fewer_failures : ℕ → ℕ → ℕ
-fewer_failures zero failures = failures
-fewer_failures (suc n) failures = fewer_failures n (one_less failures)
+abbrev pub so_many_fewer : ℕ → ℕ → ℕ
+so_many_fewer zero count = count
+so_many_fewer (suc n) count = so_many_fewer n (one_less count)
 
-less_below : (failures : ℕ) → failures < 2 ^ 64 → one_less failures < 2 ^ 64
+less_below : (count : ℕ) → count < 2 ^ 64 → one_less count < 2 ^ 64
 less_below zero below = omega arith
 less_below (suc n) below = omega (arith, below)
 
-one_back : (failures : ℕ) → failures < 2 ^ 64 → one_more_failure (one_less failures) ≡ failures
+one_back : (count : ℕ) → count < 2 ^ 64 → one_more (one_less count) ≡ count
 one_back zero below = refl
 one_back (suc n) below =
     let here : n + 1 ≡ suc n = omega arith in
     ap (λ k. k % 2 ^ 64) here ∙ mod-eq_of_lt below
 
-all_back : (n failures : ℕ) → failures < 2 ^ 64 → more_failures n (fewer_failures n failures) ≡ failures
-all_back zero failures below = refl
-all_back (suc n) failures below =
-    ap one_more_failure (all_back n (one_less failures) (less_below failures below)) ∙ one_back failures below
+all_back : (n count : ℕ) → count < 2 ^ 64 → so_many_more n (so_many_fewer n count) ≡ count
+all_back zero count below = refl
+all_back (suc n) count below =
+    ap one_more (all_back n (one_less count) (less_below count below)) ∙ one_back count below
 
-failed_back : (n failures first : ℕ) → failures ≡ more_failures n first
-    → failures ≡ more_failures n (fewer_failures n failures)
-failed_back zero failures first is = refl
-failed_back (suc n) failures first is =
-    let below : failures < 2 ^ 64 =
-    subst (λ k. k < 2 ^ 64) (sym is) (mod-lt (more_failures n first + 1) (omega arith))
+counted_back : (n count first : ℕ) → count ≡ so_many_more n first → count ≡ so_many_more n (so_many_fewer n count)
+counted_back zero count first is = refl
+counted_back (suc n) count first is =
+    let below : count < 2 ^ 64 =
+    subst (λ k. k < 2 ^ 64) (sym is) (mod-lt (so_many_more n first + 1) (omega arith))
     in
-    sym (all_back (suc n) failures below)
+    sym (all_back (suc n) count below)
 
 -- ---- the logs
 
@@ -68,7 +67,8 @@ abbrev pub bus_before : ℕ → List Event → BusLog → BusLog
 bus_before b h log = record log {
   sent = all_but (length (sent_in b h)) log.sent;
   heard = all_but (length (heard_in b h)) log.heard;
-  failures = fewer_failures (downs_in b h) log.failures;
+  failures = so_many_fewer (downs_in b h) log.failures;
+  mends = so_many_fewer (ups_in b h) log.mends;
 }
 
 -- of buses the first of which has the number n
@@ -85,7 +85,8 @@ linked_before first log b h is = record {
   same = record { number = refl; arrivals = refl };
   sent = front_back log.sent first.sent (sent_in b h) is.sent;
   heard = front_back log.heard first.heard (heard_in b h) is.heard;
-  failed = failed_back (downs_in b h) log.failures first.failures is.failed;
+  failed = counted_back (downs_in b h) log.failures first.failures is.failed;
+  mended = counted_back (ups_in b h) log.mends first.mends is.mended;
 }
 
 pub given_before : (first log : ClockLog) (h : List Event) → log.given ≡ first.given ++ given_in h

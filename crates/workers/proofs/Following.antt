@@ -5,11 +5,11 @@ use Rattle.std.proofs.lemmas.List.{append-nil, append_assoc}
 use Rattle.std.proofs.lemmas.List.Elements.{All-head, All-tail}
 use Rattle.std.specs.Prelude.{if◌then◌else◌, ◌==◌}
 use Rattle.transact.specs.declared.marks.Sent.{Sent}
-use Rattle.buslink.specs.BusLog.{BusLog, one_more_failure}
+use Rattle.buslink.specs.BusLog.{BusLog, one_more}
 use Rattle.plantevents.specs.declared.event.Event.{Event}
-use Rattle.plantevents.specs.declared.event.Event.TheVariants.{Tick, Heard, Take, Commit, Hand, Done, Down}
-use Rattle.plantevents.specs.Histories.{moment, sent_in, heard_in, downs_in, given_in}
-use Rattle.driving.specs.Links.{more_failures}
+use Rattle.plantevents.specs.declared.event.Event.TheVariants.{Tick, Heard, Take, Commit, Hand, Done, Down, Up}
+use Rattle.plantevents.specs.Histories.{moment, sent_in, heard_in, downs_in, ups_in, given_in}
+use Rattle.driving.specs.Links.{so_many_more}
 use Rattle.driving.specs.Links.{IsLinked}
 
 -- ---- first what was before, then what follows
@@ -30,6 +30,7 @@ sent_on b (Done c n r ∷ later) h =
       | false ↦ sent_on b later h
     ]
 sent_on b (Down c ∷ later) h = sent_on b later h
+sent_on b (Up c ∷ later) h = sent_on b later h
 
 pub heard_on : (b : ℕ) (later h : List Event) → heard_in b (later ++ h) ≡ heard_in b h ++ heard_in b later
 heard_on b [] h = sym (append-nil (heard_in b h))
@@ -47,6 +48,7 @@ heard_on b (Commit w n r ∷ later) h = heard_on b later h
 heard_on b (Hand c s t ∷ later) h = heard_on b later h
 heard_on b (Done c n r ∷ later) h = heard_on b later h
 heard_on b (Down c ∷ later) h = heard_on b later h
+heard_on b (Up c ∷ later) h = heard_on b later h
 
 pub downs_on : (b : ℕ) (later h : List Event) → downs_in b (later ++ h) ≡ downs_in b later + downs_in b h
 downs_on b [] h = omega arith
@@ -62,6 +64,23 @@ downs_on b (Down c ∷ later) h =
       | true ↦ let before = downs_on b later h in omega (arith, before)
       | false ↦ downs_on b later h
     ]
+downs_on b (Up c ∷ later) h = downs_on b later h
+
+pub ups_on : (b : ℕ) (later h : List Event) → ups_in b (later ++ h) ≡ ups_in b later + ups_in b h
+ups_on b [] h = omega arith
+ups_on b (Tick m ∷ later) h = ups_on b later h
+ups_on b (Heard c f ∷ later) h = ups_on b later h
+ups_on b (Take w t s ∷ later) h = ups_on b later h
+ups_on b (Commit w n r ∷ later) h = ups_on b later h
+ups_on b (Hand c s t ∷ later) h = ups_on b later h
+ups_on b (Done c n r ∷ later) h = ups_on b later h
+ups_on b (Down c ∷ later) h = ups_on b later h
+ups_on b (Up c ∷ later) h =
+    elim (c == b) as (λ (x : Bool). (if x then ups_in b (later ++ h) + 1 else ups_in b (later ++ h))
+    ≡ (if x then ups_in b later + 1 else ups_in b later) + ups_in b h) [
+      | true ↦ let before = ups_on b later h in omega (arith, before)
+      | false ↦ ups_on b later h
+    ]
 
 pub given_on : (later h : List Event) → given_in (later ++ h) ≡ given_in h ++ given_in later
 given_on [] h = sym (append-nil (given_in h))
@@ -73,13 +92,30 @@ given_on (Commit w n r ∷ later) h = given_on later h
 given_on (Hand c s t ∷ later) h = given_on later h
 given_on (Done c n r ∷ later) h = given_on later h
 given_on (Down c ∷ later) h = given_on later h
+given_on (Up c ∷ later) h = given_on later h
 
-more_and_more : (n m failures : ℕ) → more_failures (n + m) failures ≡ more_failures n (more_failures m failures)
-more_and_more zero m failures =
-    let none : 0 + m ≡ m = omega arith in ap (λ k. more_failures k failures) none
-more_and_more (suc n) m failures =
+more_and_more : (n m count : ℕ) → so_many_more (n + m) count ≡ so_many_more n (so_many_more m count)
+more_and_more zero m count =
+    let none : 0 + m ≡ m = omega arith in ap (λ k. so_many_more k count) none
+more_and_more (suc n) m count =
     let next : suc n + m ≡ suc (n + m) = omega arith in
-    ap (λ k. more_failures k failures) next ∙ ap one_more_failure (more_and_more n m failures)
+    ap (λ k. so_many_more k count) next ∙ ap one_more (more_and_more n m count)
+
+-- a count of the past and of what follows
+counted_on : (n past both first middle last : ℕ) → both ≡ n + past → middle ≡ so_many_more past first
+    → last ≡ so_many_more n middle → last ≡ so_many_more both first
+counted_on n past both first middle last all was is =
+    is
+    ∙ (ap (λ k. so_many_more n k) was
+    ∙ (sym (more_and_more n past first) ∙ ap (λ k. so_many_more k first) (sym all)))
+
+-- a count of what follows, from that of the past and of both
+counted_since : (n past both first middle last : ℕ) → both ≡ n + past → middle ≡ so_many_more past first
+    → last ≡ so_many_more both first → last ≡ so_many_more n middle
+counted_since n past both first middle last all was is =
+    is
+    ∙ (ap (λ k. so_many_more k first) all
+    ∙ (more_and_more n past first ∙ ap (λ k. so_many_more n k) (sym was)))
 
 -- ---- the links
 
@@ -102,10 +138,11 @@ linked_on first log after b later h was is = record {
       ∙ (append_assoc first.heard (heard_in b h) (heard_in b later)
       ∙ ap (λ (x : List ℕ). first.heard ++ x) (sym (heard_on b later h))));
   failed =
-      is.failed
-      ∙ (ap (λ n. more_failures (downs_in b later) n) was.failed
-      ∙ (sym (more_and_more (downs_in b later) (downs_in b h) first.failures)
-      ∙ ap (λ n. more_failures n first.failures) (sym (downs_on b later h))));
+      counted_on (downs_in b later) (downs_in b h) (downs_in b (later ++ h)) first.failures log.failures after.failures
+      (downs_on b later h) was.failed is.failed;
+  mended =
+      counted_on (ups_in b later) (ups_in b h) (ups_in b (later ++ h)) first.mends log.mends after.mends
+      (ups_on b later h) was.mended is.mended;
 }
 
 -- what is so of the past, and of both, is so of what follows
@@ -127,10 +164,11 @@ linked_since first log after b later h was is = record {
       ∙ (sym (append_assoc first.heard (heard_in b h) (heard_in b later))
       ∙ ap (λ (x : List ℕ). x ++ heard_in b later) (sym was.heard)));
   failed =
-      is.failed
-      ∙ (ap (λ n. more_failures n first.failures) (downs_on b later h)
-      ∙ (more_and_more (downs_in b later) (downs_in b h) first.failures
-      ∙ ap (λ n. more_failures (downs_in b later) n) (sym was.failed)));
+      counted_since (downs_in b later) (downs_in b h) (downs_in b (later ++ h)) first.failures log.failures after.failures
+      (downs_on b later h) was.failed is.failed;
+  mended =
+      counted_since (ups_in b later) (ups_in b h) (ups_in b (later ++ h)) first.mends log.mends after.mends
+      (ups_on b later h) was.mended is.mended;
 }
 
 -- ---- the moment
@@ -153,3 +191,4 @@ moment_within (Commit w n r ∷ h) most all = moment_within h most all
 moment_within (Hand c s t ∷ h) most all = moment_within h most all
 moment_within (Done c n r ∷ h) most all = moment_within h most all
 moment_within (Down c ∷ h) most all = moment_within h most all
+moment_within (Up c ∷ h) most all = moment_within h most all

@@ -10,9 +10,9 @@ use Rattle.transact.specs.declared.marks.Sent.{Sent}
 use Rattle.plantevents.specs.declared.event.Event.{Event}
 use Rattle.plantevents.specs.declared.role.Role.{Role}
 use Rattle.plantevents.specs.declared.role.Role.TheVariants.{Worker, Bus, Clock}
-use Rattle.plantevents.specs.Histories.{moment, scan, hand, sent_in, heard_in, downs_in, given_in}
-use Rattle.plantevents.specs.Parts.{Placed, part, shown_scan, shown_hand, shown_sent, shown_heard, shown_downs, shown_given}
-use Rattle.plantevents.specs.Parts.{shown_moment}
+use Rattle.plantevents.specs.Histories.{moment, scan, hand, sent_in, heard_in, downs_in, ups_in, given_in}
+use Rattle.plantevents.specs.Parts.{Placed, part, shown_scan, shown_hand, shown_sent, shown_heard, shown_downs, shown_ups}
+use Rattle.plantevents.specs.Parts.{shown_given, shown_moment}
 use Rattle.buslink.specs.BusLog.{BusLog}
 use Rattle.buslink.specs.ClockLog.{ClockLog}
 use Rattle.plant.specs.Shown.{Shown}
@@ -21,7 +21,7 @@ use Rattle.receipts.specs.Receipts.{ShareParts, AreFresh, IsFresh, seat_at, whol
 use Rattle.receipts.specs.Seats.{AreUnused}
 use Rattle.seats.specs.SeatTallies.{SeatAmount}
 use Rattle.seats.specs.Openings.{fresh}
-use Rattle.driving.specs.Links.{IsNoLess, log_of, more_failures, no_frame}
+use Rattle.driving.specs.Links.{IsNoLess, log_of, so_many_more, no_frame}
 use Rattle.turns.specs.Logs.{IsServed, IsTimed, IsWorker}
 use Rattle.driving.specs.Links.{IsLinked}
 use Rattle.driving.specs.Open.{HasNothingOpen}
@@ -62,9 +62,10 @@ fresh_served : (start : Shown) (b : ℕ) (s : ShareParts) (first log : BusLog) �
     → HasNothingOpen start → hand b start.history ≡ shown_hand (part (Bus b) start.history)
     → sent_in b start.history ≡ shown_sent (part (Bus b) start.history)
     → heard_in b start.history ≡ shown_heard (part (Bus b) start.history)
-    → downs_in b start.history ≡ shown_downs (part (Bus b) start.history) → IsLinked first b start.history log
+    → downs_in b start.history ≡ shown_downs (part (Bus b) start.history)
+    → ups_in b start.history ≡ shown_ups (part (Bus b) start.history) → IsLinked first b start.history log
     → IsNoLess first.hears log.hears → IsFresh start (Bus b) s → IsServed first b s log
-fresh_served start b s first log known open_none hands sents heards downs linked hears is =
+fresh_served start b s first log known open_none hands sents heards downs ups linked hears is =
     let all : whole s ≡ part (Bus b) start.history = whole_is start (Bus b) s is in
     record {
       role = is.role;
@@ -73,7 +74,8 @@ fresh_served start b s first log known open_none hands sents heards downs linked
       arrivals = linked.same.arrivals;
       sent = linked.sent ∙ ap (λ (x : List Sent). first.sent ++ x) (sents ∙ ap shown_sent (sym all));
       heard = linked.heard ∙ ap (λ (x : List ℕ). first.heard ++ x) (heards ∙ ap shown_heard (sym all));
-      failed = linked.failed ∙ ap (λ n. more_failures n first.failures) (downs ∙ ap shown_downs (sym all));
+      failed = linked.failed ∙ ap (λ n. so_many_more n first.failures) (downs ∙ ap shown_downs (sym all));
+      mended = linked.mended ∙ ap (λ n. so_many_more n first.mends) (ups ∙ ap shown_ups (sym all));
       hears = hears;
     }
 
@@ -84,14 +86,15 @@ pub fresh_buses : {B : Type 0} (start : Shown) (logs : List BusLog) (log : B →
     → ((b : ℕ) (past : List Event) → sent_in b past ≡ shown_sent (part (Bus b) past))
     → ((b : ℕ) (past : List Event) → heard_in b past ≡ shown_heard (part (Bus b) past))
     → ((b : ℕ) (past : List Event) → downs_in b past ≡ shown_downs (part (Bus b) past))
+    → ((b : ℕ) (past : List Event) → ups_in b past ≡ shown_ups (part (Bus b) past))
     → Each (λ b line. IsLinked (log_of logs b) b start.history (log line)) 0 lines
     → Each (λ b line. IsNoLess (log_of logs b).hears (log line).hears) 0 lines
     → Each (λ b line. (s : ShareParts) → IsFresh start (Bus b) s → IsServed (log_of logs b) b s (log line)) 0 lines
-fresh_buses start logs log lines count open_none hands sents heards downs linked hears k line at s is =
+fresh_buses start logs log lines count open_none hands sents heards downs ups linked hears k line at s is =
     let far = slice_get_within lines k line at in
     let h = start.history in
     fresh_served start (0 + k) s (log_of logs (0 + k)) (log line) (omega (arith, far, count)) open_none (hands (0 + k) h)
-    (sents (0 + k) h) (heards (0 + k) h) (downs (0 + k) h) (linked k line at) (hears k line at) is
+    (sents (0 + k) h) (heards (0 + k) h) (downs (0 + k) h) (ups (0 + k) h) (linked k line at) (hears k line at) is
 
 pub fresh_timed : (start : Shown) (s : ShareParts) (first log : ClockLog)
     → moment start.history ≡ shown_moment (part Clock start.history)
@@ -126,6 +129,7 @@ linked_at_first log b = record {
   sent = sym (append-nil log.sent);
   heard = sym (append-nil log.heard);
   failed = refl;
+  mended = refl;
 }
 
 pub in_step_at_first : {B C : Type 0} (start : Shown) (bus_log : B → BusLog) (clock_log : C → ClockLog)

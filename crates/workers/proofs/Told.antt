@@ -7,15 +7,16 @@ use Rattle.buslink.specs.ClockLog.{ClockLog}
 use Rattle.plantevents.specs.declared.event.Event.{Event}
 use Rattle.plantevents.specs.declared.role.Role.{Role}
 use Rattle.plantevents.specs.declared.role.Role.TheVariants.{Worker, Bus, Clock}
-use Rattle.plantevents.specs.Histories.{scan, hand, sent_in, heard_in, downs_in, given_in}
-use Rattle.plantevents.specs.Parts.{part, shown_scan, shown_hand, shown_sent, shown_heard, shown_downs, shown_given}
+use Rattle.plantevents.specs.Histories.{scan, hand, sent_in, heard_in, downs_in, ups_in, given_in}
+use Rattle.plantevents.specs.Parts.{part, shown_scan, shown_hand, shown_sent, shown_heard, shown_downs, shown_ups}
+use Rattle.plantevents.specs.Parts.{shown_given}
 use Rattle.plantevents.specs.Plants.{Plant}
 use Rattle.plant.specs.Shown.{Shown}
 use Rattle.receipts.specs.Each.{Each}
 use Rattle.receipts.specs.Receipts.{ShareParts, HasPart, HaveParts, whole}
 use Rattle.driving.specs.Links.{IsLinked}
 use Rattle.driving.specs.Open.{HasNothingOpen}
-use Rattle.driving.specs.Links.{IsNoLess, log_of, more_failures}
+use Rattle.driving.specs.Links.{IsNoLess, log_of, so_many_more}
 use Rattle.turns.specs.Logs.{IsServed, IsTimed, IsWorker}
 use Rattle.workers.specs.LinkedShares.{AreServed, AreWorkers}
 use Rattle.turns.specs.declared.bus_worker.BusWithShare.{BusWithShare}
@@ -36,14 +37,15 @@ idle_bus first log b s h is has law = law ∙ ap shown_hand (sym (part_is s (Bus
 
 linked : (first log : BusLog) (b : ℕ) (s : ShareParts) (h : List Event) → IsServed first b s log → HasPart s h
     → sent_in b h ≡ shown_sent (part (Bus b) h) → heard_in b h ≡ shown_heard (part (Bus b) h)
-    → downs_in b h ≡ shown_downs (part (Bus b) h) → IsLinked first b h log
-linked first log b s h is has sent heard downs =
+    → downs_in b h ≡ shown_downs (part (Bus b) h) → ups_in b h ≡ shown_ups (part (Bus b) h) → IsLinked first b h log
+linked first log b s h is has sent heard downs ups =
     let all : whole s ≡ part (Bus b) h = part_is s (Bus b) h has is.role in
     record {
       same = record { number = is.number; arrivals = is.arrivals };
       sent = is.sent ∙ ap (λ x. first.sent ++ x) (ap shown_sent all ∙ sym sent);
       heard = is.heard ∙ ap (λ x. first.heard ++ x) (ap shown_heard all ∙ sym heard);
-      failed = is.failed ∙ ap (λ n. more_failures n first.failures) (ap shown_downs all ∙ sym downs);
+      failed = is.failed ∙ ap (λ n. so_many_more n first.failures) (ap shown_downs all ∙ sym downs);
+      mended = is.mended ∙ ap (λ n. so_many_more n first.mends) (ap shown_ups all ∙ sym ups);
     }
 
 pub timed : (first log : ClockLog) (s : ShareParts) (h : List Event) → IsTimed first s log → HasPart s h
@@ -105,15 +107,16 @@ pub all_linked : {B J T : Type 0} (logs : List BusLog) (log : B → BusLog) (h :
     → ((b : ℕ) (past : List Event) → sent_in b past ≡ shown_sent (part (Bus b) past))
     → ((b : ℕ) (past : List Event) → heard_in b past ≡ shown_heard (part (Bus b) past))
     → ((b : ℕ) (past : List Event) → downs_in b past ≡ shown_downs (part (Bus b) past))
+    → ((b : ℕ) (past : List Event) → ups_in b past ≡ shown_ups (part (Bus b) past))
     → Each (λ b line. IsLinked (log_of logs b) b h (log line)) 0 (map (λ s. s.line) served)
-all_linked logs log h served are have sent heard downs k line at =
+all_linked logs log h served are have sent heard downs ups k line at =
     let s = from_map (λ t. t.line) served k line at in
     let same : k ≡ 0 + k = omega arith in
     subst (λ b. IsLinked (log_of logs b) b h (log line)) same
     (subst (λ l. IsLinked (log_of logs k) k h (log l)) s.of
     (linked (log_of logs k) (log s.x.line) k s.x.share h
     (each_at (λ n t. IsServed (log_of logs n) n t.share (log t.line)) served k s.x are s.is)
-    (has_at h served k s.x s.is have) (sent k h) (heard k h) (downs k h)))
+    (has_at h served k s.x s.is have) (sent k h) (heard k h) (downs k h) (ups k h)))
 
 pub all_no_less : {B J T : Type 0} (logs : List BusLog) (log : B → BusLog) (served : List (BusWithShare B J T))
     → AreServed logs log 0 served

@@ -2,6 +2,7 @@ pub mod Beginnings
 pub mod Closings
 pub mod Endings
 pub mod LinkedShares
+pub mod Pauses
 pub mod Runs
 pub mod Started
 pub mod Starts

@@ -45,7 +45,7 @@ pub(crate) enum StartedBus<'a, B: Bus, J: LockStart + Links, T: Tally> {
     Here(BusWithShare<'a, B, J, T>),
 }
 
-/// Serves a bus until the end is told, or the bus goes down.
+/// Serves a bus until the end is told.
 fn serve_task<
     's,
     'a,
@@ -68,7 +68,7 @@ fn serve_task<
         bus,
         mut served,
     } = task;
-    serve_bus(rt, gate, shared, end, bus, &mut served);
+    let _told = serve_bus(rt, gate, shared, end, bus, &mut served);
     served
 }
 
@@ -109,7 +109,7 @@ where
     match scope.spawn_with(promise, job) {
         Ok(child) => StartedBus::There(child),
         Err(refused) => {
-            end.tell(rt, Ended::NoThread);
+            let _told = end.tell(rt, Ended::NoThread);
             StartedBus::Here((refused.value)())
         }
     }

@@ -1,7 +1,7 @@
 //! The end of a run.
 
 use driving::Halt;
-use std::sync::{OnceLock, Wait};
+use std::sync::{OnceLock, OnceToken, Wait};
 
 /// Why a run ended.
 #[derive(Clone, Copy, PartialEq, Eq, Debug)]
@@ -31,10 +31,13 @@ impl From<Halt> for Ended {
     }
 }
 
+/// Shows that the end was told, and why. Whoever has one came to it by the cell of the end.
+pub(crate) type ToldEnd<'e> = OnceToken<'e, Ended>;
+
 /// Whether the end was told, and why. All workers read it.
 #[derive(Drop)]
 pub(crate) struct End {
-    told: OnceLock<Ended>,
+    pub told: OnceLock<Ended>,
 }
 
 impl End {
@@ -48,28 +51,30 @@ impl End {
         }
     }
 
-    /// Tells the end. Only what is told first counts.
-    pub fn tell<R: Wait>(&self, rt: &R, ended: Ended) {
-        let _first = self.told.set(rt, ended).is_ok();
+    /// Tells the end, and shows that it is told. Only what is told first counts.
+    pub fn tell<R: Wait>(&self, rt: &R, ended: Ended) -> ToldEnd<'_>
+        ensures { result.of ≡ self.now.told.id }
+    {
+        match self.told.try_insert(rt, ended) {
+            Ok(told) | Err((told, _)) => told,
+        }
     }
 
-    /// Why it ended, if the end was told.
-    pub fn told(&self) -> Option<Ended> {
-        self.told.get().copied()
+    /// Shows that the end was told, where it was.
+    pub fn told(&self) -> Option<ToldEnd<'_>>
+        ensures { IfSome result (λ told. told.of ≡ self.now.told.id) }
+    {
+        self.told.witness()
     }
 
     /// Why it ended, if the end was told and isn't that of the clock.
     pub fn cut_short(&self) -> Option<Ended>
         ensures { IfSome result (λ ended. ¬ (ended ≡ Asked)) }
     {
-        match self.told()? {
+        let told = self.told()?;
+        match *self.told.value(&told) {
             Ended::Asked => None,
             other => Some(other),
         }
-    }
-
-    /// Whether the end was told.
-    pub fn is_told(&self) -> bool {
-        self.told().is_some()
     }
 }

@@ -60,7 +60,7 @@ fn scan_task<'s, 'a, J: LockStart, T: Tally, K: Tallies<T>, G: Gate, R: Wait + T
         worker,
         mut share,
     } = task;
-    serve_tasks(rt, alloc, gate, shared, end, worker, &mut share);
+    let _told = serve_tasks(rt, alloc, gate, shared, end, worker, &mut share);
     share
 }
 
@@ -98,7 +98,7 @@ where
     match scope.spawn_with(promise, job) {
         Ok(child) => StartedScans::There(child),
         Err(refused) => {
-            end.tell(rt, Ended::NoThread);
+            let _told = end.tell(rt, Ended::NoThread);
             StartedScans::Here((refused.value)())
         }
     }

@@ -1,11 +1,12 @@
 //! The loops of the workers, until the end is told.
 
-ghost use Rattle.std.specs.Prelude.{◌≡◌};
+ghost use Rattle.std.specs.Prelude.{◌≡◌, IfErr, IfOk, OnErr, OnOk, Ok};
 ghost use Rattle.driving.specs.Links.{log_of};
+ghost use Rattle.turns.specs.Handouts.{AreFollowed};
 ghost use Rattle.turns.specs.Logs.{HasEnded, IsServed, IsTimed, IsWorker};
 ghost use Rattle.workers.specs.declared.ended.Ended.TheVariants.{Asked};
 
-use crate::ended::{End, Ended};
+use crate::ended::{End, Ended, ToldEnd};
 use crate::pause::Pause;
 use buslink::{Bus, Clock};
 use driving::{Halt, Observer};
@@ -15,34 +16,70 @@ use std::alloc::Global;
 use std::sync::Wait;
 use std::time::Clock as Timer;
 use turns::{
-    BusWithShare, ClockWithShare, Gate, Links, Passing, Turn, hear_turn, scan_turn, send_turn,
-    tick_once,
+    BusWithShare, ClockWithShare, Gate, Links, Passing, Turn, come_up, hear_turn, scan_turn,
+    send_turn, tick_once,
 };
 
+/// What a turn did. Where its worker can't go on, it tells the end, and shows that it is told.
+fn or_told<'e, R: Wait>(rt: &R, end: &'e End, turn: Result<Turn, Halt>) -> Result<Turn, ToldEnd<'e>>
+    ensures turn { IfOk result (λ done. turn ≡ Ok done) }
+    ensures told { IfErr result (λ told. told.of ≡ end.now.told.id) }
+{
+    match turn {
+        Ok(done) => Ok(done),
+        Err(halt) => Err(end.tell(rt, Ended::from(halt))),
+    }
+}
+
 /// Sends what is to be sent next on a bus, and hears what came, where the end wasn't told meanwhile.
-fn serve_once<'a, B: Bus, J: LockStart + Links, T: Tally, K: Tallies<T>, O: Observer<B>, R: Wait>(
+/// A bus that is down is asked whether its interface answers again. Each transaction but one is
+/// followed by a call that hears, or by the bus's going down; and that one only where the end was
+/// told.
+fn serve_once<
+    'e,
+    'a,
+    B: Bus,
+    J: LockStart + Links,
+    T: Tally,
+    K: Tallies<T>,
+    O: Observer<B>,
+    R: Wait,
+>(
     rt: &R,
     observer: &mut O,
     shared: &Shared<'a, J, T, K>,
-    end: &End,
+    end: &'e End,
     bus: u8,
     served: &mut BusWithShare<'a, B, J, T>,
-) -> Result<Turn, Halt>
+) -> Result<Turn, ToldEnd<'e>>
     requires served { IsServed (log_of J.buses bus) bus served.old.share (B.log served.old.line) }
     ensures served { IsServed (log_of J.buses bus) bus served.new.share (B.log served.new.line) }
+    ensures followed { OnOk result (AreFollowed 0 served.old.share served.new.share
+        (B.log served.old.line) (B.log served.new.line)) }
+    ensures but_one { OnErr result (AreFollowed 1 served.old.share served.new.share
+        (B.log served.old.line) (B.log served.new.line)) }
+    ensures told { IfErr result (λ told. told.of ≡ end.now.told.id) }
 {
-    let sent = send_turn(rt, observer, shared, bus, served)?;
-    if matches!(sent, Turn::Down) || end.is_told() {
-        return Ok(sent);
+    let turn = send_turn(rt, observer, shared, bus, served);
+    let sent = or_told(rt, end, turn)?;
+    if matches!(sent, Turn::Down) {
+        let turn = come_up(rt, observer, shared, bus, served);
+        return or_told(rt, end, turn);
     }
-    match hear_turn(rt, observer, shared, bus, served)? {
+    if let Some(told) = end.told() {
+        return Err(told);
+    }
+    let turn = hear_turn(rt, observer, shared, bus, served);
+    match or_told(rt, end, turn)? {
         Turn::Idle => Ok(sent),
         heard => Ok(heard),
     }
 }
 
-/// Serves a bus until the end is told, or the bus goes down.
+/// Serves a bus until the end is told, and shows that it is. While the bus is down, its worker rests
+/// between the questions whether its interface answers again.
 pub(crate) fn serve_bus<
+    'e,
     'a,
     B: Bus,
     J: LockStart + Links,
@@ -54,50 +91,51 @@ pub(crate) fn serve_bus<
     rt: &R,
     gate: &G,
     shared: &Shared<'a, J, T, K>,
-    end: &End,
+    end: &'e End,
     bus: u8,
     served: &mut BusWithShare<'a, B, J, T>,
-)
+) -> ToldEnd<'e>
     requires served { IsServed (log_of J.buses bus) bus served.old.share (B.log served.old.line) }
     ensures served { IsServed (log_of J.buses bus) bus served.new.share (B.log served.new.line) }
+    ensures followed { AreFollowed 1 served.old.share served.new.share
+        (B.log served.old.line) (B.log served.new.line) }
+    ensures told { result.of ≡ end.now.told.id }
 {
     let mut passing = Passing { gate };
     let mut pause = Pause::new();
     for _ in rt.forever() {
-        if end.is_told() {
-            return;
+        if let Some(told) = end.told() {
+            return told;
         }
         match serve_once(rt, &mut passing, shared, end, bus, served) {
             Ok(Turn::Busy) => pause.begin_anew(),
-            Ok(Turn::Idle) => pause.wait(rt),
-            Ok(Turn::Down) => return,
-            Err(halt) => {
-                end.tell(rt, Ended::from(halt));
-                return;
-            }
+            Ok(Turn::Idle | Turn::Down) => pause.wait(rt),
+            Err(told) => return told,
         }
     }
     unreachable!()
 }
 
-/// Scans what is ready until the end is told.
-pub(crate) fn serve_tasks<'a, J: LockStart, T: Tally, K: Tallies<T>, G: Gate, R: Wait + Timer>(
+/// Scans what is ready until the end is told, and shows that it is: a worker that is refused memory
+/// tells it.
+pub(crate) fn serve_tasks<'e, 'a, J: LockStart, T: Tally, K: Tallies<T>, G: Gate, R: Wait + Timer>(
     rt: &R,
     alloc: Global,
     gate: &G,
     shared: &Shared<'a, J, T, K>,
-    end: &End,
+    end: &'e End,
     worker: usize,
     share: &mut Share<'a, J, T>,
-)
+) -> ToldEnd<'e>
     requires worker { IsWorker worker share.old }
     ensures worker { IsWorker worker share.new }
+    ensures told { result.of ≡ end.now.told.id }
 {
     let mut passing = Passing { gate };
     let mut pause = Pause::new();
     for _ in rt.forever() {
-        if end.is_told() {
-            return;
+        if let Some(told) = end.told() {
+            return told;
         }
         match scan_turn::<(), J, T, K, Passing<G>, R>(
             rt,
@@ -109,10 +147,7 @@ pub(crate) fn serve_tasks<'a, J: LockStart, T: Tally, K: Tallies<T>, G: Gate, R:
         ) {
             Ok(Turn::Busy) => pause.begin_anew(),
             Ok(_) => pause.wait(rt),
-            Err(halt) => {
-                end.tell(rt, Ended::from(halt));
-                return;
-            }
+            Err(halt) => return end.tell(rt, Ended::from(halt)),
         }
     }
     unreachable!()
@@ -149,12 +184,12 @@ pub(crate) fn serve_clock<
         match tick_once::<(), C, J, T, K, Passing<'_, G>, R>(rt, &mut passing, shared, timed) {
             Ok(true) => Pause::new().wait(rt),
             Ok(false) => {
-                end.tell(rt, Ended::Asked);
+                let _told = end.tell(rt, Ended::Asked);
                 return Ended::Asked;
             }
             Err(halt) => {
                 let ended = Ended::from(halt);
-                end.tell(rt, ended);
+                let _told = end.tell(rt, ended);
                 return ended;
             }
         }

@@ -95,7 +95,7 @@ impl Plant {
         }
     }
 
-    /// Whether a bus went down.
+    /// Whether a bus is down.
     pub fn is_down(&self, bus: u8) -> bool
         requires { bus < self.now.plant.plan.buses }
         ensures value { result ≡ is_down bus self.now.history }

@@ -1,16 +1,16 @@
 //! Transactions under the lock.
 
-ghost use Rattle.std.specs.Prelude.{◌≡◌, false, OnOk, OnErr, IfOk, IfErr, IsOk, length};
+ghost use Rattle.std.specs.Prelude.{◌≡◌, true, false, OnOk, OnErr, IfOk, IfErr, IsOk, length};
 ghost use Rattle.plantevents.specs.declared.event.Event.TheVariants as event;
 ghost use Rattle.plantevents.specs.declared.role.Role.TheVariants as roles;
 ghost use Rattle.plantevents.specs.Parts.{shown_down};
 ghost use Rattle.plantevents.specs.Plants.{tries_of};
 ghost use Rattle.limits.specs.Limits.{AreTries};
 ghost use Rattle.plant.specs.Matches.{IsReportOf};
-ghost use Rattle.plant.specs.Refusals.{GivesFirst, down_cases, hand_cases};
+ghost use Rattle.plant.specs.Refusals.{GivesFirst, down_cases, hand_cases, up_cases};
 ghost use Rattle.plant.specs.Shown.{grown};
 ghost use Rattle.receipts.specs.Receipts.{IsNoted, whole};
-ghost use Rattle.plantlock.specs.Answers.{Decides, ShowsTransaction};
+ghost use Rattle.plantlock.specs.Answers.{Decides, IsNotUp, ShowsTransaction};
 
 use super::LockedPlant;
 use plant::{CallRefusal, Handed};
@@ -123,6 +123,29 @@ impl<'a, J: LockStart, T: Tally, K: Tallies<T>> LockedPlant<'a, J, T, K> {
         self.notes.meet(share);
         self.plant.down(bus)?;
         self.notes.file(rt, share, &self.plant, Event::Down { bus });
+        Ok(())
+    }
+
+    /// Opens a bus that was down again.
+    pub fn up<R: Wait>(
+        &mut self,
+        rt: &R,
+        share: &mut Share<'a, J, T>,
+        bus: u8,
+    ) -> Result<(), CallRefusal>
+        requires role { share.old.role ≡ roles.Bus bus }
+        ensures event { OnOk result (self.new ≡ grown self.old (event.Up bus)) }
+        ensures noted { OnOk result
+            (IsNoted (length self.old.history) (event.Up bus) share.old share.new) }
+        ensures down { OnOk result (shown_down (whole share.old) ≡ true) }
+        ensures refused { GivesFirst (up_cases self.old bus) result }
+        ensures why { IfErr result (IsNotUp (whole share.old)) }
+        ensures err { OnErr result ((self.new ≡ self.old) × (share.new ≡ share.old)) }
+    {
+        what_a_part_shows();
+        self.notes.meet(share);
+        self.plant.up(bus)?;
+        self.notes.file(rt, share, &self.plant, Event::Up { bus });
         Ok(())
     }
 }

@@ -58,5 +58,5 @@ put_together-requires-clause-ready g c =
     let count = c.requires.buses.0 in
     let long = c.args.lines.ok.0 in
     fresh_buses g.J.LockStart.start g.J.Links.buses g.B.Bus.log c.args.lines.items (omega (arith, count, long))
-    c.requires.idle
-    shows.hand shows_links.sent shows_links.heard shows_links.downs c.requires.links.buses c.requires.links.hears
+    c.requires.idle shows.hand shows_links.sent shows_links.heard shows_links.downs shows_links.ups
+    c.requires.links.buses c.requires.links.hears

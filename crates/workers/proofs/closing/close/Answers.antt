@@ -31,7 +31,7 @@ returns-clause-closed g c =
       buses =
           subst (λ xs. Each (λ b line. IsLinked (log_of logs b) b h (log line)) 0 xs) (sym lines)
           (all_linked logs log h served c.requires.linked.buses of_buses shows_links.sent shows_links.heard
-          shows_links.downs);
+          shows_links.downs shows_links.ups);
       hears =
           subst (λ xs. Each (λ b line. IsNoLess (log_of logs b).hears (log line).hears) 0 xs) (sym lines)
           (all_no_less logs log served c.requires.linked.buses);

@@ -1,5 +1,5 @@
 use Rattle.std.proofs.Common.{◌≡◌, ◌+◌, ◌-◌, ◌<◌, List, [], ◌∷◌, ◌++◌, Some, refl, sym, subst, ◌∙◌, ap, vec_len, arith}
-use Rattle.std.specs.Prelude.{reverse}
+use Rattle.std.specs.Prelude.{reverse, false}
 use Rattle.transact.specs.declared.marks.Sent.{Sent}
 use Rattle.simbus.specs.Histories.{Setup}
 use Rattle.simbus.specs.Kept.{setup_of, IsEquipmentOf}
@@ -57,6 +57,8 @@ returns c =
         failures = c.self.inside.failures;
         hears = c.self.inside.hears;
         heard_none = c.self.inside.heard_none;
+        mends = 0;
+        is_mended = false;
       };
     } in
     rw (← c.self.view_is)

@@ -46,6 +46,8 @@ returns c =
         failures = 0;
         hears = 0;
         heard_none = false;
+        mends = 0;
+        is_mended = false;
       };
     } in
     let declared = setup_in c.args.setup in let arrivals = c.args.setup.arrivals.items in

@@ -1,0 +1,98 @@
+"""What benches/address, broker and clock are made of: processes, and what was otherwise."""
+
+from __future__ import annotations
+
+import contextlib
+import os
+import pathlib
+import signal
+import subprocess
+import sys
+import tempfile
+import time
+from typing import Any, Callable, Iterator, List, Optional
+
+HERE = pathlib.Path(__file__).resolve().parent.parent
+INTERFACES = HERE / 'examples/interfaces'
+PROGRAM = HERE / 'crates/dalictl/out/dalictl'
+sys.path.insert(0, str(INTERFACES))
+sys.dont_write_bytecode = True
+
+
+class Bench:
+    """A folder, the processes that were started, and what was otherwise than it should be."""
+
+    def __init__(self, folder: pathlib.Path) -> None:
+        self.folder, self.started = folder, list[subprocess.Popen[str]]()
+        self.wrong: List[str] = []
+
+    def same(self, what: str, found: Any, wanted: Any) -> None:
+        self.hold(found == wanted, f'{what}: found {found!r}, wanted {wanted!r}')
+
+    def hold(self, holds: bool, what: str) -> None:
+        if not holds:
+            self.wrong.append(what)
+            print(what, flush=True)
+
+    def start(self, *words: Any, **options: Any) -> subprocess.Popen[str]:
+        """A process that goes on beside the bench, and ends with it."""
+        process = subprocess.Popen([str(word) for word in words], text=True, **options)
+        self.started.append(process)
+        return process
+
+    def interface(self, link: pathlib.Path, *words: Any, **options: Any) -> subprocess.Popen[str]:
+        """A program of examples/interfaces behind a pseudo terminal, once that is there."""
+        link.unlink(missing_ok=True)
+        process = self.start(INTERFACES / words[0], '--pty', link, *words[1:], **options)
+        self.hold(wait_for(link.exists), f'{words[0]} makes no line')
+        return process
+
+    def run(self, *words: Any, seconds: float = 60) -> subprocess.CompletedProcess[str]:
+        """A process that ends by itself, with what it printed."""
+        return subprocess.run(
+            [str(word) for word in words], capture_output=True, text=True, timeout=seconds
+        )
+
+    def end(self, process: Optional[subprocess.Popen[str]] = None) -> None:
+        """Ends a process that was started, or all of them."""
+        for it in [process] if process else self.started:
+            it.terminate()
+            try:
+                it.wait(5)
+            except subprocess.TimeoutExpired:
+                it.kill()
+                it.wait()
+
+
+def wait_for(holds: Callable[[], Any], seconds: float = 10.0) -> bool:
+    """Whether something comes to hold within a time."""
+    end = time.monotonic() + seconds
+    while not holds():
+        if time.monotonic() > end:
+            return False
+        time.sleep(0.02)
+    return True
+
+
+@contextlib.contextmanager
+def bench(seconds: int) -> Iterator[Bench]:
+    """A bench that ends by itself after this time, and says `ok` or `otherwise` in its last line."""
+    signal.signal(signal.SIGALRM, lambda *_: sys.exit(f'otherwise: not done in {seconds} seconds'))
+    signal.alarm(seconds)
+    with tempfile.TemporaryDirectory() as folder:
+        it = Bench(pathlib.Path(folder))
+        try:
+            yield it
+        finally:
+            it.end()
+    print('otherwise' if it.wrong else 'ok')
+    sys.exit(1 if it.wrong else 0)
+
+
+def program_of(words: List[str]) -> Optional[pathlib.Path]:
+    """The program that the command line names, or the built one; None where none is there."""
+    path = pathlib.Path(words[0]) if words else PROGRAM
+    if os.access(path, os.X_OK):
+        return path
+    print(f'{path} is not there: what needs the program is left out')
+    return None

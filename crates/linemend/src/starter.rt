@@ -1,0 +1,98 @@
+//! Who starts the threads of lines.
+
+use crate::reasons::Reason;
+use crate::thread::{Job, Opener, Outcome, Tries};
+use crossbeam_channel::{Receiver, Sender, bounded};
+use std::alloc::{AllocError, Global};
+use std::io::{ErrorKind, Write};
+use std::sync::Wait;
+use std::thread;
+use std::thread::Threads;
+use std::time::Clock;
+
+/// The most lines that wait for their threads. Whoever asks for one more waits.
+const MOST_ORDERS: usize = 64;
+
+/// A line that is to have a thread: who tries to open it, what is to be tried, and where it is told
+/// what became of that.
+#[derive(Drop)]
+pub(crate) struct Order<R: Wait + Clock + Drop, W: Write + Drop, O: Drop> {
+    pub(crate) tries: Tries<R, W, O>,
+    pub(crate) jobs: Receiver<Job<R, W>>,
+    pub(crate) to: Sender<Outcome<R, W>>,
+}
+
+/// A thread that starts the threads of lines. It is started where all is known of the machine's
+/// types: a method of a trait can't send to a thread what rests on the bounds of its block.
+#[derive(Drop)]
+pub struct LineStarter<R: Wait + Clock + Drop, W: Write + Drop, O: Drop> {
+    orders: Sender<Order<R, W, O>>,
+}
+
+impl<R: Wait + Clock + Drop, W: Write + Drop, O: Drop> LineStarter<R, W, O> {
+    /// Starts the thread.
+    ///
+    /// # Errors
+    ///
+    /// The allocator is out of memory, or no thread can be made.
+    pub fn start(alloc: Global, rt: R) -> Result<LineStarter<R, W, O>, AllocError>
+    where
+        R: Threads + Clone + Send + 'static,
+        W: Send + 'static,
+        O: Opener<W> + Send + 'static,
+        O::From: Send + 'static,
+    {
+        let (orders, theirs) = bounded::<Order<R, W, O>, Global>(alloc, MOST_ORDERS)?;
+        let handle = rt.clone()?;
+        thread::spawn(&rt, move || serve(&handle, &theirs))?;
+        Ok(LineStarter { orders })
+    }
+
+    /// Asks for the thread of a line.
+    ///
+    /// # Errors
+    ///
+    /// The thread that starts it has ended.
+    pub(crate) fn order(&self, rt: &R, order: Order<R, W, O>) -> Result<(), AllocError> {
+        match self.orders.send(rt, order) {
+            Ok(()) => Ok(()),
+            Err(_) => Err(AllocError),
+        }
+    }
+}
+
+/// Starts the thread of each line that is asked for, until nobody asks any more.
+fn serve<
+    R: Threads + Wait + Clock + Clone + Send + Drop + 'static,
+    W: Write + Send + Drop + 'static,
+    O: Opener<W> + Send + 'static,
+>(rt: &R, orders: &Receiver<Order<R, W, O>>)
+where
+    O::From: Send + 'static,
+{
+    for _ in rt.forever() {
+        let Ok(order) = orders.recv(rt) else { return };
+        begin(rt, order);
+    }
+}
+
+/// Starts the thread of a line. Where none can be made the line never opens.
+fn begin<
+    R: Threads + Wait + Clock + Clone + Send + Drop + 'static,
+    W: Write + Send + Drop + 'static,
+    O: Opener<W> + Send + 'static,
+>(rt: &R, order: Order<R, W, O>)
+where
+    O::From: Send + 'static,
+{
+    let Order {
+        mut tries,
+        jobs,
+        to,
+    } = order;
+    let Ok(handle) = rt.clone() else {
+        let _ = to.send(rt, Err(Reason::Unopened(ErrorKind::OutOfMemory)));
+        return;
+    };
+    let _started = thread::spawn(rt, move || tries.serve(&handle, &jobs, &to));
+}

@@ -1,0 +1,35 @@
+//! Files of scenarios.
+
+ghost use Rattle.std.specs.Prelude.{◌≡◌, Err, true};
+
+use std::alloc::Global;
+use wordlines::{LineCause, LineFault, Scenario, ScenarioFault, parse};
+
+/// `gear_after_an_event_at_0_accepted`: after an event gear might be declared, before the first
+/// tick.
+pub fn gear_after_an_event_is_refused(alloc: Global) -> bool
+    ensures { result ≡ true }
+{
+    parse(alloc, b"event 0 000000\ngear 0 0").is_err()
+}
+
+/// `lines_counted_from_0`: the first line had the number 0.
+pub fn no_line_has_number_0(alloc: Global, bytes: &[u8]) -> Result<Scenario, ScenarioFault>
+    ensures { ¬ (result ≡ Err (LineFault.At 0 LineCause.BadLine)) }
+{
+    parse(alloc, bytes)
+}
+
+/// `reply_at_place_0_accepted`: the frames of a bus were counted from 0.
+pub fn reply_at_place_0_is_refused(alloc: Global) -> bool
+    ensures { result ≡ true }
+{
+    parse(alloc, b"reply 0 0 lost").is_err()
+}
+
+/// `falling_tick_accepted`: the clock might go back to 0.
+pub fn falling_tick_is_refused(alloc: Global) -> bool
+    ensures { result ≡ true }
+{
+    parse(alloc, b"tick 5\ntick 0").is_err()
+}

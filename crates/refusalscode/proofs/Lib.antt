@@ -1,0 +1,10 @@
+pub mod FirstTasks
+pub mod ImageSlots
+pub mod Joined
+pub mod Onward
+pub mod ReadyWords
+pub mod Results
+pub mod Scans
+pub mod Unsafe
+pub mod UnsafeCodes
+pub mod WorkedBounds

@@ -1,0 +1,35 @@
+use Rattle.std.proofs.Common.{◌≡◌, ◌≢◌, ◌+◌, ◌*◌, ◌/◌, ◌%◌, ℕ, Bool, true, false, List, [], ◌∷◌, IfSome, slice_get, refl, subst}
+use Rattle.iltypes.specs.declared.condition.Condition.TheVariants.{Always}
+use Rattle.iltypes.specs.declared.operator.Operator.TheVariants as operators
+use Rattle.iltypes.specs.declared.value.IlType.{IlType}
+use Rattle.ilcode.specs.declared.word.Word.{Word}
+use Rattle.ilcode.specs.declared.word.Word.TheVariants as words
+use Rattle.ilcode.specs.declared.word.WordOperand.TheVariants as operands
+use Rattle.ilrows.specs.Banks.{kinds_of_types}
+use Rattle.ilready.specs.declared.choice.Choice.{Choice}
+use Rattle.ilready.specs.declared.choice.Choice.TheVariants as choices
+use Rattle.ilready.specs.declared.ready_word.ReadyWord.{ReadyWord}
+use Rattle.ilready.specs.ReadyWords.{AreReadyFor, meant}
+use Rattle.refusalscode.proofs.ReadyWords.{one_ready}
+use Rattle.refusalscode.proofs.Results.{if_ok}
+use Rattle.refusalscode.proofs.ready.instance_of_an_argument_stands_above_its_port.Goals as goal
+
+abbrev kinds : List Bool
+kinds = []
+
+abbrev given : Word
+given = words.Pass 0 0 (operands.Port 1 2)
+
+abbrev Holds : ReadyWord → Type 0
+Holds word = word.choice ≡ choices.PassPort → word.number % 4096 / 16 ≡ 2
+
+pub returns : goal.returns
+returns c =
+    if_ok (λ ready. AreReadyFor (kinds_of_types c.args.types.now) c.args.words.now ready.items)
+    (λ ready. IfSome (slice_get ready.items 0) Holds) c.ready_words.result c.ready_words.ensures (λ ready are.
+    let by_types =
+    subst (λ (types : List IlType). AreReadyFor (kinds_of_types types) c.args.words.now ready.items)
+    c.requires.types are in
+    let by_words = subst (λ (all : List Word). AreReadyFor kinds all ready.items) c.requires.words by_types in
+    one_ready kinds given ready.items Holds by_words tt (λ (made : ReadyWord) is same.
+    let by_choice = subst (λ (c : Choice). meant kinds c made.extra made.number ≡ given) same is in cc))

@@ -1,0 +1,200 @@
+//! The reader and its thread.
+
+use arrayvec::ArrayVec;
+use crossbeam_channel::{Receiver, RecvTimeoutError, Sender, bounded};
+use std::alloc::Global;
+use std::io::{ErrorKind, Read};
+use std::sync::atomic::{AtomicBool, AtomicU64, Ordering};
+use std::sync::{Arc, Wait};
+use std::thread::Threads;
+use std::time::{Clock, Duration, Instant};
+use std::{io, thread};
+
+/// The most bytes that are handed on at once.
+const MOST_BYTES: usize = 32;
+
+/// The most pieces that wait to be taken. Whoever says more waits.
+const MOST_PIECES: usize = 64;
+
+/// A read that gives nothing, and took so many milliseconds, has only waited: a serial device may be
+/// set to give nothing after a while. One that gives nothing at once has come to the end.
+const LEAST_WAIT: u64 = 50;
+
+/// Some bytes that were read.
+type Piece = ArrayVec<u8, MOST_BYTES>;
+
+/// What a thread of its own reads, taken in time.
+#[derive(Drop)]
+pub struct TimedReader<R: Wait + Clock + Drop> {
+    rt: R,
+    /// The milliseconds that a line may take, from the first read of it to its end.
+    patience: AtomicU64,
+    /// When the line that is read is to have ended, where it has begun.
+    deadline: Option<Instant>,
+    pieces: Receiver<Piece>,
+    /// What came and was not taken yet, first to last.
+    came: Piece,
+    has_ended: Arc<AtomicBool>,
+}
+
+/// What a read came to.
+enum Came {
+    Piece(Piece),
+    /// Nothing came, and more may come.
+    Nothing,
+    /// Nothing more comes.
+    End,
+}
+
+/// Whether a read that began then has waited. It has not where the clock can't be read.
+fn has_waited<R: Clock>(rt: &R, began: io::Result<Instant>) -> bool {
+    match began {
+        Ok(began) => match began.elapsed(rt) {
+            Ok(time) => time >= Duration::from_millis(LEAST_WAIT),
+            Err(_) => false,
+        },
+        Err(_) => false,
+    }
+}
+
+/// Reads a piece.
+fn read_piece<F: Read, R: Clock>(rt: &R, from: &mut F) -> Came {
+    let mut buf = [0u8; MOST_BYTES];
+    let began = Instant::now(rt);
+    match from.read(&mut buf) {
+        Ok(0) if has_waited(rt, began) => Came::Nothing,
+        Ok(0) => Came::End,
+        Ok(count) => {
+            let mut piece = Piece::new();
+            match piece.try_extend_from_slice(&buf[..count]) {
+                Ok(()) => Came::Piece(piece),
+                Err(_) => Came::End,
+            }
+        }
+        Err(error) => match error.kind() {
+            ErrorKind::Interrupted => Came::Nothing,
+            _ => Came::End,
+        },
+    }
+}
+
+/// Reads until nothing more comes, or nobody takes it.
+fn read_all<F: Read, R: Wait + Clock>(rt: &R, from: &mut F, to: &Sender<Piece>) {
+    for _ in rt.forever() {
+        match read_piece(rt, from) {
+            Came::Piece(piece) => {
+                if to.send(rt, piece).is_err() {
+                    return;
+                }
+            }
+            Came::Nothing => {}
+            Came::End => return,
+        }
+    }
+}
+
+impl<R: Wait + Clock + Drop> TimedReader<R> {
+    /// Starts the thread that reads this. A line of it takes so many milliseconds at most.
+    ///
+    /// # Errors
+    ///
+    /// The allocator is out of memory, or no thread can be made.
+    pub fn over<F: Read + Send + Drop + 'static>(
+        alloc: Global,
+        rt: R,
+        from: F,
+        patience: u64,
+    ) -> io::Result<TimedReader<R>>
+    where
+        R: Threads + Clone + Send + 'static,
+    {
+        let (to, pieces) = bounded::<Piece, Global>(alloc, MOST_PIECES)?;
+        let has_ended = Arc::new(alloc, AtomicBool::new(false))?;
+        let ends = has_ended.clone()?;
+        let theirs = rt.clone()?;
+        let mut from = from;
+        let started = thread::spawn(&rt, move || {
+            read_all(&theirs, &mut from, &to);
+            ends.store(true, Ordering::SeqCst);
+        });
+        if started.is_err() {
+            return Err(io::Error::from(ErrorKind::OutOfMemory));
+        }
+        Ok(TimedReader {
+            rt,
+            patience: AtomicU64::new(patience),
+            deadline: None,
+            pieces,
+            came: Piece::new(),
+            has_ended,
+        })
+    }
+
+    /// Whether the thread ended: nothing more can come, and the device may be opened anew.
+    pub fn has_ended(&self) -> bool {
+        self.has_ended.load(Ordering::SeqCst)
+    }
+
+    /// From the next line on, a line takes so many milliseconds at most.
+    pub fn set_patience(&self, patience: u64) {
+        self.patience.store(patience, Ordering::SeqCst);
+    }
+
+    /// How long the line that is read may still take. With its first read its time begins.
+    ///
+    /// # Errors
+    ///
+    /// The clock can't be read.
+    fn time_left(&mut self) -> io::Result<Duration> {
+        let now = Instant::now(&self.rt)?;
+        if let Some(deadline) = self.deadline {
+            return Ok(deadline.duration_since(now));
+        }
+        let time = Duration::from_millis(self.patience.load(Ordering::SeqCst));
+        self.deadline = now.checked_add(time);
+        Ok(time)
+    }
+
+    /// The next byte. There is none where the thread ended.
+    ///
+    /// # Errors
+    ///
+    /// None came in time, or the clock can't be read.
+    fn next_byte(&mut self) -> io::Result<Option<u8>> {
+        if let Some(byte) = self.came.pop_at(0) {
+            return Ok(Some(byte));
+        }
+        let left = self.time_left()?;
+        match self.pieces.recv_timeout(&self.rt, left) {
+            Ok(piece) => {
+                self.came = piece;
+                Ok(self.came.pop_at(0))
+            }
+            Err(RecvTimeoutError::Timeout) => Err(io::Error::from(ErrorKind::TimedOut)),
+            Err(RecvTimeoutError::Disconnected) => Ok(None),
+        }
+    }
+}
+
+impl<R: Wait + Clock + Drop> Read for TimedReader<R> {
+    /// One byte, which is enough for whoever reads lines.
+    fn read(&mut self, buf: &mut [u8]) -> io::Result<usize> {
+        if buf.is_empty() {
+            return Ok(0);
+        }
+        match self.next_byte() {
+            Ok(Some(byte)) => {
+                if byte == b'\n' {
+                    self.deadline = None;
+                }
+                buf[0] = byte;
+                Ok(1)
+            }
+            Ok(None) => Ok(0),
+            Err(error) => {
+                self.deadline = None;
+                Err(error)
+            }
+        }
+    }
+}

@@ -1,0 +1,3 @@
+" Comments of a file of lines.
+setlocal commentstring=#\ %s
+setlocal comments=:#

@@ -1,0 +1,228 @@
+#!/usr/bin/env python3
+"""Gives short addresses to control gear, over the line of one bus.
+
+IT IS NOT PROVED, and was tried on simulated gear alone.
+
+  address.py PATH list               shows which short addresses are taken
+  address.py PATH find [--first N]   gives each gear without a short address one that is free, from
+                                     N on (0 if nothing is said)
+  address.py PATH give OLD NEW       gear OLD gets the short address NEW, which must be free
+  address.py PATH swap A B           gear A and gear B exchange their short addresses
+  address.py PATH take A             takes short address A away, also from several that have it
+
+PATH is a device or a pseudo terminal, or FROM,TO, two FIFOs. End the building on this line first.
+Where the line fails, the search waits for it, 60 seconds (--patience SECONDS before the command),
+and goes on where it was. Where the program itself was ended, start it again: gear that was given an
+address keeps it.
+
+`find` changes nothing of gear that has an address. Gear finds its place in the search by a random
+number. Where two took the same one, both wait for the next round. `dalictl blink` shows which lamp
+got which address.
+
+The picture has a cell for each short address from 0 to 63: `.` free, `o` taken, `#` given now, `?`
+more than one gear.
+
+The exit status is 0 where all was done, 1 where it was refused or gear is left without an address,
+and 3 where the line did not come back.
+"""
+
+from __future__ import annotations
+
+import argparse
+import sys
+from typing import List
+
+from controller import Controller, LineFailed
+from searching import ADDRESSES, MASK, QUERY_PRESENT, QUIET, YES, Gone, Refused, Search, Wire
+
+NOT_PROVED = 'address.py is not proved, and was tried on simulated gear alone: look at what it did'
+BITS = 24
+
+
+class Picture:
+    """The short addresses in a line of the terminal. Where there is none, it draws nothing."""
+
+    def __init__(self) -> None:
+        self.cells = ['.'] * ADDRESSES
+        self.is_drawn = sys.stderr.isatty()
+
+    def draw(self, words: str = '') -> None:
+        if self.is_drawn:
+            print(f'\r{"".join(self.cells)} {words:14}', end='', file=sys.stderr, flush=True)
+
+    def watch(self, low: int, high: int) -> None:
+        """How many bits of the random address are known by now."""
+        self.draw(f'{BITS - (high - low).bit_length():2} of {BITS} bits')
+
+    def say(self, line: str) -> None:
+        """A line for itself, above the picture."""
+        self.wipe()
+        print(line, flush=True)
+        self.draw()
+
+    def note(self, line: str) -> None:
+        self.wipe()
+        print(line, file=sys.stderr, flush=True)
+        self.draw()
+
+    def wipe(self) -> None:
+        if self.is_drawn:
+            print(f'\r{" " * (ADDRESSES + 15)}\r', end='', file=sys.stderr, flush=True)
+
+
+class Commissioning:
+    """What the commands do."""
+
+    def __init__(self, wire: Wire, picture: Picture) -> None:
+        self.wire, self.picture = wire, picture
+
+    def survey(self) -> None:
+        """Asks each short address whether gear is there."""
+        for address in range(ADDRESSES):
+            came = self.wire.query(address, QUERY_PRESENT)
+            self.picture.cells[address] = {QUIET: '.', YES: 'o'}.get(came, '?')
+            self.picture.draw('asking')
+
+    def free(self, first: int = 0) -> List[int]:
+        return [
+            address for address in range(first, ADDRESSES) if self.picture.cells[address] == '.'
+        ]
+
+    def list(self) -> bool:
+        self.survey()
+        self.picture.wipe()
+        print(''.join(self.picture.cells))
+        twice = [address for address, cell in enumerate(self.picture.cells) if cell == '?']
+        for address in twice:
+            print(f'more than one gear has short address {address}: take it away, and find')
+        return not twice
+
+    def find(self, first: int) -> bool:
+        self.survey()
+        return self.find_free(self.free(first))
+
+    def find_free(self, free: List[int]) -> bool:
+        """Gives these short addresses. Returns whether no gear is left without one."""
+        if not free:
+            raise Refused('no short address is free')
+        is_done = Search(self.wire, free, self.picture.watch).rounds(self.given, self.equal)
+        if not is_done:
+            self.picture.say('there is gear left without a short address')
+        self.picture.wipe()
+        print(''.join(self.picture.cells))
+        return is_done
+
+    def given(self, short: int, random: int) -> None:
+        self.picture.cells[short] = '#'
+        self.picture.say(
+            f'short address {short} given to the gear with random address {random:06X}'
+        )
+
+    def equal(self, random: int) -> None:
+        self.picture.note(
+            f'several gear have random address {random:06X}: they wait for the next round'
+        )
+
+    def give(self, old: int, new: int) -> bool:
+        self.need_one(old)
+        if self.wire.is_there(new):
+            raise Refused(f'short address {new} is taken')
+        self.move(old, new)
+        return self.is_moved(new)
+
+    def swap(self, one: int, other: int) -> bool:
+        """Exchanges two short addresses, over a free one.
+
+        Where none is free, one gear has no address meanwhile.
+        """
+        if one == other:
+            raise Refused('these are one short address')
+        self.need_one(one)
+        self.need_one(other)
+        self.survey()
+        free = self.free()
+        if free:
+            self.move(one, free[-1])
+            self.move(other, one)
+            self.move(free[-1], other)
+            return self.is_moved(one) and self.is_moved(other)
+        if Search(self.wire, [], self.picture.watch).is_missing():
+            raise Refused('no short address is free, and other gear has none: find it one first')
+        self.wire.set_address(one, MASK)
+        self.move(other, one)
+        return self.find_free([other])
+
+    def take(self, address: int) -> bool:
+        if not self.wire.is_there(address):
+            raise Refused(f'no gear has short address {address}')
+        self.wire.set_address(address, MASK)
+        is_gone = not self.wire.is_there(address)
+        print(
+            f'short address {address} taken away'
+            if is_gone
+            else f'gear {address} keeps its address'
+        )
+        return is_gone
+
+    def need_one(self, address: int) -> None:
+        if not self.wire.is_one(address):
+            raise Refused(f'there is not just one gear at short address {address}')
+
+    def move(self, old: int, new: int) -> None:
+        self.wire.set_address(old, new << 1 | 1)
+        self.picture.note(f'gear {old} was sent the short address {new}')
+
+    def is_moved(self, new: int) -> bool:
+        is_one = self.wire.is_one(new)
+        print(f'gear {new} answers' if is_one else f'gear {new} does not answer as one')
+        return is_one
+
+
+def short_address(text: str) -> int:
+    if not text.isdecimal() or int(text) >= ADDRESSES:
+        raise argparse.ArgumentTypeError('a short address is 0 to 63')
+    return int(text)
+
+
+def read_words() -> argparse.Namespace:
+    parser = argparse.ArgumentParser(usage=__doc__)
+    parser.add_argument('path')
+    parser.add_argument('--patience', type=float, default=60.0)
+    commands = parser.add_subparsers(dest='command', required=True)
+    commands.add_parser('list')
+    commands.add_parser('find').add_argument('--first', type=short_address, default=0)
+    for name, words in (
+        ('give', ('old', 'new')),
+        ('swap', ('one', 'other')),
+        ('take', ('address',)),
+    ):
+        command = commands.add_parser(name)
+        for word in words:
+            command.add_argument(word, type=short_address)
+    return parser.parse_args()
+
+
+def main() -> None:
+    words = vars(read_words())
+    path, patience, command = words.pop('path'), words.pop('patience'), words.pop('command')
+    print(NOT_PROVED, file=sys.stderr, flush=True)
+    line, picture = Controller(path), Picture()
+    try:
+        line.open()
+        is_done = getattr(Commissioning(Wire(line, picture.note, patience), picture), command)(
+            **words
+        )
+    except Refused as refusal:
+        picture.note(f'refused: {refusal}')
+        sys.exit(1)
+    except (Gone, LineFailed) as failure:
+        picture.note(f'the line did not come back: {failure}')
+        sys.exit(3)
+    except KeyboardInterrupt:
+        picture.note('ended by hand: start it again, and it goes on with what has no address yet')
+        sys.exit(1)
+    sys.exit(0 if is_done else 1)
+
+
+if __name__ == '__main__':
+    main()

@@ -1,0 +1,92 @@
+#!/usr/bin/env python3
+"""A bus of somebody else, over standard input and output.
+
+It is for whatever else is to switch lamps or to be switched.
+
+  bridge.py --pty LINK             makes a pseudo terminal, and the symbolic link LINK to it
+  bridge.py --fifo SOURCE SINK     uses two FIFOs, and makes them where they are missing
+
+One line goes out for each level that the controller sends, and one line comes in for each event.
+Exactly one space stands between words, numbers are decimal, and a line feed ends the line.
+
+  out   level ADDRESS N    the controller sent level N, 0 (off) to 254; ADDRESS is 0 to 63,
+                           `group 0` to `group 15`, or `all`
+        hello              a controller greeted, and the events that waited are gone
+  in    event S I N        instance I (0 to 31) of device S (0 to 63) says the information N
+                           (0 to 1023)
+
+The binding has an event as `source B.K device-instance S I`. Any other line is reported on standard
+error, and does nothing. At the end of standard input no more events come, and levels still go out.
+Where nobody reads standard output any more, the bus fails.
+
+KNX, BACnet or a page need a program that has these lines on one side. None is here, and none was
+tried.
+"""
+
+from __future__ import annotations
+
+import argparse
+import os
+import re
+import sys
+import threading
+
+from ends import FifoEnd, PtyEnd
+from gateway import Gateway, device_event, name_of
+from line import Fault, serve
+
+EVENT = re.compile(r'event ([0-9]{1,2}) ([0-9]{1,2}) ([0-9]{1,4})')
+
+
+def say(line: str) -> None:
+    """Writes a line at once. Raises Fault where nobody reads it."""
+    try:
+        print(line, flush=True)
+    except OSError as error:
+        raise Fault from error
+
+
+class Bridge(Gateway):
+    """A bus whose levels are lines of standard output."""
+
+    def __init__(self) -> None:
+        super().__init__(lambda address, level: say(f'level {name_of(address)} {level}'))
+
+    def forget(self) -> None:
+        super().forget()
+        say('hello')
+
+    def read_events(self) -> None:
+        """Puts each event of standard input, up to its end."""
+        for number, line in enumerate(sys.stdin.buffer, 1):
+            event = EVENT.fullmatch(line.decode('ascii', 'replace').rstrip('\n'))
+            try:
+                if not event:
+                    raise ValueError('it is no line event S I N')
+                self.events.add(device_event(*(int(word) for word in event.groups())))
+            except ValueError as error:
+                print(
+                    f'bridge.py: line {number} does nothing: {error}', file=sys.stderr, flush=True
+                )
+
+
+def main() -> None:
+    parser = argparse.ArgumentParser(usage=__doc__)
+    end = parser.add_mutually_exclusive_group(required=True)
+    end.add_argument('--pty')
+    end.add_argument('--fifo', nargs=2)
+    args = parser.parse_args()
+    bridge = Bridge()
+    threading.Thread(target=bridge.read_events, daemon=True).start()
+    try:
+        serve(bridge, PtyEnd(args.pty) if args.pty else FifoEnd(*args.fifo))
+    except KeyboardInterrupt:
+        pass  # ended by hand
+    sys.stderr.flush()
+    os._exit(
+        0
+    )  # a thread may wait in a read of standard input, which an orderly end would wait for
+
+
+if __name__ == '__main__':
+    main()

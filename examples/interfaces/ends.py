@@ -1,0 +1,133 @@
+"""An interface's end of a line: a pseudo terminal, or two FIFOs (docs/LINES.md)."""
+
+from __future__ import annotations
+
+import abc
+import os
+import pty
+import select
+import termios
+import tty
+from typing import IO, Optional
+
+# No request is longer, with half a request before it.
+MOST_BYTES = 64
+
+
+class End(abc.ABC):
+    """An interface's end of a line, which takes requests and gives answers."""
+
+    def __init__(self) -> None:
+        self.left = b''
+        # Whether what the controller left unread is dropped. One of version 1 would take it for the
+        # answer to its greeting; one of version 2 passes over it.
+        self.drops_unread = True
+
+    @abc.abstractmethod
+    def read(self) -> bytes:
+        """The next bytes that the controller wrote, or none where the line ended."""
+
+    @abc.abstractmethod
+    def write(self, data: bytes) -> None:
+        """Gives these bytes to the controller."""
+
+    @abc.abstractmethod
+    def plug(self) -> None:
+        """Makes the line, or makes it anew."""
+
+    @abc.abstractmethod
+    def unplug(self) -> None:
+        """Ends the line, as where a cable is pulled out."""
+
+    def next_line(self) -> Optional[str]:
+        """The next line without its line feed, or None where there is none."""
+        while b'\n' not in self.left:
+            more = self.read()
+            if not more:
+                return None
+            self.left = (
+                self.left[-MOST_BYTES:] + more
+            )  # a greeting may stand behind no end of noise
+        line, self.left = self.left.split(b'\n', 1)
+        return line.decode('ascii', 'replace')
+
+    def say(self, line: str) -> None:
+        self.write(line.encode('ascii') + b'\n')
+
+
+class PtyEnd(End):
+    """A pseudo terminal, to which the symbolic link `link` leads: `--line 0=link`."""
+
+    def __init__(self, link: str) -> None:
+        super().__init__()
+        self.link = link
+        self.plug()
+
+    def plug(self) -> None:
+        self.left = b''
+        self.ours, self.theirs = pty.openpty()
+        tty.setraw(self.theirs)  # no echo, no translation; kept open, so that it stays so
+        if os.path.islink(self.link):
+            os.unlink(self.link)
+        os.symlink(os.ttyname(self.theirs), self.link)
+
+    def unplug(self) -> None:
+        os.unlink(self.link)
+        os.close(self.theirs)
+        os.close(self.ours)
+
+    def read(self) -> bytes:
+        while not select.select([self.ours], [], [], 1)[0]:
+            if self.drops_unread:
+                # What was not read by now was for a controller that has ended.
+                termios.tcflush(self.theirs, termios.TCIFLUSH)
+        return os.read(self.ours, 256)
+
+    def write(self, data: bytes) -> None:
+        while data:
+            data = data[os.write(self.ours, data) :]
+
+
+class FifoEnd(End):
+    """A pair of FIFOs, made where they are missing: `--line 0=source,sink`.
+
+    The controller reads `source`.
+    """
+
+    def __init__(self, source: str, sink: str) -> None:
+        super().__init__()
+        self.source, self.sink = source, sink
+        for path in (source, sink):
+            if not os.path.exists(path):
+                os.mkfifo(path)
+        self.plug()
+
+    def plug(self) -> None:
+        """Waits for a controller, which opens its source first, and then its sink."""
+        self.drop_unread()
+        self.out: IO[bytes] = open(self.source, 'wb', buffering=0)
+        self.into: IO[bytes] = open(self.sink, 'rb', buffering=0)
+        self.left = b''
+
+    def drop_unread(self) -> None:
+        """Reads away what was for a controller that has ended, and may not be gone yet."""
+        left_over = os.open(self.source, os.O_RDONLY | os.O_NONBLOCK)
+        while os.read(left_over, 256):
+            pass
+        os.close(left_over)
+
+    def unplug(self) -> None:
+        self.out.close()
+        self.into.close()
+
+    def read(self) -> bytes:
+        while not (more := self.into.read(256)):  # the controller has ended: the next one may come
+            self.unplug()
+            self.plug()
+        return more
+
+    def write(self, data: bytes) -> None:
+        try:
+            self.out.write(data)
+        except BrokenPipeError:
+            pass  # the controller has ended; `read` meets its end too

@@ -1,0 +1,197 @@
+"""The search for gear without a short address, and changes of short addresses (IEC 62386-102).
+
+Each frame is sent until it is known to have been sent. Where the line fails, it is opened anew, and
+the search goes on where it was, since the gear keeps what it was sent. Every command here may come
+twice without harm.
+"""
+
+from __future__ import annotations
+
+import time
+from typing import Callable, List, Optional, Sequence
+
+from controller import Controller, LineFailed
+
+TERMINATE, DTR0, INITIALISE, RANDOMISE = 0xA1, 0xA3, 0xA5, 0xA7
+COMPARE, WITHDRAW, PROGRAM, VERIFY = 0xA9, 0xAB, 0xB7, 0xB9
+SEARCH = (0xB1, 0xB3, 0xB5)
+SET_SHORT_ADDRESS, QUERY_PRESENT, QUERY_MISSING_SHORT_ADDRESS = 0x80, 0x91, 0x96
+WITHOUT_ADDRESS = MASK = 0xFF
+ALL_GEAR = 0xFF
+YES, QUIET, LOST, DAMAGED = 'answer 255', 'quiet', 'lost', 'damaged'
+
+GREATEST_RANDOM = 0xFFFFFF
+ADDRESSES = 64
+ATTEMPTS = 20  # of a transaction that is lost
+RANDOMISE_SECONDS = 0.15  # gear has 100 ms to find a random address
+PAUSE_SECONDS = 0.5  # between two tries to open the line
+ROUNDS = 8
+MISSES = 4  # in a round
+
+
+class Gone(Exception):
+    """The line did not come back, or another sender disturbs it all the time."""
+
+
+class Refused(Exception):
+    """What was asked for is not possible, and nothing was changed."""
+
+
+class Wire:
+    """Transactions over a line that may fail."""
+
+    def __init__(self, line: Controller, note: Callable[[str], None], patience: float) -> None:
+        self.line, self.note, self.patience = line, note, patience
+        self.is_gone = False
+
+    def transaction(self, *frames: int) -> str:
+        """Sends frames one after another, all anew where one failed. Returns the last answer."""
+        lost = 0
+        while lost < ATTEMPTS:
+            try:
+                came = self.attempt(frames)
+            except LineFailed as failure:
+                self.come_back(str(failure))
+                continue
+            if came != LOST:
+                return came
+            lost += 1
+        self.is_gone = True
+        raise Gone(f'each frame was lost in {ATTEMPTS} attempts')
+
+    def attempt(self, frames: Sequence[int]) -> str:
+        came = LOST
+        for place, frame in enumerate(frames):
+            came = self.line.send(frame, priority=1 if place else 3)
+            if came == LOST:
+                break
+        return came
+
+    def come_back(self, failure: str) -> None:
+        """Opens the line anew, for as long as the patience lasts."""
+        self.note(f'the line failed ({failure}): waiting for it')
+        self.line.close()
+        end = time.monotonic() + self.patience
+        while True:
+            try:
+                self.line.open()
+                break
+            except LineFailed as again:
+                if time.monotonic() > end:
+                    self.is_gone = True
+                    raise Gone(str(again)) from None
+                time.sleep(PAUSE_SECONDS)
+        self.note('the line is back: going on')
+
+    def special(self, command: int, data: int = 0) -> str:
+        return self.transaction(command << 8 | data)
+
+    def special_twice(self, command: int, data: int = 0) -> str:
+        return self.transaction(command << 8 | data, command << 8 | data)
+
+    def query(self, address: int, query: int) -> str:
+        return self.transaction((address << 1 | 1) << 8 | query)
+
+    def is_there(self, address: int) -> bool:
+        """Whether gear has this short address."""
+        return self.query(address, QUERY_PRESENT) != QUIET
+
+    def is_one(self, address: int) -> bool:
+        """Whether one gear has this short address, as far as it can be heard."""
+        return self.query(address, QUERY_PRESENT) == YES
+
+    def set_address(self, old: int, data: int) -> None:
+        """Gives gear the short address that 0AAAAAA1 says, or takes it away with MASK."""
+        command = (old << 1 | 1) << 8 | SET_SHORT_ADDRESS
+        self.transaction(DTR0 << 8 | data, command, command)
+
+
+class Search:
+    """Gives free short addresses to gear that has none.
+
+    `watch(low, high)` sees between which random addresses the next gear is.
+    """
+
+    def __init__(self, wire: Wire, free: List[int], watch: Callable[[int, int], None]) -> None:
+        self.wire, self.free, self.watch = wire, free, watch
+        self.searched: List[Optional[int]] = [None, None, None]
+
+    def rounds(self, given: Callable[[int, int], None], equal: Callable[[int], None]) -> bool:
+        """Searches until no gear lacks an address. Returns whether that came about.
+
+        In each round all gear without an address takes a new random address. `given` sees each
+        short address with the random one. `equal` sees a random address at which several gear
+        answered, or one whose answer was disturbed; what is there waits for the next round.
+        """
+        try:
+            for _ in range(ROUNDS):
+                if not self.is_missing() or not self.free:
+                    break
+                self.round(given, equal)
+            return not self.is_missing()
+        finally:
+            if not self.wire.is_gone:
+                self.wire.special(TERMINATE)
+
+    def is_missing(self) -> bool:
+        """Whether gear has no short address."""
+        return self.wire.transaction(ALL_GEAR << 8 | QUERY_MISSING_SHORT_ADDRESS) != QUIET
+
+    def round(self, given: Callable[[int, int], None], equal: Callable[[int], None]) -> None:
+        """One round."""
+        self.wire.special(TERMINATE)
+        self.wire.special_twice(INITIALISE, WITHOUT_ADDRESS)
+        self.wire.special_twice(RANDOMISE)
+        time.sleep(RANDOMISE_SECONDS)
+        self.searched = [None, None, None]
+        low, misses = 0, 0
+        while misses < MISSES and self.free and (random := self.lowest(low)) is not None:
+            came = self.program(random, self.free[0])
+            if came == YES:
+                given(self.free.pop(0), random)
+            elif came == DAMAGED:
+                equal(random)
+            self.wire.special(WITHDRAW)
+            # Where nobody is, a disturbance led the search astray: it begins anew.
+            misses += came == QUIET
+            low = 0 if came == QUIET else random + 1
+
+    def program(self, random: int, short: int) -> str:
+        """Gives a short address to the gear with this random one.
+
+        Returns YES where just one took it. Else nobody has it: DAMAGED where several answered, and
+        QUIET where nobody did.
+        """
+        self.set_search(random)
+        self.wire.special(PROGRAM, short << 1 | 1)
+        came = self.wire.special(VERIFY, short << 1 | 1)
+        if came != YES:
+            self.wire.special(PROGRAM, MASK)
+        return came if came in (YES, QUIET) else DAMAGED
+
+    def lowest(self, low: int) -> Optional[int]:
+        """The least random address that is not below `low`; None where no gear answers any more."""
+        high = GREATEST_RANDOM
+        if low > high or not self.compare(high):
+            return None
+        while low < high:
+            self.watch(low, high)
+            middle = (low + high) // 2
+            if self.compare(middle):
+                high = middle
+            else:
+                low = middle + 1
+        return low
+
+    def compare(self, random: int) -> bool:
+        """Whether gear has a random address up to this one. Answers of several are damaged."""
+        self.set_search(random)
+        return self.wire.special(COMPARE) != QUIET
+
+    def set_search(self, random: int) -> None:
+        """Sets the search address, the bytes alone that differ from those before."""
+        for place, command in enumerate(SEARCH):
+            byte = random >> 8 * (2 - place) & 0xFF
+            if self.searched[place] != byte:
+                self.wire.special(command, byte)
+                self.searched[place] = byte
