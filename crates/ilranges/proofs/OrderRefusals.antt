@@ -29,7 +29,7 @@ use Rattle.ilranges.specs.declared.known.Known.TheVariants as knowns
 use Rattle.ilranges.specs.declared.nesting.KnownOpened.{KnownOpened}
 use Rattle.ilblocks.specs.declared.kind.BlockKind.{BlockKind}
 use Rattle.ilranges.specs.Entries.{IsResultInto, IsOpenedInto, IsInto}
-use Rattle.ilranges.specs.Operands.{known_of, type_of_variable, in_programs, may_name, may_set, may_write}
+use Rattle.ilranges.specs.Operands.{known_of, type_of_variable, in_programs, may_name, may_set, may_store, may_write}
 use Rattle.ilranges.specs.Knowns.{IsKnown, IsKnownWithin}
 use Rattle.ilranges.specs.Refusals as refusals
 use Rattle.ilranges.specs.Rules as rules
@@ -216,8 +216,8 @@ kept_before code place entry wider (words.Apply operator operand) after i g caus
 kept_before code place entry wider (words.Transform function) after i g cause a =
     transform_kept function entry.result wider.result g.known i.result g.given cause a
 kept_before code place entry wider (words.Store negated variable) after i g cause a =
-    store_kept negated entry.result wider.result (type_of_variable code variable) (may_write code place variable)
-    g.1.stored i.result g.0 g.1.written cause a
+    store_kept negated entry.result wider.result (type_of_variable code variable)
+    (may_store negated code place variable) g.1.stored i.result g.0 g.1.written cause a
 kept_before code place entry wider (words.Set variable) after i g cause a =
     set_kept entry.result wider.result (type_of_variable code variable) (may_set code place variable) i.result g.0
     g.1 cause a

@@ -24,7 +24,7 @@ use Rattle.ilranges.specs.declared.entry.Entry.{Entry}
 use Rattle.ilranges.specs.declared.known.Known.{Known}
 use Rattle.ilranges.specs.declared.known.Known.TheVariants as knowns
 use Rattle.ilranges.specs.declared.nesting.KnownOpened.{KnownOpened}
-use Rattle.ilranges.specs.Operands.{known_of, type_of_variable, in_programs, may_name, may_set, may_write}
+use Rattle.ilranges.specs.Operands.{known_of, type_of_variable, in_programs, may_name, may_set, may_store, may_write}
 use Rattle.ilranges.specs.Functions.{IsAfterFunction}
 use Rattle.ilranges.specs.Knowns.{IsKnown}
 use Rattle.ilranges.specs.Refusals as refusals
@@ -209,8 +209,8 @@ lawful_before code place entry (words.Apply operator operand) after h cause a =
 lawful_before code place entry (words.Transform function) after h cause a =
     transformed_lawful function entry.result h.known h.given cause a
 lawful_before code place entry (words.Store negated variable) after h cause a =
-    stored_lawful negated entry.result (type_of_variable code variable) (may_write code place variable) h.1.stored
-    h.0 h.1.written cause a
+    stored_lawful negated entry.result (type_of_variable code variable) (may_store negated code place variable)
+    h.1.stored h.0 h.1.written cause a
 lawful_before code place entry (words.Set variable) after h cause a =
     set_lawful entry.result (type_of_variable code variable) (may_set code place variable) h.0 h.1 cause a
 lawful_before code place entry (words.Reset variable) after h cause a =

@@ -28,7 +28,8 @@ use Rattle.ilranges.specs.declared.entry.Entry.{Entry}
 use Rattle.ilranges.specs.declared.known.Known.{Known}
 use Rattle.ilranges.specs.declared.known.Known.TheVariants as knowns
 use Rattle.ilranges.specs.declared.mark.ResultMark.{ResultMark}
-use Rattle.ilranges.specs.Operands.{known_of, type_of_variable, is_own, is_input, is_before, may_set, may_write}
+use Rattle.ilranges.specs.Operands.{known_of, type_of_variable, is_own, is_input, is_before}
+use Rattle.ilranges.specs.Operands.{may_set, may_store, may_write}
 use Rattle.ilranges.specs.Fits.{IsResultKnown, Fits}
 use Rattle.ilranges.specs.Knowns.{IsKnown}
 use Rattle.ilranges.specs.Marks.{IsMarked}
@@ -207,15 +208,33 @@ on_value code after c variable value v e l =
     (λ (x : Option Value). Leaves code c (with_store c (option_and_then (stored_at code c.store variable) x)) after)
     (sym e) l
 
+-- what may be set or stored may be written
+or_left : (a b : Bool) → IsTrue a → IsTrue (a || b)
+or_left true b h = refl
+or_left false b h = absurd (cc)
+
+may_write_set : (code : Listing) (place : ℕ) (variable : Target) → IsTrue (may_set code place variable)
+    → IsTrue (may_write code place variable)
+may_write_set code place (variables.Slot slot) h =
+    or_left (is_own code (body_at code place) slot)
+    (is_before code (body_at code place) slot && list_any (is_input slot) code.functions) h
+may_write_set code place (variables.Port port block) h = h
+
+may_write_stored : (negated : Bool) (code : Listing) (place : ℕ) (variable : Target)
+    → IsTrue (may_store negated code place variable) → IsTrue (may_write code place variable)
+may_write_stored false code place variable h = h
+may_write_stored true code place variable h = may_write_set code place variable h
+
 pub writes : (code : Listing) (entry after : Entry) (c : Configuration) (variable : Target) (negated : Bool)
-    → Fits code entry c → IsTrue (may_write code c.place variable)
+    → Fits code entry c → IsTrue (may_store negated code c.place variable)
     → Writes entry variable (IsStored negated entry.result (type_of_variable code variable)) after
     → Leaves code c (effect code c (words.Store negated variable)) after
 writes code entry after c variable negated f w g =
     let h = stored_has code variable negated c.result entry.result (type_of_variable code variable) g.stored refl
     f.result g.written in
     on_value code after c variable _ h.v h.is
-    (writes_value code entry after c variable negated h.v h.type g.stored f w h.declared h.of h.lies h.is g.is)
+    (writes_value code entry after c variable negated h.v h.type g.stored f
+    (may_write_stored negated code c.place variable w) h.declared h.of h.lies h.is g.is)
 
 -- ---- arguments, GIVE and calls of blocks
 
@@ -326,18 +345,6 @@ sets_by code entry after c (variables.Slot slot) truth true outcome f w r e p =
     (truth_marked c.store.slots code.slots c.result entry.mark slot truth outcome f.typed.slots e r f.mark) p
 sets_by code entry after c (variables.Port port block) truth true outcome f w r e p =
     port_leaves code entry after c block port (values.Bool truth) types.Bool entry.mark f w e tt f.mark p
-
--- what may be set may be written
-or_left : (a b : Bool) → IsTrue a → IsTrue (a || b)
-or_left true b h = refl
-or_left false b h = absurd (cc)
-
-may_write_set : (code : Listing) (place : ℕ) (variable : Target) → IsTrue (may_set code place variable)
-    → IsTrue (may_write code place variable)
-may_write_set code place (variables.Slot slot) h =
-    or_left (is_own code (body_at code place) slot)
-    (is_before code (body_at code place) slot && list_any (is_input slot) code.functions) h
-may_write_set code place (variables.Port port block) h = h
 
 pub sets_all : (code : Listing) (entry after : Entry) (c : Configuration) (variable : Target) (truth : Bool)
     → Fits code entry c → IsTrue (may_set code c.place variable)

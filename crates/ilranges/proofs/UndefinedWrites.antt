@@ -29,7 +29,7 @@ use Rattle.ilranges.specs.declared.known.Known.TheVariants as knowns
 use Rattle.ilranges.specs.CauseLaws.{IsUndefined, IsTyped, IsOfStep, IsOthers, NamesOthers, IsWrong}
 use Rattle.ilranges.specs.Fits.{IsResultKnown}
 use Rattle.ilranges.specs.Knowns.{ArisesAtStore}
-use Rattle.ilranges.specs.Operands.{known_of, type_of_variable, in_programs, may_name, may_set, may_write}
+use Rattle.ilranges.specs.Operands.{known_of, type_of_variable, in_programs, may_name, may_set, may_store, may_write}
 use Rattle.ilranges.specs.Refusals.{MayBe, MayTake, IsWrongForStore, IsWrongForSet, IsNotNamed}
 use Rattle.ilranges.specs.Refusals.{IsNotWritten, IsOutOfSlot}
 use Rattle.ilranges.specs.Refusals.{ArisesAtWord}
@@ -187,15 +187,23 @@ never_stored code place entry negated variable t h =
     store_by code place entry negated variable result t (result_known entry.result)
     (through (stored_at code (base code entry) variable) (option_and_then (modified negated) result) (λ x e. h x))
 
+-- of an input of a block ST and STN are the same
+port_unwritten : (negated : Bool) (code : Listing) (place port block : ℕ)
+    → ¬ IsTrue (may_store negated code place (variables.Port port block))
+    → ¬ IsTrue (may_write code place (variables.Port port block))
+port_unwritten false code place port block may = may
+port_unwritten true code place port block may = may
+
 store_unwritten : (code : Listing) (place : ℕ) (entry : Entry) (negated : Bool) (variable : Target) → IsTyped code entry
-    → IsNotWritten (type_of_variable code variable) (may_write code place variable)
+    → IsNotWritten (type_of_variable code variable) (may_store negated code place variable)
     → IsUndefined code place entry (words.Store negated variable)
-    ⊎ IsOthers (may_write code place variable) code place variable
+    ⊎ IsOthers (may_store negated code place variable) code place variable
 store_unwritten code place entry negated variable t (inl none) =
     inl (never_stored code place entry negated variable t (λ x. no_variable code (base code entry) variable x none))
 store_unwritten code place entry negated (variables.Slot slot) t (inr may) = inr may
 store_unwritten code place entry negated (variables.Port port block) t (inr may) =
-    elim (by_programs (in_programs code place) (is_some (type_of_input (shape_of code) block port)) may) [
+    elim (by_programs (in_programs code place) (is_some (type_of_input (shape_of code) block port))
+    (port_unwritten negated code place port block may)) [
       | inl programs ↦ inr programs
       | inr input ↦
           inl (never_stored code place entry negated (variables.Port port block) t

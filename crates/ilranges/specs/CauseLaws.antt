@@ -13,7 +13,7 @@ use Rattle.ilranges.specs.declared.cause.Cause.TheVariants as causes
 use Rattle.ilranges.specs.declared.entry.Entry.{Entry}
 use Rattle.ilranges.specs.Fits.{Fits}
 use Rattle.ilranges.specs.Knowns.{known_of_type, IsKnownWithin}
-use Rattle.ilranges.specs.Operands.{in_programs, may_name, may_set, may_write}
+use Rattle.ilranges.specs.Operands.{in_programs, may_name, may_set, may_store, may_write}
 use Rattle.ilranges.specs.Refusals.{ArisesAtWord}
 
 -- before the word at the place a run may stand as the entry says, its mark aside, and the word is undefined there
@@ -45,7 +45,8 @@ IsOthers may code place (variables.Port port block) = ¬ IsTrue (in_programs cod
 abbrev pub NamesOthers : Listing → ℕ → Word → Type 0
 NamesOthers code place (words.Load negated operand) = ¬ IsTrue (may_name code place operand)
 NamesOthers code place (words.Apply operator operand) = ¬ IsTrue (may_name code place operand)
-NamesOthers code place (words.Store negated variable) = IsOthers (may_write code place variable) code place variable
+NamesOthers code place (words.Store negated variable) =
+    IsOthers (may_store negated code place variable) code place variable
 NamesOthers code place (words.Set variable) = IsOthers (may_set code place variable) code place variable
 NamesOthers code place (words.Reset variable) = IsOthers (may_set code place variable) code place variable
 NamesOthers code place (words.Pass port block operand) =

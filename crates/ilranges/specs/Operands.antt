@@ -58,7 +58,7 @@ abbrev pub is_writable : Listing → ℕ → ℕ → Bool
 is_writable code body slot =
     is_own code body slot || (is_before code body slot && list_any (is_input slot) code.functions)
 
--- whether a store or GIVE at the place may write it: a variable of these, or in the programs an input of a block
+-- whether ST or GIVE at the place may write it: a variable of these, or in the programs an input of a block
 abbrev pub may_write : Listing → ℕ → Target → Bool
 may_write code place (variables.Slot slot) = is_writable code (body_at code place) slot
 may_write code place (variables.Port port block) =
@@ -68,3 +68,8 @@ may_write code place (variables.Port port block) =
 abbrev pub may_set : Listing → ℕ → Target → Bool
 may_set code place (variables.Slot slot) = is_own code (body_at code place) slot
 may_set code place (variables.Port port block) = may_write code place (variables.Port port block)
+
+-- whether ST, or STN where it negates, may write it: only ST gives an input of a function its value
+abbrev pub may_store : Bool → Listing → ℕ → Target → Bool
+may_store false code place variable = may_write code place variable
+may_store true code place variable = may_set code place variable

@@ -23,7 +23,7 @@ use Rattle.ilranges.specs.declared.cause.Cause.TheVariants as causes
 use Rattle.ilranges.specs.declared.entry.Entry.{Entry}
 use Rattle.ilranges.specs.declared.known.Known.{Known}
 use Rattle.ilranges.specs.declared.nesting.KnownOpened.{KnownOpened}
-use Rattle.ilranges.specs.Operands.{known_of, type_of_variable, in_programs, may_name, may_set, may_write}
+use Rattle.ilranges.specs.Operands.{known_of, type_of_variable, in_programs, may_name, may_set, may_store, may_write}
 use Rattle.ilranges.specs.Functions.{ArisesAtFunction}
 use Rattle.ilranges.specs.Knowns.{IsOfKind, known_of_type, ArisesAtStore}
 use Rattle.ilranges.specs.Results.{Arises}
@@ -167,7 +167,7 @@ ArisesBeforeNesting code place entry (words.Apply operator operand) cause =
     ArisesAtApply operator entry.result (known_of code entry operand) (may_name code place operand) cause
 ArisesBeforeNesting code place entry (words.Transform function) cause = ArisesAtTransform function entry.result cause
 ArisesBeforeNesting code place entry (words.Store negated variable) cause =
-    ArisesAtStoring negated entry.result (type_of_variable code variable) (may_write code place variable) cause
+    ArisesAtStoring negated entry.result (type_of_variable code variable) (may_store negated code place variable) cause
 ArisesBeforeNesting code place entry (words.Set variable) cause =
     ArisesAtSet entry.result (type_of_variable code variable) (may_set code place variable) cause
 ArisesBeforeNesting code place entry (words.Reset variable) cause =

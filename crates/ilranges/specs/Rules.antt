@@ -26,7 +26,7 @@ use Rattle.ilranges.specs.declared.mark.ResultMark.{ResultMark}
 use Rattle.ilranges.specs.declared.mark.ResultMark.TheVariants.{Test}
 use Rattle.ilranges.specs.declared.nesting.KnownOpened.{KnownOpened}
 use Rattle.ilranges.specs.Operands.{known_of, known_of_result, type_of_variable, in_programs}
-use Rattle.ilranges.specs.Operands.{may_name, may_set, may_write}
+use Rattle.ilranges.specs.Operands.{may_name, may_set, may_store, may_write}
 use Rattle.ilranges.specs.Functions.{IsAfterFunction}
 use Rattle.ilranges.specs.Knowns.{IsKnown, known_of_type}
 use Rattle.ilranges.specs.Marks.{mark_of_load, mark_of_apply, mark_of_function, constant_of}
@@ -153,7 +153,7 @@ IsEntryAfter code place entry (words.Apply operator operand) after =
 IsEntryAfter code place entry (words.Transform function) after =
     Gives entry entry.nesting (λ _. mark_of_function entry.mark function) (IsTransformed function entry.result) after
 IsEntryAfter code place entry (words.Store negated variable) after =
-    IsTrue (may_write code place variable)
+    IsTrue (may_store negated code place variable)
     × Writes entry variable (IsStored negated entry.result (type_of_variable code variable)) after
 IsEntryAfter code place entry (words.Set variable) after =
     IsTrue (may_set code place variable) × MaySet entry.result (type_of_variable code variable) × (after ≡ entry)

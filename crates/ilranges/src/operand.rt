@@ -5,7 +5,7 @@ ghost use Rattle.std.specs.List.{list_any};
 ghost use Rattle.ilblocks.specs.Stores.{type_of_port, type_of_input};
 ghost use Rattle.ilcode.specs.Listings.{shape_of, body_at, slots_start};
 ghost use Rattle.ilranges.specs.Operands.{known_of, known_of_result, type_of_variable};
-ghost use Rattle.ilranges.specs.Operands.{may_name, may_set, may_write};
+ghost use Rattle.ilranges.specs.Operands.{may_name, may_set, may_store, may_write};
 ghost use Rattle.ilranges.specs.Operands.{is_own, is_input, is_before, is_writable};
 
 use crate::entry::Entry;
@@ -154,5 +154,24 @@ pub(crate) fn may_set(code: &Code, place: usize, body: usize, variable: Target) 
     match variable {
         Target::Slot(slot) => is_own(code, body, usize::from(slot)),
         Target::Port { .. } => may_write(code, place, body, variable),
+    }
+}
+
+/// Whether ST, or where it negates STN, at the place, which is one of the body, may write it: an
+/// input of a function is given a value as it is.
+pub(crate) fn may_store(
+    code: &Code,
+    place: usize,
+    body: usize,
+    negated: bool,
+    variable: Target,
+) -> bool
+    requires { body ≡ body_at code.now place }
+    ensures { result ≡ may_store negated code.now place variable }
+{
+    if negated {
+        may_set(code, place, body, variable)
+    } else {
+        may_write(code, place, body, variable)
     }
 }

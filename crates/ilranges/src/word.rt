@@ -22,7 +22,7 @@ use crate::jump::{check_jump, jump};
 use crate::known::Known;
 use crate::marks::{constant_of, mark_of_apply, mark_of_function, mark_of_load};
 use crate::nesting::KnownOpened;
-use crate::operand::{known_of, may_name, may_set, may_write, type_of_variable};
+use crate::operand::{known_of, may_name, may_set, may_store, may_write, type_of_variable};
 use crate::rules;
 use ilcode::{Code, Target, Word};
 use iltypes::Operator;
@@ -65,7 +65,7 @@ fn judge(code: &Code, place: usize, entry: &Entry, word: Word) -> Result<Changes
         }
         Word::Store { negated, variable } => {
             let declared = type_of_variable(code, variable);
-            let writable = may_write(code, place, body, variable);
+            let writable = may_store(code, place, body, negated, variable);
             let stored = rules::store(negated, entry.result, declared, writable)?;
             Ok(onward(write(variable, stored)))
         }
