@@ -1,6 +1,6 @@
 //! Transactions on a bus of another kind than the simulated one, in a box, and the moments of a
 //! clock in a box. What is sent is printed nowhere with its priority, so it is compared here.
-ghost use Rattle.std.specs.Prelude.{◌≡◌, ◌+◌, ◌≤◌, [], None, false};
+ghost use Rattle.std.specs.Prelude.{◌≡◌, ◌+◌, ◌≤◌, [], None};
 ghost use Rattle.arrayvec.specs.ArrayVec.{array_vec_len};
 
 use arrayvec::ArrayVec;
@@ -34,6 +34,8 @@ struct ScriptedBus {
     failures: u64,
     hears: u64,
     heard_none: bool,
+    mends: u64,
+    is_mended: bool,
     ghost fits: { array_vec_len sent + spare ≤ 15 },
 }
 
@@ -46,6 +48,8 @@ impl ScriptedBus {
             failures: 0,
             hears: 0,
             heard_none: false,
+            mends: 0,
+            is_mended: false,
         }
     }
 
@@ -72,8 +76,8 @@ impl Bus for ScriptedBus {
       failures = b.failures;
       hears = b.hears;
       heard_none = b.heard_none;
-      mends = 0;
-      is_mended = false;
+      mends = b.mends;
+      is_mended = b.is_mended;
     } };
 
     fn room(&mut self, frames: usize) -> Result<(), AllocError> {
@@ -119,11 +123,13 @@ impl Bus for ScriptedBus {
     }
 
     fn mend(&mut self) -> bool {
+        self.is_mended = false;
         false
     }
 
     fn resume(&mut self) {
-        unreachable!()
+        self.mends = self.mends.wrapping_add(1);
+        self.is_mended = false;
     }
 }
 
