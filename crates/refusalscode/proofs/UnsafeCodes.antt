@@ -62,7 +62,7 @@ pub given_wrong : GoesWrong given_after_a_test
 given_wrong =
     record {
       store = store (pos 0) false;
-      typed = typed_0;
+      typed = record { slots = (record { low = record { le = tt }; high = record { le = tt } }, (tt, tt)); blocks = tt; requests = λ k r h. grind (arith, common_steps) };
       steps = 5;
       to = at 5 (store (pos 200) false) (Some (values.Int (pos 200))) [] [];
       runs = refl;

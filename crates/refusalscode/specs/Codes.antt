@@ -94,17 +94,18 @@ abbrev pub loaded_after_a_test : Listing
 loaded_after_a_test =
     code_of slots (load_level ∷ test ∷ load_truth ∷ words.Jump IfFalse 6 ∷ load_level ∷ convert ∷ []) []
 
--- the level is tested, then 200 is given to it, and it is converted where the test holds
+-- The level is tested, then 200 is given to it, and it is converted where the test holds. The code is for 17 buses,
+-- since one for fewer buses gives no value unless it has a function.
 abbrev pub given_after_a_test : Listing
 given_after_a_test =
-    code_of slots
+    record (code_of slots
     (load_level
     ∷ test
     ∷ words.Give (operands.Constant 2) 0
     ∷ words.Jump IfFalse 6
     ∷ load_level
     ∷ convert
-    ∷ []) []
+    ∷ []) []) { buses = 17 }
 
 -- a function whose only word closes a parenthesis that is not open
 abbrev pub bad_function : Listing
