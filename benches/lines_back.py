@@ -1,7 +1,9 @@
 """Checks of benches/lines: a line that fails, and comes back, while the other bus goes on undisturbed."""
 
+import concurrent.futures
 import contextlib
 import itertools
+import multiprocessing
 import os
 import statistics
 import subprocess
@@ -94,6 +96,7 @@ class Neighbour:
         while not os.path.exists(self.log):
             time.sleep(0.005)
         self.begun = time.monotonic()
+        self.file, self.known, self.left = open(self.log), [], ""
         while not os.path.exists(self.path) and "--start-after" not in words:
             time.sleep(0.005)
 
@@ -103,14 +106,16 @@ class Neighbour:
     def __exit__(self, *_):
         self.process.kill()
         self.process.wait()
+        self.file.close()
         if os.path.islink(self.path):
             os.unlink(self.path)
 
     def lines(self):
-        """Each line of the log: when, `<`, `>` or `!`, and the text."""
-        with open(self.log) as file:
-            words = [text.rstrip("\n").split(" ", 2) for text in file if text.endswith("\n")]
-        return [(self.begun + float(when), way, text) for when, way, text in words]
+        """Each line of the log: when, `<`, `>` or `!`, and the text. What was read before is not read again."""
+        *whole, self.left = (self.left + self.file.read()).split("\n")
+        words = [text.split(" ", 2) for text in whole]
+        self.known += [(self.begun + float(when), way, text) for when, way, text in words]
+        return self.known
 
     def frames(self):
         """When the gear was sent which 16-bit frame, and None for a greeting."""
@@ -123,6 +128,18 @@ class Neighbour:
     def well_again(self):
         """When the line was well again after each of its troubles."""
         return [when + float(text.split()[1]) for when, way, text in self.lines() if way == "!"]
+
+    def is_back(self, case, presser):
+        """Whether the line had all troubles of this case, and after the last one all lamps have their levels again."""
+        times = self.times_of(case)
+        return len(times) >= case.troubles and self.back_at(times[-1], presser) is not None
+
+    def times_of(self, case):
+        """When the line was well again after each trouble of this case; where it was not there at the start, when it came."""
+        if case.words[0] != "--start-after":
+            return self.well_again()
+        came = self.begun + float(case.words[1])
+        return [came] if time.monotonic() > came else []
 
     def back_at(self, begun, presser):
         """When all lamps had their levels again, sent since a greeting after this moment, or None."""
@@ -146,12 +163,13 @@ class Neighbour:
 
 
 class Case:
-    """What bus 1 does, how long it takes, and what is to come of it."""
+    """What bus 1 does, with so many troubles after which it comes back, or for so many seconds; and what is to come of it.
+    A line that `speaks_on` once the end was asked for is let go of then. Where it `is_busy` it takes two processors."""
 
-    def __init__(self, name, words, seconds, comes_back=True, ends_up=True, back=BACK):
-        self.name, self.words, self.seconds = name, words, seconds
-        self.comes_back, self.ends_up, self.back = comes_back, ends_up, back
-        self.is_long = seconds > 1000
+    def __init__(self, name, words, troubles=0, seconds=0.0, ends_up=True, speaks_on=False, back=BACK, is_busy=False):
+        self.name, self.words, self.troubles, self.seconds = name, words, troubles, seconds
+        self.ends_up, self.speaks_on, self.back, self.is_busy = ends_up and not speaks_on, speaks_on, back, is_busy
+        self.is_long = words[:1] == ["--start-after"] and float(words[1]) > 1000
 
 
 def cases(bench):
@@ -159,18 +177,18 @@ def cases(bench):
     times = 50 if bench.is_full else 5
     absent = 3600.0 if bench.is_long else 60.0 if bench.is_full else 4.0
     return [
-        Case("is well", [], 2, comes_back=False),
-        Case("falls silent", ["--silent-at", "100:3"], 7),
-        Case("answers late", ["--silent-at", "100:1.2"], 6),
-        Case("gives half a line", ["--half-at", "100"], 7),
-        Case("says fault", ["--fault-once", "100"], 4),
-        Case("talks without end", ["--babble-at", "100:0.5"], 24, back=20.0),
-        Case("echoes", ["--echo"], 6, comes_back=False, ends_up=False),
-        Case("floods", ["--flood"], 4, comes_back=False),
-        Case("is unplugged", ["--unplug-at", "100:3"], 9),
-        Case(f"is unplugged {times} times", ["--unplug-at", "100:0.2"] * times, 3 * times + 4),
-        Case("is not there at the start", ["--start-after", str(absent)], absent + 4),
-        Case("speaks version 1, and falls silent", ["--version-1", "--silent-at", "100:3"], 9),
+        Case("is well", [], seconds=2),
+        Case("falls silent", ["--silent-at", "100:3"], 1),
+        Case("answers late", ["--silent-at", "100:1.2"], 1),
+        Case("gives half a line", ["--half-at", "100"], 1),
+        Case("says fault", ["--fault-once", "100"], 1),
+        Case("talks without end", ["--babble-at", "100:0.5"], 1, back=20.0, is_busy=True),
+        Case("echoes", ["--echo"], seconds=6, ends_up=False),
+        Case("floods", ["--flood"], seconds=4, speaks_on=True, is_busy=True),
+        Case("is unplugged", ["--unplug-at", "100:3"], 1),
+        Case(f"is unplugged {times} times", ["--unplug-at", "100:0.2"] * times, times),
+        Case("is not there at the start", ["--start-after", str(absent)], 1),
+        Case("speaks version 1, and falls silent", ["--version-1", "--silent-at", "100:3"], 1),
     ]
 
 
@@ -179,19 +197,38 @@ def judge_back(bench):
     found = Found()
     bench.beside_well = []
     for case in cases(bench):
-        otherwise, took = Found(), []
-        for _ in range(1 if case.is_long else bench.back_runs):
-            more, times = judge_case(bench, case)
+        otherwise, took, back = Found(), [], []
+        for more, presses, returns in judge_runs(bench, case):
             otherwise += more
-            took += times
+            took += presses
+            back += returns
         bench.beside_well = took if case.name == "is well" else bench.beside_well
         judge_times(otherwise, took, bench.beside_well)
-        if took:
-            value = f"median {statistics.median(took) * 1000:.1f}, worst {max(took) * 1000:.1f} ms"
-            bench.row(f"bus 1 {case.name}: bus 0, {len(took)} presses", value, "under 20 ms")
+        tell_times(bench, case, took, back)
         print(f"  bus 1 {case.name}: {'otherwise' if otherwise else 'ok'}", flush=True)
         found.extend(f"bus 1 {case.name}: {one}" for one in otherwise)
     return found
+
+
+def judge_runs(bench, case):
+    """What came of each run of a case. In full some run beside each other, each in a process and a folder of its own."""
+    runs = 1 if case.is_long else bench.back_runs
+    at_once = min(runs, bench.back_at_once // (2 if case.is_busy else 1))
+    if at_once <= 1:
+        return [judge_case(bench, case) for _ in range(runs)]
+    fork = multiprocessing.get_context("fork")
+    with concurrent.futures.ProcessPoolExecutor(at_once, mp_context=fork) as pool:
+        return list(pool.map(judge_case, [bench.apart() for _ in range(runs)], [case] * runs))
+
+
+def tell_times(bench, case, took, back):
+    """The rows of a case: how long presses took on bus 0, and until the lamps of bus 1 were right again."""
+    if took:
+        value = f"median {statistics.median(took) * 1000:.1f}, worst {max(took) * 1000:.1f} ms"
+        bench.row(f"bus 1 {case.name}: bus 0, {len(took)} presses", value, "under 20 ms")
+    if back:
+        what = f"bus 1 {case.name}: until its lamps are right, {len(back)} times"
+        bench.row(what, f"worst {max(back):.1f} s", f"under {case.back:.0f} s")
 
 
 def judge_times(found, took, well):
@@ -207,34 +244,60 @@ def judge_times(found, took, well):
 
 
 def judge_case(bench, case):
-    """What was otherwise in one run, and how long each press took on bus 0."""
-    found = Found()
+    """What was otherwise in one run, how long each press took on bus 0, and each return of bus 1."""
+    found, back = Found(), []
     presser = Presser((0.2, 0.6) if case.is_long else (0.005, 0.040))
     port = Pty(bench.folder, presser)
     log = f"{bench.folder}/log{next(NUMBERS)}"
     # Where one run follows another all buses wait, which is no trouble of bus 1.
-    words = ["--patience", str(PATIENCE), "--log", log, "--limit", "1000000"]
+    words = ["--patience", str(PATIENCE), "--log", log, "--log-size", "4000000000", "--limit", "300000"]
     with Neighbour(bench.folder, *case.words) as neighbour, Attended(port) as attended:
         with bench.live(TWO, BIND, [port.word(), neighbour.path], *words) as live:
-            time.sleep(case.seconds)
-            bench.eventually(lambda: len(presser.from_event) >= bench.back_presses, 120)
+            wait_for(bench, case, presser, neighbour)
             presser.is_on = False
             time.sleep(0.5)
             found.same("status before the end was asked for", live.process.poll(), None)
-            status, ended = live.end(), time.monotonic()
+            asked = time.monotonic()
+            status = live.end()
             said = found.ended(live, status, 0 if case.ends_up or status == 0 else 3)
         found.hold(attended.fault is None, f"the interface of bus 0: {attended.fault}")
         judge_presses(found, said, presser)
-        judge_timer(found, said, ended - (presser.greeted or ended))
-        downs = judge_log(found, log, case)
-        if case.ends_up:
+        with open(log) as file:
+            events = Events(file)
+        judge_timer(found, said, events, asked - (presser.greeted or asked))
+        judge_log(found, events, case)
+        if case.ends_up or case.speaks_on:
             values = {FAR: said.values.get("far"), SIGN: "120", GROUP: "254"}
             found.same("the levels of bus 1", {at: str(level) for at, level in neighbour.last_levels().items()}, values)
-        if case.comes_back:
-            troubles = judge_return(bench, found, neighbour, presser, ended, case)
-            found.same("times that bus 1 went down", downs, troubles)
+        if case.troubles:
+            back = judge_return(found, neighbour, presser, case)
     port.close()
-    return found, presser.from_event
+    return found, presser.from_event, back
+
+
+def wait_for(bench, case, presser, neighbour):
+    """Until there were enough presses, and bus 1 had its troubles and is back."""
+    time.sleep(case.seconds)
+    bench.eventually(lambda: len(presser.from_event) >= bench.back_presses, 120)
+    if case.troubles:
+        absent = float(case.words[1]) if case.words[0] == "--start-after" else 0.0
+        most = absent + case.troubles * (2 * case.back + 10)
+        bench.eventually(lambda: neighbour.is_back(case, presser), most, pause=0.25)
+
+
+class Events:
+    """What an event log says: the moments of the scans of the task `clock`, and which buses went down or came up, in all and
+    before the last of these scans."""
+
+    def __init__(self, lines):
+        self.scans, self.turns, self.early_turns = [], [], []
+        for text in lines:
+            words = text.split()
+            if words[3:5] == ["take", "clock"]:
+                self.scans.append(int(words[1]))
+                self.early_turns = self.turns[:]
+            elif words[3:5] in (["!", "down"], ["!", "up"]):
+                self.turns.append(" ".join(words[4:]))
 
 
 def judge_presses(found, said, presser):
@@ -247,41 +310,39 @@ def judge_presses(found, said, presser):
     found.counts(said, 0, presser)
 
 
-def judge_timer(found, said, seconds):
-    """The timer ran from the start to the end: it began some time after the greeting of bus 0, which waits for bus 1."""
-    elapsed = int(said.values.get("elapsed", "0")) / 1000
-    found.hold(seconds - 2.5 < elapsed < seconds + 0.5, f"the timer ran {elapsed:.1f} s of {seconds:.1f}")
+def judge_timer(found, said, events, seconds):
+    """The timer ran from the first scan of its task to the last one, and these go on until the end was asked for, so many
+    seconds after bus 0 greeted. The clock begins at the greeting at the soonest, and a second later at the latest."""
+    first, last = events.scans[:1] or [0], events.scans[-1:] or [0]
+    found.same("the timer ran, in ms", said.values.get("elapsed"), str(last[0] - first[0]))
+    ran = last[0] / 1000
+    found.hold(seconds - 2.5 < ran < seconds + 0.5, f"the last scan is at {ran:.1f} s of {seconds:.1f}")
 
 
-def judge_log(found, log, case):
-    """Bus 1 alone goes down, and up again after each time, but for the last where it ends down. Gives how often."""
-    with open(log) as file:
-        events = [text.split(" ! ")[1].strip() for text in file if " ! down" in text or " ! up" in text]
-    found.same("buses that went down or up", {text.split()[-1] for text in events} - {"1"}, set())
-    wanted = list(itertools.islice(itertools.cycle(["down bus 1", "up bus 1"]), len(events)))
-    found.same("downs and ups in turn", events, wanted)
+def judge_log(found, events, case):
+    """Bus 1 alone goes down, and up again after each time, but for the last where it ends down; once for each trouble."""
+    turns = events.turns
+    found.same("buses that went down or up", {text.split()[-1] for text in turns} - {"1"}, set())
+    wanted = list(itertools.islice(itertools.cycle(["down bus 1", "up bus 1"]), len(turns)))
+    found.same("downs and ups in turn", turns, wanted)
     if case.ends_up:
-        found.same("the last one", events[-1:], ["up bus 1"] if events else [])
-    return events.count("down bus 1")
+        found.same("the last one", turns[-1:], ["up bus 1"] if turns else [])
+    if case.speaks_on:
+        found.same("downs before the end, and at it", (events.early_turns, turns), ([], ["down bus 1"]))
+    if case.troubles:
+        found.same("times that bus 1 went down", turns.count("down bus 1"), case.troubles)
 
 
-def judge_return(bench, found, neighbour, presser, ended, case):
-    """After each trouble all lamps of bus 1 have their levels in time. Gives how many it had."""
-    absent = case.words[0] == "--start-after"
-    times = [neighbour.begun + float(case.words[1])] if absent else neighbour.well_again()
-    found.hold(times, "bus 1 had no trouble")
-    took = []
-    for well in times:
-        back = neighbour.back_at(well, presser)
-        found.hold(back or ended < well + case.back, "the lamps of bus 1 did not get their levels again")
-        took += [back - well] if back else []
-    patience = PATIENCE / 1000 if "--half-at" in case.words else 0
-    if took:
-        worst = max(took)
-        found.hold(worst <= case.back + patience, f"the lamps of bus 1 had their levels after {worst:.1f} s")
-        wanted = f"under {case.back:.0f} s"
-        bench.row(f"bus 1 {case.name}: until its lamps are right, {len(took)} times", f"worst {worst:.1f} s", wanted)
-    return len(times)
+def judge_return(found, neighbour, presser, case):
+    """After each trouble all lamps of bus 1 have their levels in time. Gives how long each took."""
+    times = neighbour.times_of(case)
+    found.same("troubles of bus 1", len(times), case.troubles)
+    back = [neighbour.back_at(well, presser) for well in times]
+    found.hold(None not in back, "the lamps of bus 1 did not get their levels again")
+    took = [then - well for then, well in zip(back, times) if then is not None]
+    most = case.back + (PATIENCE / 1000 if "--half-at" in case.words else 0)
+    found.hold(max(took, default=0) <= most, f"the lamps of bus 1 had their levels after {max(took, default=0):.1f} s")
+    return took
 
 
 def judge_silent(bench):
@@ -326,7 +387,7 @@ def judge_absent(bench):
         with Attended(port):
             found.hold(bench.eventually(lambda: has("bus 0 up"), 5), "bus 0 does not come up")
             found.hold(has("bus 1 down"), "the status does not say that bus 1 is down")
-            found.counts(found.ended(live, live.end(), 3), 0, house)
+            found.counts(found.ended(live, live.end(), 3), 0, house, unsaid=1)
         port.close()
     os.unlink(paths[0])
     return found
