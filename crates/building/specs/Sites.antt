@@ -1,5 +1,5 @@
 -- Buses and a clock that were just made: nothing became of them yet.
-use Rattle.std.specs.Prelude.{◌≡◌, ◌^◌, ◌-◌, ◌*◌, ℕ, [], List, Option, Some, None, length, max}
+use Rattle.std.specs.Prelude.{◌≡◌, ◌^◌, ◌-◌, ◌*◌, ℕ, [], List, Option, Some, None, length, max, option_map}
 use Rattle.buslink.specs.BusLog.{BusLog}
 use Rattle.buslink.specs.ClockLog.{ClockLog}
 use Rattle.buslink.specs.Each.{Each}
@@ -16,6 +16,10 @@ pub record IsNewBus (bus : ℕ) (log : BusLog) : Type 0 where
   pub heard : log.heard ≡ []
   pub failures : log.failures ≡ 0
   pub mends : log.mends ≡ 0
+
+-- these are the paths of the word: the one that is read, and the one that is written where that is another one
+abbrev pub ArePathsOf : LineWord → List ℕ → Option (List ℕ) → Type 0
+ArePathsOf word from to = (from ≡ word.from.now) × (to ≡ option_map (λ path. path.now) word.to)
 
 -- a clock that gave no moment
 pub record IsNewClock (log : ClockLog) : Type 0 where

@@ -1,6 +1,7 @@
 //! The devices and the clock of the machine.
 
-ghost use Rattle.std.specs.Prelude.{◌≡◌, ⊤};
+ghost use Rattle.std.specs.Prelude.{◌≡◌, ⊤, IfOk, option_map, string_bytes};
+ghost use Rattle.building.specs.Sites.{ArePathsOf};
 
 use crate::host_lines::{Devices, HostOpener, HostTeller, owned, paths_of};
 use crate::site::{Site, SiteFault};
@@ -33,7 +34,7 @@ pub struct HostSite<'h, R: Files + Wait + Timer + Drop, D: Drop> {
 }
 
 /// The bus behind a line of the machine.
-pub type HostLine<R> = MendedLine<R, <R as Files>::File, HostTeller<R>>;
+pub type HostLine<R, D> = MendedLine<R, <R as Files>::File, HostTeller<R>, HostOpener<D>>;
 
 impl<
     'h,
@@ -43,15 +44,17 @@ impl<
 where
     R::File: Send + 'static,
 {
-    type Line = HostLine<R>;
+    type Line = HostLine<R, D>;
 
     type Clock = LiveClock<&'h R, StopAt<'h, R>>;
 
     ghost refuses = { λ _ _ _. ⊤ };
 
-    ghost is_of = { λ _ _ _ _. ⊤ };
+    ghost is_of = { λ _ bus word patience. ArePathsOf word (string_bytes bus.set.opener.from)
+        (option_map string_bytes bus.set.opener.to) × (bus.set.patience ≡ patience) };
 
-    ghost is_timed = { λ _ clock _ until _. clock.until ≡ until };
+    ghost is_timed = { λ _ clock period until stop. (clock.period ≡ period) × (clock.until ≡ until)
+        × (option_map string_bytes clock.stop.path ≡ stop) };
 
     fn line<'a>(
         &self,
@@ -145,7 +148,10 @@ fn opener_of<D: Clone + Drop>(
     alloc: Global,
     devices: &D,
     line: LineWord,
-) -> Result<HostOpener<D>, AllocError> {
+) -> Result<HostOpener<D>, AllocError>
+    ensures { IfOk result (λ opener. ArePathsOf line.entry (string_bytes opener.from)
+        (option_map string_bytes opener.to)) }
+{
     Ok(HostOpener {
         devices: devices.clone()?,
         from: String::from_str(alloc, line.from)?,

@@ -1,6 +1,8 @@
 //! The lines of the machine: who opens them, and who tells what becomes of them. A line's thread
 //! opens by [`Devices`], since what is sent to a thread may not rest on the bound `Files` itself.
 
+ghost use Rattle.std.specs.Prelude.{◌≡◌, IfOk, IsSome, option_map, string_bytes, true};
+
 use crate::watch::DownWatch;
 use invocations::LineWord;
 use linemend::{Opener, Reason, Teller};
@@ -46,9 +48,9 @@ impl<R: Files + Drop> Devices<R::File> for HostDevices<R> {
 pub struct HostOpener<D: Drop> {
     pub(crate) devices: D,
     /// The path of the file that is read.
-    pub(crate) from: String,
+    pub from: String,
     /// The path of the one that is written, where that is another one.
-    pub(crate) to: Option<String>,
+    pub to: Option<String>,
 }
 
 impl<F: Read + Write + Drop, D: Devices<F>> Opener<F> for HostOpener<D> {
@@ -113,6 +115,8 @@ pub struct HostTeller<R: Drop> {
 }
 
 impl<R: Eprint + Drop> Teller for HostTeller<R> {
+    ghost answers = { λ teller answer. answer ≡ true → IsSome teller.watch };
+
     fn tell_down(&self, reason: &Reason) {
         if self.watch.is_some() {
             let _ = eprintln!(self.rt; "bus {} down: {}: {reason}", self.bus, self.paths);
@@ -142,7 +146,10 @@ pub(crate) fn paths_of(alloc: Global, line: LineWord) -> Result<String, AllocErr
 }
 
 /// The text as a string of its own, if there is one.
-pub(crate) fn owned(alloc: Global, text: Option<&str>) -> Result<Option<String>, AllocError> {
+pub(crate) fn owned(alloc: Global, text: Option<&str>) -> Result<Option<String>, AllocError>
+    ensures { IfOk result
+        (λ own. option_map string_bytes own ≡ option_map (λ text. text.now) text.entry) }
+{
     match text {
         Some(text) => Ok(Some(String::from_str(alloc, text)?)),
         None => Ok(None),

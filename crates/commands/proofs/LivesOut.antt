@@ -4,7 +4,7 @@ use Rattle.wordlines.specs.Wirings.{Wiring}
 use Rattle.buslink.specs.BusLog.{BusLog}
 use Rattle.buslink.specs.ClockLog.{ClockLog}
 use Rattle.ilcompile.specs.Loaded.{Loaded}
-use Rattle.keeping.specs.KeptFiles.{KeptEntry}
+use Rattle.keeping.specs.KeptFiles.{KeptEntry, KeptState}
 use Rattle.plantevents.specs.declared.event.Event.{Event}
 use Rattle.plantevents.specs.Plants.{Plant}
 use Rattle.plantevents.specs.Legal.{AreLegal}
@@ -30,12 +30,12 @@ KeptScansAreAsMeant =
     (loaded : IsKeptSetup wiring bytes kept setup) (p : Plant) (h : List Event) → p.plan ≡ setup.plan → AreLegal p h
     → AreAsMeant loaded.plan.tree wiring.buses h
 
-meant_of : (wiring : Wiring) (text : List ℕ) (kept : Option (List KeptEntry)) (setup : Loaded)
+meant_of : (wiring : Wiring) (text : List ℕ) (kept : Option KeptState) (setup : Loaded)
     (begun : IsBegunWith wiring text kept setup) (p : Plant) (h : List Event) → ScansAreAsMeant → KeptScansAreAsMeant
     → p.plan ≡ setup.plan → AreLegal p h → AreAsMeant (tree_of wiring text kept setup begun) wiring.buses h
 meant_of wiring text None setup begun p h law kept_law plan legal = law wiring text setup begun p h plan legal
 meant_of wiring text (Some kept) setup begun p h law kept_law plan legal =
-    kept_law wiring text kept setup begun p h plan legal
+    kept_law wiring text kept.values setup begun p h plan legal
 
 pub lived_out : {B C : Type 0} (binding text : List ℕ) (file : Option (List ℕ)) (bus_log : B → BusLog)
     (clock_log : C → ClockLog) (is_of : OfLine B) (is_timed : TimedAs C) (words : List LineWord)

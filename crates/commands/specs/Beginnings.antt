@@ -1,10 +1,10 @@
 -- What a building begins with: the text's setup, or the one whose global variables begin with the values that were kept
 -- (profile).
-use Rattle.std.specs.Prelude.{◌≡◌, ◌⊎◌, ℕ, List, Option, Some, None, ⊤}
+use Rattle.std.specs.Prelude.{◌≡◌, ◌≢◌, ◌⊎◌, ℕ, List, Option, Some, None, ⊤}
 use Rattle.wordlines.specs.Wirings.{Wiring}
 use Rattle.ilsource.specs.SourceTrees.{Tree}
 use Rattle.ilcompile.specs.Loaded.{Loaded}
-use Rattle.keeping.specs.KeptFiles.{IsKeptFile, KeptEntry, digest_of}
+use Rattle.keeping.specs.KeptFiles.{IsKeptFile, KeptState}
 use Rattle.keeping.specs.Faults.{IsKeptFault}
 use Rattle.keeping.specs.declared.fault.KeptFault.{KeptFault}
 use Rattle.plantload.specs.Loading.{IsSetup}
@@ -13,65 +13,64 @@ use Rattle.plantload.specs.declared.fault.LoadFault.{LoadFault}
 use Rattle.answers.specs.Connected.{IsConnected}
 use Rattle.commands.specs.declared.beginning.Beginning.{Beginning}
 use Rattle.commands.specs.declared.reading.DiskFault.{DiskFault}
-use Rattle.commands.specs.declared.reading.DiskFault.TheVariants.{Memory, Failed}
+use Rattle.commands.specs.declared.reading.DiskFault.TheVariants.{Absent}
 use Rattle.commands.specs.declared.serving.Unserved.{Unserved}
 use Rattle.commands.specs.declared.serving.Unserved.TheVariants.{NotRead, NotWritten, NotPrinted}
 
 -- the text's setup, or the one that begins with these values
-abbrev pub IsBegunWith : Wiring → List ℕ → Option (List KeptEntry) → Loaded → Type 0
+abbrev pub IsBegunWith : Wiring → List ℕ → Option KeptState → Loaded → Type 0
 IsBegunWith wiring text None setup = IsSetup wiring text setup
-IsBegunWith wiring text (Some kept) setup = IsKeptSetup wiring text kept setup
+IsBegunWith wiring text (Some kept) setup = IsKeptSetup wiring text kept.values setup
 
 -- the source program that the text spells, or the one that begins with the values
-abbrev pub tree_of : (wiring : Wiring) (text : List ℕ) (kept : Option (List KeptEntry)) (setup : Loaded)
+abbrev pub tree_of : (wiring : Wiring) (text : List ℕ) (kept : Option KeptState) (setup : Loaded)
     → IsBegunWith wiring text kept setup → Tree
 tree_of wiring text None setup begun = begun.plan.tree
 tree_of wiring text (Some kept) setup begun = begun.plan.tree
 
 -- under the binding
-abbrev pub IsBegunUnder : List ℕ → List ℕ → Option (List KeptEntry) → Loaded → Type 0
+abbrev pub IsBegunUnder : List ℕ → List ℕ → Option KeptState → Loaded → Type 0
 IsBegunUnder binding text kept setup =
     (wiring : Wiring) × IsConnected (Some binding) wiring × IsBegunWith wiring text kept setup
 
--- there is a file, and it is one of these values of the text
-abbrev pub IsFileOf : List ℕ → Option (List ℕ) → List KeptEntry → Type 0
-IsFileOf text None kept = ⊥
-IsFileOf text (Some bytes) kept = IsKeptFile bytes (digest_of text) kept
+-- there is a file, and it is one of these values
+abbrev pub IsFileOf : Option (List ℕ) → KeptState → Type 0
+IsFileOf None kept = ⊥
+IsFileOf (Some bytes) kept = IsKeptFile bytes kept
 
--- the bytes are no file of values of the text
-abbrev pub IsUnusable : List ℕ → List ℕ → Type 0
-IsUnusable text bytes = (fault : KeptFault) × IsKeptFault text bytes fault
+-- the bytes are no file of values
+abbrev pub IsUnusable : List ℕ → Type 0
+IsUnusable bytes = (fault : KeptFault) × IsKeptFault bytes fault
 
--- the bytes are a file of values of the text, and the source program that begins with these is refused
+-- the bytes are a file of values, and the source program that begins with these is refused
 pub record AreRefused (binding text bytes : List ℕ) : Type 0 where
-  pub kept : List KeptEntry
-  pub file : IsKeptFile bytes (digest_of text) kept
+  pub kept : KeptState
+  pub file : IsKeptFile bytes kept
   pub wiring : Wiring
   pub connected : IsConnected (Some binding) wiring
   pub fault : LoadFault
-  pub refused : IsKeptLoadFault wiring text kept fault
+  pub refused : IsKeptLoadFault wiring text kept.values fault
 
 -- the values that are used are those of the file; none are, where there is no file, or none that can be used
-abbrev pub AreUsed : List ℕ → List ℕ → Option (List ℕ) → Option (List KeptEntry) → Type 0
-AreUsed binding text file (Some kept) = IsFileOf text file kept
+abbrev pub AreUsed : List ℕ → List ℕ → Option (List ℕ) → Option KeptState → Type 0
+AreUsed binding text file (Some kept) = IsFileOf file kept
 AreUsed binding text None None = ⊤
-AreUsed binding text (Some bytes) None = IsUnusable text bytes ⊎ AreRefused binding text bytes
+AreUsed binding text (Some bytes) None = IsUnusable bytes ⊎ AreRefused binding text bytes
 
--- the file of kept values, where one is named: what the disk gave for it, or nothing where the disk failed to, and not
--- for lack of memory
+-- the file of kept values, where one is named: what the disk gave for it, or nothing where there is no such file
 abbrev pub IsKeepRead : (List ℕ → List ℕ → Type 0) → (List ℕ → DiskFault → Type 0) → Option (List ℕ) → Option (List ℕ)
     → Type 0
 IsKeepRead gives fails None file = file ≡ None
 IsKeepRead gives fails (Some path) (Some bytes) = gives path bytes
-IsKeepRead gives fails (Some path) None = fails path Failed
+IsKeepRead gives fails (Some path) None = fails path Absent
 
--- memory was refused while the file of kept values, which is named, was read
-abbrev pub IsKeepStarved : (List ℕ → DiskFault → Type 0) → Option (List ℕ) → List ℕ → DiskFault → Type 0
-IsKeepStarved fails named path why = (named ≡ Some path) × (why ≡ Memory) × fails path Memory
+-- the file of kept values, which is named, is there, and the disk failed to give it for this reason
+abbrev pub IsKeepWithheld : (List ℕ → DiskFault → Type 0) → Option (List ℕ) → List ℕ → DiskFault → Type 0
+IsKeepWithheld fails named path why = (named ≡ Some path) × (why ≢ Absent) × fails path why
 
 -- that is reported
 abbrev pub IsKeepUnread : (List ℕ → DiskFault → Type 0) → Option (List ℕ) → Unserved → Type 0
-IsKeepUnread fails named (NotRead path why) = IsKeepStarved fails named path.now why
+IsKeepUnread fails named (NotRead path why) = IsKeepWithheld fails named path.now why
 IsKeepUnread fails named (NotWritten path why) = ⊥
 IsKeepUnread fails named (NotPrinted error) = ⊥
 

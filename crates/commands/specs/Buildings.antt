@@ -11,7 +11,7 @@ use Rattle.invocations.specs.declared.files.LiveFiles.{LiveFiles}
 use Rattle.invocations.specs.declared.invocations.LiveOptions.{LiveOptions}
 use Rattle.invocations.specs.declared.invocations.RunSize.{RunSize}
 use Rattle.invocations.specs.declared.line_words.LineWord.{LineWord}
-use Rattle.keeping.specs.KeptFiles.{KeptEntry}
+use Rattle.keeping.specs.KeptFiles.{KeptState}
 use Rattle.exits.specs.declared.exit_status.ExitStatus.{ExitStatus}
 use Rattle.exits.specs.declared.exit_status.ExitStatus.TheVariants.{Failed}
 use Rattle.exits.specs.ExitStatuses.{status_of_run, status_of_stop}
@@ -24,9 +24,8 @@ use Rattle.commands.specs.declared.living.Halted.TheVariants as halts
 use Rattle.commands.specs.declared.reading.DiskFault.{DiskFault}
 use Rattle.commands.specs.declared.serving.Unserved.{Unserved}
 use Rattle.commands.specs.declared.serving.Unserved.TheVariants.{NotRead, NotWritten, NotPrinted}
-use Rattle.commands.specs.Beginnings.{AreUsed, HasBegun, IsBegunUnder, IsKeepRead, IsKeepStarved, tree_of}
+use Rattle.commands.specs.Beginnings.{AreUsed, IsBegunUnder, IsKeepRead, IsKeepWithheld, tree_of}
 use Rattle.commands.specs.Plays.{IsStopUnder}
-use Rattle.commands.specs.declared.beginning.Beginning.{Beginning}
 
 -- which line of a word a bus is behind, with so many milliseconds of patience, as a site says it
 abbrev pub OfLine : Type 0 → Type 1
@@ -45,7 +44,7 @@ pub record IsLivedOut {B C : Type 0} (binding text : List ℕ) (file : Option (L
     (clock_log : C → ClockLog) (is_of : OfLine B) (is_timed : TimedAs C) (words : List LineWord)
     (options : LiveOptions) (left : Lived B C) : Type 0 where
   pub setup : Loaded
-  pub kept : Option (List KeptEntry)
+  pub kept : Option KeptState
   pub used : AreUsed binding text file kept
   pub loaded : IsBegunUnder binding text kept setup
   pub building : Building B C
@@ -54,26 +53,22 @@ pub record IsLivedOut {B C : Type 0} (binding text : List ℕ) (file : Option (L
       left
   pub meant : AreAsMeant (tree_of loaded.0 text kept setup loaded.2) loaded.0.buses left.left.plant.history
 
--- a file beside it can't be written, or there is no memory for what is written
-abbrev pub IsUnobserved : List ℕ → List ℕ → Option (List ℕ) → Halted → Type 0
-IsUnobserved binding text file (halts.Text stop) = IsStopUnder binding text stop
-IsUnobserved binding text file (halts.NotWritten path) = (begun : Beginning) × HasBegun binding text file begun
-IsUnobserved binding text file (halts.Building stop) = ⊥
+-- there is no memory for what is written beside it; that a file can't be written stands against no building
+abbrev pub IsUnobserved : List ℕ → List ℕ → Halted → Type 0
+IsUnobserved binding text (halts.Text stop) = IsStopUnder binding text stop
+IsUnobserved binding text (halts.Building stop) = ⊥
 
 -- what stands against it: the binding's fault or that of the text; else the words of its lines, the clock or the plant
 pub record IsBuildingStop (binding text : List ℕ) (file : Option (List ℕ)) (words : List LineWord) (size : RunSize)
     (stop : LiveStop) : Type 0 where
   pub setup : Loaded
-  pub kept : Option (List KeptEntry)
+  pub kept : Option KeptState
   pub used : AreUsed binding text file kept
   pub loaded : IsBegunUnder binding text kept setup
   pub stops : IsLiveStop setup words size stop ⊎ IsNotLived setup size setup.plan.buses stop
 
--- or a file beside it can't be written
 abbrev pub IsHalted : List ℕ → List ℕ → Option (List ℕ) → List LineWord → RunSize → Halted → Type 0
 IsHalted binding text file words size (halts.Text stop) = IsStopUnder binding text stop
-IsHalted binding text file words size (halts.NotWritten path) =
-    IsUnobserved binding text file (halts.NotWritten path)
 IsHalted binding text file words size (halts.Building stop) = IsBuildingStop binding text file words size stop
 
 -- what a building comes to: what it leaves, or what stands against it
@@ -103,7 +98,6 @@ status_of_left left =
 abbrev pub status_of_live_end : {B C : Type 0} → LiveEnd B C → ExitStatus
 status_of_live_end (Ok left) = status_of_left left
 status_of_live_end (Err (halts.Text stop)) = status_of_stop stop
-status_of_live_end (Err (halts.NotWritten path)) = Failed
 status_of_live_end (Err (halts.Building stop)) = status_of_live_stop stop
 
 -- it comes to this by what the disk gave for the two files, and for that of kept values where one is named; of what is
@@ -120,15 +114,15 @@ pub record IsLiveServed {B C : Type 0} (gives : List ℕ → List ℕ → Type 0
   pub end : IsLiveEnd binding text file bus_log clock_log is_of is_timed words options came_to
   pub cut : IsCutWhereAsked options.ends_on_down came_to
 
--- the binding isn't read; or it is, and the text isn't; or both are, and memory was refused while the file of kept
--- values was read
+-- the binding isn't read; or it is, and the text isn't; or both are, and the file of kept values is there and isn't
+-- read
 abbrev pub IsFirstLiveUnread : (List ℕ → List ℕ → Type 0) → (List ℕ → DiskFault → Type 0) → LiveFiles
     → Option (List ℕ) → List ℕ → DiskFault → Type 0
 IsFirstLiveUnread gives fails files keep path why =
     ((path ≡ files.binding.now) × fails path why)
     ⊎ (((binding : List ℕ) × gives files.binding.now binding)
     × (((path ≡ files.text.now) × fails path why)
-    ⊎ (((text : List ℕ) × gives files.text.now text) × IsKeepStarved fails keep path why)))
+    ⊎ (((text : List ℕ) × gives files.text.now text) × IsKeepWithheld fails keep path why)))
 
 -- the first of the named files that isn't read is reported; of a failure of the writer nothing is said
 abbrev pub IsLiveUnread : (List ℕ → List ℕ → Type 0) → (List ℕ → DiskFault → Type 0) → LiveFiles → Option (List ℕ)

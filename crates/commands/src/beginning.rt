@@ -10,7 +10,8 @@ use crate::reading::{Disk, DiskFault};
 use crate::serving::Unserved;
 use answers::{Stop, binding_of};
 use ilcompile::Setup;
-use keeping::{Kept, KeptFault, LeftOut};
+use jiff::Timestamp;
+use keeping::{Kept, KeptAt, KeptFault, LeftOut};
 use plantload::{LoadFault, load_kept};
 use std::alloc::Global;
 use std::fmt;
@@ -33,8 +34,8 @@ pub enum KeptNote {
     Unused(KeptFault),
     /// What begins with its values is refused.
     Refused,
-    /// It is used, but for these values.
-    Used(Vec<LeftOut>),
+    /// It is used, but for these values. It says when they were kept, unless it is of version 1.
+    Used(Option<KeptAt>, Vec<LeftOut>),
 }
 
 impl fmt::Display for KeptNote {
@@ -43,8 +44,12 @@ impl fmt::Display for KeptNote {
             KeptNote::NoFile => Ok(()),
             KeptNote::Unused(fault) => writeln!(f, "kept values not used: {fault}"),
             KeptNote::Refused => writeln!(f, "kept values not used: refused"),
-            KeptNote::Used(left_out) => {
-                writeln!(f, "kept values used")?;
+            KeptNote::Used(at, left_out) => {
+                write!(f, "kept values used")?;
+                if let Some(at) = at {
+                    write!(f, ", of {}", date_of(*at))?;
+                }
+                writeln!(f)?;
                 for left in left_out {
                     writeln!(f, "{left}")?;
                 }
@@ -54,12 +59,17 @@ impl fmt::Display for KeptNote {
     }
 }
 
-/// What the disk gives for the file of kept values, where one is named. One that can't be read
-/// counts as none.
+/// The date at which values were kept.
+fn date_of(at: KeptAt) -> Timestamp {
+    let seconds = i64::try_from(at.date).unwrap_or(0);
+    Timestamp::from_second(seconds).unwrap_or_default()
+}
+
+/// What the disk gives for the file of kept values, where one is named and there is one.
 ///
 /// # Errors
 ///
-/// Memory is refused while it is read.
+/// It is there and can't be read, or memory is refused while it is read.
 pub(crate) fn kept_at<'a, D: Disk>(
     alloc: Global,
     disk: &D,
@@ -75,10 +85,18 @@ pub(crate) fn kept_at<'a, D: Disk>(
     };
     match disk.read(alloc, path) {
         Ok(bytes) => Ok(Some(bytes)),
-        Err(DiskFault::Failed) => Ok(None),
+        Err(DiskFault::Absent) => Ok(None),
         Err(DiskFault::Memory) => Err(Unserved::NotRead {
             path,
             why: DiskFault::Memory,
+        }),
+        Err(DiskFault::Denied) => Err(Unserved::NotRead {
+            path,
+            why: DiskFault::Denied,
+        }),
+        Err(DiskFault::Failed) => Err(Unserved::NotRead {
+            path,
+            why: DiskFault::Failed,
         }),
     }
 }
@@ -108,12 +126,11 @@ pub(crate) fn beginning_of(
             note: KeptNote::NoFile,
         });
     };
-    match Kept::parse(alloc, text, bytes) {
+    match Kept::parse(alloc, bytes) {
         Ok(kept) => begun_with(alloc, binding, text, setup, kept),
         Err(KeptFault::Memory) => Err(Stop::Memory),
         Err(KeptFault::Empty) => Ok(without(setup, KeptNote::Unused(KeptFault::Empty))),
         Err(KeptFault::Torn) => Ok(without(setup, KeptNote::Unused(KeptFault::Torn))),
-        Err(KeptFault::OtherText) => Ok(without(setup, KeptNote::Unused(KeptFault::OtherText))),
     }
 }
 
@@ -143,17 +160,20 @@ fn begun_with(
 ) -> Result<Beginning, Stop>
     requires loaded { IsSetupUnder binding.now text.now setup }
     ensures begun { IfOk result (λ b. IsBegunUnder binding.now text.now b.kept b.setup) }
-    ensures used { IfOk result (λ b. (file : Option (List ℕ)) → IsFileOf text.now file kept
+    ensures used { IfOk result (λ b. (file : Option (List ℕ)) → IsFileOf file kept
         → AreUsed binding.now text.now file b.kept) }
     ensures stop { IfErr result (IsStopUnder binding.now text.now) }
 {
     let binding = binding_of(alloc, Some(binding))?;
     match load_kept(alloc, text, &binding, &kept) {
-        Ok((setup, left_out)) => Ok(Beginning {
-            setup,
-            kept: Some(kept),
-            note: KeptNote::Used(left_out),
-        }),
+        Ok((setup, left_out)) => {
+            let note = KeptNote::Used(kept.at(), left_out);
+            Ok(Beginning {
+                setup,
+                kept: Some(kept),
+                note,
+            })
+        }
         Err(LoadFault::Memory) => Err(Stop::Memory),
         Err(LoadFault::Text(_)) => Ok(without(setup, KeptNote::Refused)),
         Err(LoadFault::Name(_)) => Ok(without(setup, KeptNote::Refused)),

@@ -17,7 +17,7 @@ use buslink::{Bus, Clock};
 use commandline::{LineWord, LiveFiles, LiveOptions};
 use driving::has_down;
 use exits::ExitStatus;
-use observing::{BuildingObserver, NotOpened, Storage};
+use observing::{BuildingObserver, Storage};
 use plantload::{kept_scans_are_as_meant, scans_are_as_meant};
 use plantplay::StartFault;
 use std::alloc::Global;
@@ -32,10 +32,8 @@ use turns::{Gate, OpenGate};
 /// The first of what stands against running a building, in the order in which it is reported.
 #[derive(Drop)]
 pub enum Halted<'a> {
-    /// Of the binding or the text.
+    /// Of the binding or the text, or that the allocator is out of memory.
     Text(Stop),
-    /// The file at this path, which is wanted beside the building, can't be written.
-    NotWritten(&'a str),
     /// Of the lines, the clock or the plant.
     Building(LiveStop<'a>),
 }
@@ -88,13 +86,6 @@ pub trait Notice {
     ///
     /// It can't be told.
     fn halts(&self, stop: &LiveStop) -> io::Result<()>;
-
-    /// The building doesn't run, since the file at this path can't be written.
-    ///
-    /// # Errors
-    ///
-    /// It can't be told.
-    fn refuses(&self, path: &str) -> io::Result<()>;
 }
 
 /// What a building runs on: its site, and who is told.
@@ -200,7 +191,6 @@ pub fn status_of_live<B: Bus, C: Clock>(end: &LiveEnd<B, C>) -> ExitStatus
         Ok(left) if left.is_cut => ExitStatus::Failed,
         Ok(left) => ExitStatus::of_run(left.lived.ended, has_down(left.lived.left.plant())),
         Err(Halted::Text(stop)) => ExitStatus::of_stop(stop),
-        Err(Halted::NotWritten(_)) => ExitStatus::Failed,
         Err(Halted::Building(stop)) => stop.status(),
     }
 }
@@ -215,7 +205,6 @@ fn report<W: Write, N: Notice, B: Bus, C: Clock>(
     match end {
         Ok(left) => left.write(out),
         Err(Halted::Text(stop)) => writeln!(out, "{stop}"),
-        Err(Halted::NotWritten(path)) => notice.refuses(path),
         Err(Halted::Building(LiveStop::Start(fault))) => writeln!(out, "{fault}"),
         Err(Halted::Building(stop)) => notice.halts(stop),
     }
@@ -225,8 +214,8 @@ fn report<W: Write, N: Notice, B: Bus, C: Clock>(
 ///
 /// # Errors
 ///
-/// The binding's fault, else what stands against the text, else a file that can't be written, else
-/// what stands against the lines, the clock or the plant.
+/// The binding's fault, else what stands against the text, else what stands against the lines, the
+/// clock or the plant.
 fn live_on<'a, S: Site + Storage + Sync, N: Notice, R: Threads + Wait + Timer + Sync>(
     rt: &R,
     alloc: Global,
@@ -247,7 +236,7 @@ fn live_on<'a, S: Site + Storage + Sync, N: Notice, R: Threads + Wait + Timer + 
     if !options.beside.is_empty() {
         let observer = observer_of(rt, alloc, grounds.site, pages, options)?;
         let end = live_with(rt, alloc, grounds, &observer, begun, lines, options);
-        observer.finish();
+        finish_after(&observer, &end);
         return end;
     }
     live_with(rt, alloc, grounds, &OpenGate, begun, lines, options)
@@ -311,7 +300,7 @@ fn begun_of(alloc: Global, pages: &LivePages) -> Result<Beginning, Stop>
 ///
 /// # Errors
 ///
-/// A file can't be written, or the allocator is out of memory.
+/// The allocator is out of memory.
 fn observer_of<'o, 'a, S: Storage, R: Wait>(
     rt: &'o R,
     alloc: Global,
@@ -319,26 +308,26 @@ fn observer_of<'o, 'a, S: Storage, R: Wait>(
     pages: &'o LivePages,
     options: &LiveOptions<'a>,
 ) -> Result<BuildingObserver<'o, 'a, S, R>, Halted<'a>>
-    ensures { IfErr result (IsUnobserved pages.now.binding pages.now.text pages.now.file) }
+    ensures { IfErr result (IsUnobserved pages.now.binding pages.now.text) }
 {
     let begun = begun_of(alloc, pages)?;
     if let Some(path) = aside(&begun.note, options.beside.keep) {
         put_aside(alloc, storage, path);
     }
     let workers = options.size.workers as usize;
-    let text = &pages.text;
-    match BuildingObserver::open(
-        rt,
-        alloc,
-        storage,
-        &options.beside,
-        begun.setup,
-        workers,
-        text,
-    ) {
+    match BuildingObserver::open(rt, alloc, storage, &options.beside, begun.setup, workers) {
         Ok(observer) => Ok(observer),
-        Err(NotOpened::Memory) => Err(Halted::Text(Stop::Memory)),
-        Err(NotOpened::Path(path)) => Err(Halted::NotWritten(path)),
+        Err(_) => Err(Halted::Text(Stop::Memory)),
+    }
+}
+
+/// Has written what is left beside a building that ran. Of one that doesn't run nothing is written.
+fn finish_after<S: Storage, R: Wait, B: Bus, C: Clock>(
+    observer: &BuildingObserver<S, R>,
+    end: &LiveEnd<B, C>,
+) {
+    if end.is_ok() {
+        observer.finish();
     }
 }
 
@@ -346,7 +335,7 @@ fn observer_of<'o, 'a, S: Storage, R: Wait>(
 fn aside<'a>(note: &KeptNote, path: Option<&'a str>) -> Option<&'a str> {
     match note {
         KeptNote::Unused(_) | KeptNote::Refused => path,
-        KeptNote::NoFile | KeptNote::Used(_) => None,
+        KeptNote::NoFile | KeptNote::Used(..) => None,
     }
 }
 

@@ -71,10 +71,6 @@ fn look_at<'a, D: Disk, E: Eprint>(
     path: &'a str,
     watches: &[&str],
 ) -> Result<ExitStatus, Unserved<'a>> {
-    if is_input(files, path) {
-        eprintln!(errors; "error: '{path}' is read, so the picture can't go there")?;
-        return Ok(ExitStatus::Misused);
-    }
     let pages = read_pages(alloc, disk, files)?;
     match draw(alloc, &pages, files, options, watches)? {
         Ok((picture, status)) => {
@@ -95,11 +91,6 @@ fn misused<E: Eprint>(errors: &E, lines: &[u8]) -> ExitStatus {
         let _told = eprint!(errors; "{text}");
     }
     ExitStatus::Misused
-}
-
-/// Whether a path is that of a file that is read.
-fn is_input(files: PlayFiles, path: &str) -> bool {
-    path == files.text || path == files.binding || path == files.scenario
 }
 
 /// Prints the picture, or what stands against playing the scenario, through a buffer, and flushes

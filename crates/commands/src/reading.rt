@@ -17,6 +17,10 @@ const MOST_READ: u64 = limits::MOST_BYTES as u64 + 1;
 #[derive(Clone, Copy, PartialEq, Eq)]
 pub enum DiskFault {
     Memory,
+    /// There is no such file, or no such folder.
+    Absent,
+    /// Nobody gave the right to.
+    Denied,
     Failed,
 }
 
@@ -105,10 +109,14 @@ fn write_bytes<W: Write>(writer: &mut W, bytes: &[u8]) -> Result<(), DiskFault>
 
 /// Why a file wasn't read or written, by the kind of the error.
 fn reason(kind: ErrorKind) -> DiskFault
-    ensures { (result ≡ DiskFault.Memory) ↔ (kind ≡ ErrorKind.OutOfMemory) }
+    ensures memory { (result ≡ DiskFault.Memory) ↔ (kind ≡ ErrorKind.OutOfMemory) }
+    ensures absent { (result ≡ DiskFault.Absent) ↔ (kind ≡ ErrorKind.NotFound) }
+    ensures denied { (result ≡ DiskFault.Denied) ↔ (kind ≡ ErrorKind.PermissionDenied) }
 {
     match kind {
         ErrorKind::OutOfMemory => DiskFault::Memory,
+        ErrorKind::NotFound => DiskFault::Absent,
+        ErrorKind::PermissionDenied => DiskFault::Denied,
         _ => DiskFault::Failed,
     }
 }

@@ -4,6 +4,8 @@ use crate::beginning::KeptNote;
 use crate::code_files::{serve_check_code, serve_code};
 use crate::living::{Grounds, Notice, serve_live, status_of_live};
 use crate::looking::serve_look;
+use crate::misuse::check_invocation;
+use crate::paths::PathFault;
 use crate::playing::serve_play;
 use crate::reading::{DiskFault, HostDisk};
 use crate::running::{serve_run, status_of_run};
@@ -83,6 +85,9 @@ where
     S: Site + Storage + Sync,
 {
     let alloc = rt.alloc();
+    if let Err(fault) = check_invocation(rt, alloc, &invocation) {
+        return misplaced(rt, &fault);
+    }
     let disk = HostDisk { rt };
     let out = io::writer(rt);
     let mut complaints = Complaints { rt };
@@ -202,8 +207,33 @@ where
         options,
     ) {
         Ok((_, end)) => status_of_live(&end),
+        Err(Unserved::NotRead { path, why }) if is_kept_at(options, path) => {
+            kept_not_read(rt, path, why)
+        }
         Err(unserved) => not_served(rt, unserved),
     }
+}
+
+/// Whether kept values are read from this path.
+fn is_kept_at(options: &LiveOptions, path: &str) -> bool {
+    match options.beside.keep {
+        Some(keep) => keep == path,
+        None => false,
+    }
+}
+
+/// Reports that a file of kept values is there and wasn't read, and why.
+fn kept_not_read<R: Print + Eprint>(rt: &R, path: &str, why: DiskFault) -> ExitStatus {
+    let why = match why {
+        DiskFault::Denied => "permission denied",
+        DiskFault::Memory => return no_memory(rt),
+        DiskFault::Absent | DiskFault::Failed => "an input error",
+    };
+    printed(
+        rt,
+        eprintln!(rt; "cannot read {path}: {why}"),
+        ExitStatus::Failed,
+    )
 }
 
 /// The machine's standard error, which is told what is about to run, and why a building doesn't run.
@@ -224,10 +254,6 @@ impl<R: Eprint> Notice for HostNotice<'_, R> {
     fn halts(&self, stop: &LiveStop) -> io::Result<()> {
         eprintln!(self.rt; "{stop}")
     }
-
-    fn refuses(&self, path: &str) -> io::Result<()> {
-        eprintln!(self.rt; "cannot write {path}")
-    }
 }
 
 /// Reports why a command isn't served.
@@ -243,7 +269,9 @@ pub(crate) fn not_served<R: Print + Eprint>(rt: &R, unserved: Unserved) -> ExitS
 fn not_read<R: Print + Eprint>(rt: &R, path: &str, why: DiskFault) -> ExitStatus {
     match why {
         DiskFault::Memory => no_memory(rt),
-        DiskFault::Failed => printed(rt, eprintln!(rt; "cannot read {path}"), ExitStatus::Failed),
+        DiskFault::Absent | DiskFault::Denied | DiskFault::Failed => {
+            printed(rt, eprintln!(rt; "cannot read {path}"), ExitStatus::Failed)
+        }
     }
 }
 
@@ -251,7 +279,17 @@ fn not_read<R: Print + Eprint>(rt: &R, path: &str, why: DiskFault) -> ExitStatus
 fn not_written<R: Print + Eprint>(rt: &R, path: &str, why: DiskFault) -> ExitStatus {
     match why {
         DiskFault::Memory => no_memory(rt),
-        DiskFault::Failed => printed(rt, eprintln!(rt; "cannot write {path}"), ExitStatus::Failed),
+        DiskFault::Absent | DiskFault::Denied | DiskFault::Failed => {
+            printed(rt, eprintln!(rt; "cannot write {path}"), ExitStatus::Failed)
+        }
+    }
+}
+
+/// Reports that a command may not write where it is to.
+fn misplaced<R: Print + Eprint>(rt: &R, fault: &PathFault) -> ExitStatus {
+    match fault {
+        PathFault::Memory => no_memory(rt),
+        _ => printed(rt, eprintln!(rt; "{fault}"), ExitStatus::Misused),
     }
 }
 

@@ -12,7 +12,7 @@ use daliframe::ShortAddress;
 use exits::ExitStatus;
 use framewords::request_of;
 use liveclock::StopCondition;
-use observing::Storage;
+use observing::{Care, Storage};
 use std::io::Write;
 use std::rt::Files;
 use std::time::Clock as Timer;
@@ -122,7 +122,7 @@ where
     S: Site + Storage,
 {
     if let Some(path) = record {
-        match site.replace(rt.alloc(), path, b"", false) {
+        match site.replace(rt.alloc(), path, b"", Care::Passing) {
             Ok(()) => {}
             Err(_) => return not_opened(rt, path),
         }
@@ -234,10 +234,6 @@ fn told<R: Print + Eprint>(rt: &R, halted: &Halted) -> Result<(), ExitStatus> {
             Ok(()) => Ok(()),
             Err(error) => Err(not_printed(rt, &error)),
         },
-        Halted::NotWritten(path) => {
-            let _told = eprintln!(rt; "cannot write {path}");
-            Ok(())
-        }
         Halted::Building(stop) => {
             let _told = HostNotice { rt }.halts(stop);
             Ok(())

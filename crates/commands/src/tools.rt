@@ -30,7 +30,6 @@ pub fn status_of_tool(end: &ToolEnd) -> ExitStatus {
         Ok(Served::Done) => ExitStatus::Accepted,
         Ok(Served::NoMemory | Served::Failed) => ExitStatus::Failed,
         Err(Halted::Text(stop)) => ExitStatus::of_stop(stop),
-        Err(Halted::NotWritten(_)) => ExitStatus::Failed,
         Err(Halted::Building(stop)) => stop.status(),
     }
 }

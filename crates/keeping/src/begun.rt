@@ -25,7 +25,7 @@ pub(crate) fn begun_globals(
 ) -> Result<Vec<GlobalDeclaration>, AllocError>
     requires { globals.now ≡ flat_map (globals_in (types_of_text source.now)) declarations.now }
     ensures { IfOk result (λ v.
-        v.items ≡ flat_map (begun_in source.now kept.now) declarations.now) }
+        v.items ≡ flat_map (begun_in source.now kept.now.values) declarations.now) }
 {
     let mut list = Vec::new(alloc);
     let mut left = declarations;
@@ -49,7 +49,7 @@ fn add_begun(
     kept: &Kept,
 ) -> Result<(), AllocError>
     ensures { OnOk result (list.new.items ≡ list.old.items
-        ++ map (begun text.now kept.now declaration.now) globals.now) }
+        ++ map (begun text.now kept.now.values declaration.now) globals.now) }
 {
     for global in globals {
         list.push(begun_alone(alloc, text, declaration, global, kept)?)?;
@@ -66,7 +66,7 @@ fn begun_alone(
     kept: &Kept,
 ) -> Result<GlobalDeclaration, AllocError>
     ensures { IfOk result (λ alone.
-        alone ≡ begun text.now kept.now declaration.now global.now) }
+        alone ≡ begun text.now kept.now.values declaration.now global.now) }
 {
     let initial = initial_of(kept_value(text, kept, global), declaration.initial());
     let names = Vec::from_slice(alloc, &[global.name])?;
@@ -101,7 +101,7 @@ fn written(value: Value) -> Constant
 /// The value that was kept under a variable's name, where it is no input and the value is one of
 /// its type.
 pub(crate) fn kept_value(text: &[u8], kept: &Kept, global: &DeclaredGlobal) -> Option<Value>
-    ensures { result ≡ kept_value text.now kept.now global.now }
+    ensures { result ≡ kept_value text.now kept.now.values global.now }
 {
     if is_input(global) {
         return None;

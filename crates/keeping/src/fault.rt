@@ -1,4 +1,4 @@
-//! Why bytes are no file of the values that were kept of a text.
+//! Why bytes are no file of kept values.
 
 use crate::kept::Kept;
 use std::alloc::AllocError;
@@ -6,18 +6,16 @@ use std::error::Error;
 use std::fmt;
 use wordlines::LineFault;
 
-/// Why bytes are no file of the values that were kept of a text.
+/// Why bytes are no file of kept values.
 #[derive(Clone, Copy, PartialEq, Eq, Debug)]
 pub enum KeptFault {
     /// The allocator is out of memory.
     Memory,
     /// There are no bytes.
     Empty,
-    /// A line is bad, a name comes twice, the end is missing or says another number of values, or
-    /// there are more than [`limits::MOST_BYTES`] bytes.
+    /// A line is bad, a name comes twice, the end is missing or says another number of values, the
+    /// check sum is another, or there are more than [`limits::MOST_BYTES`] bytes.
     Torn,
-    /// The values are of a text with another digest.
-    OtherText,
 }
 
 impl fmt::Display for KeptFault {
@@ -26,7 +24,6 @@ impl fmt::Display for KeptFault {
             KeptFault::Memory => write!(f, "no memory"),
             KeptFault::Empty => write!(f, "empty"),
             KeptFault::Torn => write!(f, "torn"),
-            KeptFault::OtherText => write!(f, "of another text"),
         }
     }
 }

@@ -1,11 +1,34 @@
-//! What is so of every source program that begins with kept values.
+//! What is so of every file of kept values, and of every source program that begins with them.
 
 ghost use Rattle.std.specs.List.{AllByRecursion};
-ghost use Rattle.std.specs.Prelude.{List};
+ghost use Rattle.std.specs.Prelude.{◌++◌, ◌∷◌, ◌≢◌, ◌<◌, ℕ, List, Some};
 ghost use Rattle.ilsource.specs.SourceTrees.{Tree};
 ghost use Rattle.ilscope.specs.Configured.{declared_globals_of, types_of_text};
 ghost use Rattle.keeping.specs.Beginning.{AreGlobalsBegun, BeginsWith, IsTyped};
-ghost use Rattle.keeping.specs.KeptFiles.{KeptEntry};
+ghost use Rattle.keeping.specs.CheckSums.{sum_of};
+ghost use Rattle.keeping.specs.KeptFiles.{IsKeptFile, IsSummed, KeptEntry, state_of, sum_line};
+ghost use Rattle.keeping.specs.Printed.{AreKeepable, printed_file};
+ghost use Rattle.keeping.specs.declared.kept_at.KeptAt.{KeptAt};
+
+/// What is written is what is read: the file that is made of values is one of these values.
+pub fn a_written_file_is_one()
+    ensures { (at : KeptAt) (values : List KeptEntry) → AreKeepable at values
+        → IsKeptFile (printed_file at values) (state_of (Some at) values) }
+{}
+
+/// One changed byte changes the check sum.
+pub fn a_changed_byte_changes_the_sum()
+    ensures { (front back : List ℕ) (byte other : ℕ) → byte < 256 → other < 256 → byte ≢ other
+        → sum_of (front ++ byte ∷ back) ≢ sum_of (front ++ other ∷ back) }
+{}
+
+/// Where one byte before the line of the check sum is another, the check sum is not that of the
+/// bytes, so that they are no file.
+pub fn a_changed_byte_breaks_the_seal()
+    ensures { (front back : List ℕ) (byte other sum : ℕ) → byte < 256 → other < 256 → byte ≢ other
+        → IsSummed (front ++ byte ∷ (back ++ sum_line sum)) sum
+        → ¬ IsSummed (front ++ other ∷ (back ++ sum_line sum)) sum }
+{}
 
 /// Where no declaration of global variables has a fault of its type or initial value, each variable
 /// is what it was, in the same order, but that it begins with its kept value, where it has one.

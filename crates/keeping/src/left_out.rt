@@ -73,7 +73,7 @@ pub(crate) fn left_out_of(
     kept: &Kept,
 ) -> Result<Vec<LeftOut>, AllocError>
     requires { globals.now ≡ globals_of source.now }
-    ensures { IfOk result (λ v. v.items ≡ left_out source.now kept.now) }
+    ensures { IfOk result (λ v. v.items ≡ left_out source.now kept.now.values) }
 {
     let mut left = Vec::new(alloc);
     for value in kept.values() {
@@ -88,21 +88,21 @@ pub(crate) fn left_out_of(
 /// Whether no global variable begins with a value.
 fn is_left_out(source: &Source, globals: &[DeclaredGlobal], kept: &Kept, value: &KeptValue) -> bool
     requires { globals.now ≡ globals_of source.now }
-    ensures { result ≡ is_left_out source.now kept.now value.now }
+    ensures { result ≡ is_left_out source.now kept.now.values value.now }
 {
     !is_taken(source.text(), globals, kept, value.name())
 }
 
 /// Whether a variable of this name begins with a kept value.
 fn is_taken(text: &[u8], globals: &[DeclaredGlobal], kept: &Kept, name: &[u8]) -> bool
-    ensures { result ≡ list_any (takes text.now kept.now name.now) globals.now }
+    ensures { result ≡ list_any (takes text.now kept.now.values name.now) globals.now }
 {
     globals.iter().any(|global| takes(text, kept, name, global))
 }
 
 /// Whether a variable has this name, and begins with a kept value.
 fn takes(text: &[u8], kept: &Kept, name: &[u8], global: &DeclaredGlobal) -> bool
-    ensures { result ≡ takes text.now kept.now name.now global.now }
+    ensures { result ≡ takes text.now kept.now.values name.now global.now }
 {
     global.name.text(text) == name && kept_value(text, kept, global).is_some()
 }

@@ -2,26 +2,30 @@
 
 ghost use Rattle.std.specs.Prelude.{◌≡◌};
 ghost use Rattle.wordlines.specs.WordLines.{words};
-ghost use Rattle.keeping.specs.KeptFiles.{entry_in, head_in, pair_in, said, value_of, whole_number};
+ghost use Rattle.keeping.specs.KeptFiles.{entry_in, head_in, is_head, kept_at_in, pair_in, said};
+ghost use Rattle.keeping.specs.KeptFiles.{dated_head_in, value_of, whole_number};
 ghost use Rattle.keeping.specs.KeptLines.{view};
 
+use crate::kept_at::KeptAt;
 use iltypes::Value;
 use wordlines::{Words, number_of};
 
 /// What a line of a file of kept values says.
 #[derive(Clone, Copy)]
 pub(crate) enum KeptLine<'a> {
-    /// `kept by dalictl live`
-    Head,
-    /// `text 1A2B3C4D`: the digest of the text that the values are of.
-    Text(&'a [u8]),
+    /// `kept by dalictl live at 1795889471 moment 3600000`; in version 1 it does not say when.
+    Head(Option<KeptAt>),
+    /// `text 1A2B3C4D`: the digest of a text, in version 1.
+    Digest,
     /// `lamp = 200`
     Entry { name: &'a [u8], value: Value },
     /// `end 1`: how many values there are.
     End(u64),
+    /// `sum 3237561715`: the check sum of all lines before it.
+    Sum(u64),
 }
 
-/// The greatest number of a value, without its sign.
+/// The greatest number of a line, without its sign.
 const MOST_NUMBER: u64 = 9_223_372_036_854_775_807;
 
 /// What a line says that isn't skipped.
@@ -37,34 +41,71 @@ pub(crate) fn line_of(line: &[u8]) -> Option<KeptLine<'_>>
     let Some(fourth) = words.next() else {
         return entry_in(first, second, third);
     };
-    if words.is_empty() {
-        head_in(first, second, third, fourth)
-    } else {
-        None
+    let Some(fifth) = words.next() else {
+        return head_in(first, second, third, fourth);
+    };
+    let sixth = words.next()?;
+    let seventh = words.next()?;
+    let eighth = words.next()?;
+    if !words.is_empty() {
+        return None;
     }
+    let head = head_in(first, second, third, fourth);
+    dated_head_in(head, kept_at_in(fifth, sixth, seventh, eighth))
 }
 
 /// `kept by dalictl live`
 fn head_in<'a>(kept: &[u8], by: &[u8], program: &[u8], command: &[u8]) -> Option<KeptLine<'a>>
     ensures { view result ≡ head_in kept.now by.now program.now command.now }
 {
-    let is_kept = kept == b"kept".as_slice() && by == b"by".as_slice();
-    let is_live = program == b"dalictl".as_slice() && command == b"live".as_slice();
-    if is_kept && is_live {
-        Some(KeptLine::Head)
+    if is_head(kept, by, program, command) {
+        Some(KeptLine::Head(None))
     } else {
         None
     }
 }
 
-/// `text 1A2B3C4D`, `end 1`
-fn pair_in<'a>(keyword: &[u8], word: &'a [u8]) -> Option<KeptLine<'a>>
+/// Whether these are the words with which each head begins.
+fn is_head(kept: &[u8], by: &[u8], program: &[u8], command: &[u8]) -> bool
+    ensures { result ≡ is_head kept.now by.now program.now command.now }
+{
+    let is_kept = kept == b"kept".as_slice() && by == b"by".as_slice();
+    let is_live = program == b"dalictl".as_slice() && command == b"live".as_slice();
+    is_kept && is_live
+}
+
+/// `at 1795889471 moment 3600000`
+fn kept_at_in(at: &[u8], date: &[u8], word: &[u8], moment: &[u8]) -> Option<KeptAt>
+    ensures { result ≡ kept_at_in at.now date.now word.now moment.now }
+{
+    if at != b"at".as_slice() || word != b"moment".as_slice() {
+        return None;
+    }
+    let date = number_of(date, MOST_NUMBER)?;
+    let moment = number_of(moment, MOST_NUMBER)?;
+    Some(KeptAt { date, moment })
+}
+
+/// A head that says when the values were kept.
+fn dated_head_in<'a>(head: Option<KeptLine<'a>>, at: Option<KeptAt>) -> Option<KeptLine<'a>>
+    ensures { view result ≡ dated_head_in (view head.entry) at }
+{
+    match (head, at) {
+        (Some(_), Some(at)) => Some(KeptLine::Head(Some(at))),
+        _ => None,
+    }
+}
+
+/// `text 1A2B3C4D`, `end 1`, `sum 3237561715`
+fn pair_in<'a>(keyword: &[u8], word: &[u8]) -> Option<KeptLine<'a>>
     ensures { view result ≡ pair_in keyword.now word.now }
 {
     if keyword == b"text".as_slice() {
-        Some(KeptLine::Text(word))
+        Some(KeptLine::Digest)
     } else if keyword == b"end".as_slice() {
         Some(KeptLine::End(number_of(word, MOST_NUMBER)?))
+    } else if keyword == b"sum".as_slice() {
+        Some(KeptLine::Sum(number_of(word, MOST_NUMBER)?))
     } else {
         None
     }

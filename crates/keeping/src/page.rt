@@ -1,79 +1,63 @@
 //! Files of kept values, as they are written.
 
-use crate::digest::write_digest;
-use ilplan::{Global, Plan};
-use iltypes::Value;
-use std::io::Write;
-use std::{fmt, io};
+ghost use Rattle.std.specs.Prelude.{◌≡◌, ◌++◌, flat_map, length, IfOk, OnOk};
+ghost use Rattle.keeping.specs.Printed.{entry_line, end_line, head_line, printed_file};
+ghost use Rattle.keeping.specs.Printed.{printed_lines};
+ghost use Rattle.keeping.specs.CheckSums.{sum_of};
+ghost use Rattle.keeping.specs.KeptFiles.{sum_line};
 
-/// A file of the values of a plan's global variables, which [`crate::Kept::parse`] reads back.
-#[derive(Clone, Copy)]
-pub struct KeptPage<'a> {
-    /// The text that the plan is of.
-    pub text: &'a [u8],
-    pub plan: &'a Plan,
-    /// The value of each global variable, in the plan's order.
-    pub values: &'a [Value],
-}
+use crate::kept_at::KeptAt;
+use crate::sum::sum_of;
+use crate::value::KeptValue;
+use std::alloc::{AllocError, Global};
 
-/// `kept by dalictl live`, the text's digest, each global variable that is no input with its value,
-/// and how many these are.
-impl fmt::Display for KeptPage<'_> {
-    fn fmt<W: fmt::Write>(&self, f: &mut fmt::Formatter<W>) -> fmt::Result {
-        writeln!(f, "kept by dalictl live")?;
-        write!(f, "text ")?;
-        write_digest(self.text, f)?;
-        let count = self.write_values(f)?;
-        writeln!(f, "end {count}")
-    }
-}
-
-impl KeptPage<'_> {
-    ghost use Rattle.std.specs.Prelude.{◌<◌, length};
-
-    /// Writes a line for each variable that is kept, and gives their number.
-    fn write_values<W: fmt::Write>(&self, f: &mut fmt::Formatter<W>) -> Result<usize, fmt::Error> {
-        let mut count: usize = 0;
-        for global in 0..self.plan.globals() {
-            if let Some(value) = self.kept_value(global) {
-                writeln!(f, "{} = {value}", self.plan.global_name(global))?;
-                count = count.saturating_add(1);
-            }
-        }
-        Ok(count)
-    }
-
-    /// The value of the global variable of this number, where it is kept.
-    fn kept_value(&self, global: usize) -> Option<Value>
-        requires { global < length self.now.plan.now.globals }
-    {
-        if is_kept(self.plan.global(global)) {
-            self.values.get(global).copied()
-        } else {
-            None
-        }
-    }
-}
-
-/// Whether a global variable's value is kept: it is no input.
-fn is_kept(global: &Global) -> bool {
-    match global.location {
-        Some(location) => !location.is_input(),
-        None => true,
-    }
-}
-
-/// Writes a file of the values of a plan's global variables, one for each in the plan's order.
+/// The file of these values, which were kept then. [`crate::Kept::parse`] reads it back.
 ///
 /// # Errors
 ///
-/// The writer's.
-pub fn write_kept<W: Write>(
-    out: &mut W,
-    text: &[u8],
-    plan: &Plan,
-    values: &[Value],
-) -> io::Result<()> {
-    let page = KeptPage { text, plan, values };
-    write!(out, "{page}")
+/// The allocator is out of memory.
+pub fn kept_file(alloc: Global, at: KeptAt, values: &[KeptValue]) -> Result<Vec<u8>, AllocError>
+    ensures { IfOk result (λ file. file.items ≡ printed_file at values.now) }
+{
+    let mut file = kept_lines(alloc, at, values)?;
+    let sum = sum_of(&file);
+    let line = format!(in alloc; "sum {sum}\n")?;
+    file.extend_from_slice(line.as_bytes())?;
+    Ok(file)
+}
+
+/// All lines of the file but that of the check sum.
+fn kept_lines(alloc: Global, at: KeptAt, values: &[KeptValue]) -> Result<Vec<u8>, AllocError>
+    ensures { IfOk result (λ lines. lines.items ≡ printed_lines at values.now) }
+{
+    let mut lines = Vec::new(alloc);
+    let head = format!(in alloc;
+        "kept by dalictl live at {} moment {}\n",
+        at.date, at.moment
+    )?;
+    lines.extend_from_slice(head.as_bytes())?;
+    add_values(alloc, &mut lines, values)?;
+    let end = format!(in alloc; "end {}\n", values.len())?;
+    lines.extend_from_slice(end.as_bytes())?;
+    Ok(lines)
+}
+
+/// Adds the lines of values.
+fn add_values(alloc: Global, lines: &mut Vec<u8>, values: &[KeptValue]) -> Result<(), AllocError>
+    ensures { OnOk result (lines.new.items ≡ lines.old.items ++ flat_map entry_line values.now) }
+{
+    for value in values {
+        add_value(alloc, lines, value)?;
+    }
+    Ok(())
+}
+
+/// Adds the line of a value.
+fn add_value(alloc: Global, lines: &mut Vec<u8>, value: &KeptValue) -> Result<(), AllocError>
+    ensures { OnOk result (lines.new.items ≡ lines.old.items ++ entry_line value.now) }
+{
+    let said = format!(in alloc; " = {}\n", value.value())?;
+    lines.extend_from_slice(value.name())?;
+    lines.extend_from_slice(said.as_bytes())?;
+    Ok(())
 }

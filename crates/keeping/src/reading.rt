@@ -1,9 +1,10 @@
 //! Reading a file of kept values, line by line.
 
 ghost use Rattle.std.specs.Prelude.{◌≡◌};
-ghost use Rattle.keeping.specs.KeptFiles.{has_name};
+ghost use Rattle.keeping.specs.KeptFiles.{after_head, has_name};
 
 use crate::kept::Kept;
+use crate::kept_at::KeptAt;
 use crate::lines::{KeptLine, line_of};
 use crate::stage::Stage;
 use crate::value::KeptValue;
@@ -16,8 +17,10 @@ use wordlines::{LineFault, LineState};
 pub(crate) struct Reading {
     pub(crate) alloc: Global,
     pub(crate) stage: Stage,
-    pub(crate) digest: Vec<u8>,
+    pub(crate) at: Option<KeptAt>,
     pub(crate) values: Vec<KeptValue>,
+    /// The check sum that the last line gives, and 0 before it.
+    pub(crate) sum: u64,
 }
 
 impl Model for Reading {
@@ -27,8 +30,9 @@ impl Model for Reading {
 
     ghost view = { λ r. record {
       stage = r.stage;
-      digest = r.digest.items;
+      at = r.at;
       values = r.values.items;
+      sum = r.sum;
     } };
 }
 
@@ -46,8 +50,9 @@ impl Reading {
         Reading {
             alloc,
             stage: Stage::Nothing,
-            digest: Vec::new(alloc),
+            at: None,
             values: Vec::new(alloc),
+            sum: 0,
         }
     }
 
@@ -56,14 +61,15 @@ impl Reading {
         ensures { IsTrue result ↔ Follows self.now (line_view line.entry) }
     {
         match line {
-            KeptLine::Head => self.stage == Stage::Nothing,
-            KeptLine::Text(_) => self.stage == Stage::Head,
+            KeptLine::Head(_) => self.stage == Stage::Nothing,
+            KeptLine::Digest => self.stage == Stage::Head,
             KeptLine::Entry { name, .. } => {
                 self.stage == Stage::Values && !has_name(&self.values, name)
             }
             KeptLine::End(number) => {
                 self.stage == Stage::Values && number == self.values.len() as u64
             }
+            KeptLine::Sum(_) => self.stage == Stage::End && self.at.is_some(),
         }
     }
 
@@ -88,16 +94,20 @@ impl Reading {
     {
         let mut reading = self;
         match line {
-            KeptLine::Head => reading.stage = Stage::Head,
-            KeptLine::Text(digest) => {
-                reading.digest = Vec::from_slice(reading.alloc, digest)?;
-                reading.stage = Stage::Values;
+            KeptLine::Head(at) => {
+                reading.stage = after_head(at);
+                reading.at = at;
             }
+            KeptLine::Digest => reading.stage = Stage::Values,
             KeptLine::Entry { name, value } => {
                 let kept = KeptValue::new(reading.alloc, name, value)?;
                 reading.values.push(kept)?;
             }
             KeptLine::End(_) => reading.stage = Stage::End,
+            KeptLine::Sum(sum) => {
+                reading.stage = Stage::Sum;
+                reading.sum = sum;
+            }
         }
         Ok(reading)
     }
@@ -121,6 +131,16 @@ impl LineState<Kept> for Reading {
             Ok(next) => Ok(Some(next)),
             Err(_) => Err(LineFault::Memory),
         }
+    }
+}
+
+/// What a head is followed by: the digest in version 1, and values since.
+fn after_head(at: Option<KeptAt>) -> Stage
+    ensures { result ≡ after_head at }
+{
+    match at {
+        None => Stage::Head,
+        Some(_) => Stage::Values,
     }
 }
 

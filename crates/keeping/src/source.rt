@@ -25,8 +25,8 @@ pub fn with_kept(
     binding: &Binding,
     kept: &Kept,
 ) -> Result<(Source, Vec<LeftOut>), AllocError>
-    ensures begins { IfOk result (λ begun. BeginsWith kept.now source begun.0) }
-    ensures left_out { IfOk result (λ begun. begun.1.items ≡ left_out source kept.now) }
+    ensures begins { IfOk result (λ begun. BeginsWith kept.now.values source begun.0) }
+    ensures left_out { IfOk result (λ begun. begun.1.items ≡ left_out source kept.now.values) }
 {
     let Begun {
         configuration,
@@ -61,8 +61,9 @@ fn begun_of(
     kept: &Kept,
 ) -> Result<Begun, AllocError>
     ensures begins { IfOk result (λ begun.
-        IsBegun kept.now source.now source.now.configuration begun.configuration) }
-    ensures left_out { IfOk result (λ begun. begun.left_out.items ≡ left_out source.now kept.now) }
+        IsBegun kept.now.values source.now source.now.configuration begun.configuration) }
+    ensures left_out { IfOk result (λ begun.
+        begun.left_out.items ≡ left_out source.now kept.now.values) }
 {
     let scope = Scope::of(alloc, source, binding)?;
     let configuration = configuration_of(alloc, source, scope.globals(), kept)?;
@@ -82,7 +83,7 @@ fn configuration_of(
 ) -> Result<Option<Configuration>, AllocError>
     requires { globals.now ≡ globals_of source.now }
     ensures { IfOk result (λ new.
-        IsBegun kept.now source.now source.now.configuration new) }
+        IsBegun kept.now.values source.now source.now.configuration new) }
 {
     let Some(old) = source.configuration() else {
         return Ok(None);

@@ -5,10 +5,12 @@
 pub(crate) enum Stage {
     /// None.
     Nothing,
-    /// The head.
+    /// The head of a file of version 1.
     Head,
-    /// The head, the digest, and any number of values.
+    /// All lines before the values, and any number of these.
     Values,
-    /// All lines: the last says how many values there are.
+    /// All lines up to the one that says how many values there are.
     End,
+    /// All lines: the last gives the check sum.
+    Sum,
 }

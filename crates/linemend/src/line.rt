@@ -3,7 +3,7 @@
 ghost use Rattle.std.specs.Prelude.{◌≡◌, ◌<◌, ◌+◌, ◌⊎◌, IfOk, IsErr, false, true};
 ghost use Rattle.buslink.specs.BusLog.{TellsAll, after_hear, after_mend};
 ghost use Rattle.linebus.specs.Exchanges.{fresh_log};
-ghost use Rattle.linemend.specs.Mended.{IsCounted, most_kept};
+ghost use Rattle.linemend.specs.Mended.{IsCounted, IsLastCounted, most_kept};
 
 use crate::reasons::Reason;
 use crate::starter::{LineStarter, Order};
@@ -12,6 +12,7 @@ use buslink::{Bus, Fault};
 use crossbeam_channel::{Receiver, Sender, bounded};
 use daliframe::{BusNumber, Frame, Frame24};
 use linebus::{LineBus, Trouble};
+use memo::Memo;
 use std::alloc::{AllocError, Global};
 use std::io::Write;
 use std::marker::Model;
@@ -26,6 +27,11 @@ const MOST_KEPT: u32 = 256;
 
 /// Whoever tells what becomes of a line.
 pub trait Teller: Drop {
+    ghost use Rattle.std.specs.Prelude.{Bool};
+
+    // Asked whether the building's end was asked for, it may answer this.
+    ghost answers: { Self → Bool → Type 0 };
+
     /// The line is down.
     fn tell_down(&self, reason: &Reason);
 
@@ -33,12 +39,13 @@ pub trait Teller: Drop {
     fn tell_up(&self);
 
     /// Whether the building's end was asked for.
-    fn is_at_end(&self) -> bool;
+    fn is_at_end(&self) -> bool
+        ensures { answers self.now result };
 }
 
 /// A bus behind a line, which a thread of its own opens and greets.
 #[derive(Drop)]
-pub struct MendedLine<R: Wait + Clock + Drop, W: Write + Drop, T: Teller> {
+pub struct MendedLine<R: Wait + Clock + Drop, W: Write + Drop, T: Teller, O> {
     rt: R,
     bus: LineBus<TimedReader<R>, W>,
     /// What the thread is to try.
@@ -56,24 +63,27 @@ pub struct MendedLine<R: Wait + Clock + Drop, W: Write + Drop, T: Teller> {
     /// How many frames were heard since the building's end was asked for.
     heard_last: u32,
     teller: T,
+    /// Who opens the line, in its thread.
+    opener: Memo<O>,
 }
 
-impl<R: Wait + Clock + Drop, W: Write + Drop, T: Teller> Model for MendedLine<R, W, T> {
+impl<R: Wait + Clock + Drop, W: Write + Drop, T: Teller, O> Model for MendedLine<R, W, T, O> {
     ghost use Rattle.std.specs.Prelude.{◌≤◌};
     ghost use Rattle.linemend.specs.Mended.{MendedState, most_kept};
 
-    ghost Value = { MendedState };
+    ghost Value = { MendedState O T };
 
     ghost view = { λ m. record {
       log = m.bus.log;
       is_in_step = m.bus.is_in_step;
       heard_last = m.heard_last;
+      set = record { opener = m.opener.value; teller = m.teller; patience = m.patience };
     } };
 
     ghost invariant = { λ m. m.heard_last ≤ most_kept };
 }
 
-impl<R: Wait + Clock + Drop, W: Write + Drop, T: Teller> MendedLine<R, W, T> {
+impl<R: Wait + Clock + Drop, W: Write + Drop, T: Teller, O: Drop> MendedLine<R, W, T, O> {
     /// A bus whose line is not open yet: a thread of its own, which the starter starts, begins to open
     /// it. Each call fails, and says nothing, until the line has greeted. The interface has so many
     /// milliseconds for an answer.
@@ -81,7 +91,7 @@ impl<R: Wait + Clock + Drop, W: Write + Drop, T: Teller> MendedLine<R, W, T> {
     /// # Errors
     ///
     /// The allocator is out of memory, or the starter's thread has ended.
-    pub fn start<O: Drop>(
+    pub fn start(
         alloc: Global,
         rt: R,
         opener: O,
@@ -89,14 +99,20 @@ impl<R: Wait + Clock + Drop, W: Write + Drop, T: Teller> MendedLine<R, W, T> {
         number: BusNumber,
         patience: u64,
         starter: &LineStarter<R, W, O>,
-    ) -> Result<MendedLine<R, W, T>, AllocError>
+    ) -> Result<MendedLine<R, W, T, O>, AllocError>
     where
         R: Clone,
         ensures log { IfOk result (λ line. line.log ≡ fresh_log number) }
         ensures step { IfOk result (λ line. line.is_in_step ≡ false) }
+        ensures set { IfOk result (λ line. line.set ≡ record {
+          opener = opener;
+          teller = teller;
+          patience = patience;
+        }) }
     {
         let (jobs, theirs) = bounded::<Job<R, W>, Global>(alloc, 1)?;
         let (to, outcomes) = bounded::<Outcome<R, W>, Global>(alloc, 1)?;
+        let noted = Memo::of(&opener);
         let tries = Tries {
             rt: rt.clone()?,
             alloc,
@@ -125,6 +141,7 @@ impl<R: Wait + Clock + Drop, W: Write + Drop, T: Teller> MendedLine<R, W, T> {
             is_down: false,
             heard_last: 0,
             teller,
+            opener: noted,
         };
         line.ask(None);
         Ok(line)
@@ -146,6 +163,7 @@ impl<R: Wait + Clock + Drop, W: Write + Drop, T: Teller> MendedLine<R, W, T> {
     pub fn begin(&mut self)
         ensures log { self.new.log ≡ self.old.log }
         ensures heard { self.new.heard_last ≡ self.old.heard_last }
+        ensures set { self.new.set ≡ self.old.set }
     {
         if self.is_down || self.bus.is_in_step() {
             return;
@@ -175,6 +193,7 @@ impl<R: Wait + Clock + Drop, W: Write + Drop, T: Teller> MendedLine<R, W, T> {
     fn look(&mut self)
         ensures log { after_mend false self.new.log ≡ after_mend false self.old.log }
         ensures heard { self.new.heard_last ≡ self.old.heard_last }
+        ensures set { self.new.set ≡ self.old.set }
     {
         if !self.is_tried {
             let ends = self.bus.let_go();
@@ -200,7 +219,9 @@ impl<R: Wait + Clock + Drop, W: Write + Drop, T: Teller> MendedLine<R, W, T> {
     fn end_where_heard(&mut self)
         ensures log { self.new.log ≡ self.old.log }
         ensures heard { self.new.heard_last ≡ self.old.heard_last }
+        ensures set { self.new.set ≡ self.old.set }
         ensures ends { self.old.heard_last ≡ most_kept → self.new.is_in_step ≡ false }
+        ensures left { (self.old.heard_last < most_kept) ⊎ (self.new.is_in_step ≡ false) }
     {
         if self.heard_last >= MOST_KEPT {
             self.why = Reason::SpeaksOn;
@@ -208,13 +229,15 @@ impl<R: Wait + Clock + Drop, W: Write + Drop, T: Teller> MendedLine<R, W, T> {
         }
     }
 
-    /// Counts a frame that was heard, once the building's end was asked for.
+    /// Counts a frame that was heard, where the building's end was asked for.
     fn count_last(&mut self)
+        requires few { self.old.heard_last < most_kept }
         ensures same { (self.new.log ≡ self.old.log) × (self.new.is_in_step ≡ self.old.is_in_step) }
-        ensures counted { (self.new.heard_last ≡ self.old.heard_last)
-            ⊎ (self.new.heard_last ≡ self.old.heard_last + 1) }
+        ensures set { self.new.set ≡ self.old.set }
+        ensures counted { IsLastCounted (T.answers self.old.set.teller)
+            self.old.heard_last self.new.heard_last }
     {
-        if self.heard_last < MOST_KEPT && self.teller.is_at_end() {
+        if self.teller.is_at_end() {
             self.heard_last += 1;
         }
     }
@@ -234,7 +257,7 @@ impl<R: Wait + Clock + Drop, W: Write + Drop, T: Teller> MendedLine<R, W, T> {
     }
 }
 
-impl<R: Wait + Clock + Drop, W: Write + Drop, T: Teller> Bus for MendedLine<R, W, T> {
+impl<R: Wait + Clock + Drop, W: Write + Drop, T: Teller, O: Drop> Bus for MendedLine<R, W, T, O> {
     ghost log = { λ m. m.log };
 
     fn room(&mut self, frames: usize) -> Result<(), AllocError> {
@@ -255,7 +278,9 @@ impl<R: Wait + Clock + Drop, W: Write + Drop, T: Teller> Bus for MendedLine<R, W
         ensures logged { self.new.log ≡ after_hear result self.old.log }
         ensures all { TellsAll result self.old.log }
         ensures few { self.old.heard_last ≡ most_kept → IsErr result }
-        ensures counted { IsCounted result self.old.heard_last self.new.heard_last }
+        ensures counted { IsCounted (T.answers self.old.set.teller) result
+            self.old.heard_last self.new.heard_last }
+        ensures set { self.new.set ≡ self.old.set }
     {
         self.begin();
         self.end_where_heard();

@@ -1,6 +1,7 @@
 //! Clocks of a building.
 
 ghost use Rattle.std.specs.Prelude.{◌≡◌, ◌≤◌, IfSome, IfOk};
+ghost use Rattle.std.specs.Int.NonZero.{non_zero_u64_get};
 ghost use Rattle.buslink.specs.ClockLog.{IsNotBefore, TellsEnd, after_now};
 ghost use Rattle.liveclock.specs.ClockStates.{fresh_clock, with_moment};
 
@@ -32,9 +33,10 @@ pub struct LiveClock<T: Timer, S: StopCondition> {
 
 impl<T: Timer, S: StopCondition> Model for LiveClock<T, S> {
     ghost use Rattle.std.specs.Prelude.{◌≤◌, All, None, reverse};
+    ghost use Rattle.std.specs.Int.NonZero.{non_zero_u64_get};
     ghost use Rattle.liveclock.specs.ClockStates.{ClockState};
 
-    ghost Value = { ClockState };
+    ghost Value = { ClockState S };
 
     ghost view = { λ c. record {
       log = record {
@@ -43,7 +45,9 @@ impl<T: Timer, S: StopCondition> Model for LiveClock<T, S> {
         asks = c.asks;
         gave_none = c.gave_none;
       };
+      period = non_zero_u64_get c.period;
       until = c.until;
+      stop = c.stop;
     } };
 
     ghost invariant = { λ c. All (λ earlier. earlier ≤ c.latest) (reverse c.given.items) };
@@ -56,7 +60,7 @@ impl<T: Timer + Drop, S: StopCondition> LiveClock<T, S> {
     ///
     /// The timer could not be read.
     pub fn new(timer: T, period: NonZeroU64, until: u64, stop: S) -> io::Result<LiveClock<T, S>>
-        ensures { IfOk result (λ c. c ≡ fresh_clock until) }
+        ensures { IfOk result (λ c. c ≡ fresh_clock (non_zero_u64_get period) until stop) }
     {
         let start = Instant::now(&timer)?;
         Ok(LiveClock {
@@ -112,6 +116,8 @@ impl<T: Timer + Drop, S: StopCondition> Clock for LiveClock<T, S> {
         ensures ends { TellsEnd result self.old.log }
         ensures within { IfSome result (λ moment. moment ≤ self.old.until) }
         ensures until { self.new.until ≡ self.old.until }
+        ensures period { self.new.period ≡ self.old.period }
+        ensures stop { self.new.stop ≡ self.old.stop }
     {
         self.asks = self.asks.saturating_add(1);
         let moment = self.wait();

@@ -1,28 +1,101 @@
 //! The values that a building keeps.
 
-use keeping::KeptPage;
+ghost use Rattle.std.specs.Prelude.{◌≡◌, ◌≤◌, IfOk, length};
+ghost use Rattle.limits.specs.Limits.{most_bytes};
+ghost use Rattle.keeping.specs.Printed.{printed_file};
+
+use keeping::{KeptAt, KeptValue, kept_file, kept_values};
+use limits::MOST_BYTES;
 use plant::Plant;
 use std::alloc::Global;
 use std::io;
-use std::io::Write;
+use std::io::ErrorKind;
 
-/// The file of the values that a plant of a text has now.
+/// The seconds after which the file is written again though no value changed, so that its date
+/// tells whether values were kept until lately.
+const RENEWED: u64 = 3600;
+
+/// What was kept last, and when.
+#[derive(Drop)]
+pub(crate) struct Keeper {
+    at: KeptAt,
+    values: Vec<KeptValue>,
+}
+
+impl Keeper {
+    /// Nothing was kept.
+    pub(crate) fn new(alloc: Global) -> Keeper {
+        Keeper {
+            at: KeptAt { date: 0, moment: 0 },
+            values: Vec::new(alloc),
+        }
+    }
+
+    /// The file of the values that a plant has at this date and moment. Where none changed since
+    /// they were kept, within the last hour, it is the file of then.
+    ///
+    /// # Errors
+    ///
+    /// The allocator is out of memory, or the file would be too long to be read.
+    pub(crate) fn bytes(
+        &mut self,
+        alloc: Global,
+        at: KeptAt,
+        plant: &Plant,
+    ) -> io::Result<Vec<u8>> {
+        let values = values_of(alloc, plant)?;
+        if !is_within_hour(self.at.date, at.date) || !are_same(&self.values, &values) {
+            self.at = at;
+            self.values = values;
+        }
+        kept_bytes(alloc, self.at, &self.values)
+    }
+}
+
+/// Whether a date, in seconds, is one of the hour up to another one.
+fn is_within_hour(before: u64, now: u64) -> bool {
+    before <= now && now - before < RENEWED
+}
+
+/// Whether these are the same values, one after another.
+fn are_same(values: &[KeptValue], others: &[KeptValue]) -> bool {
+    if values.len() != others.len() {
+        return false;
+    }
+    for (value, other) in values.iter().zip(others) {
+        if value.value() != other.value() {
+            return false;
+        }
+    }
+    true
+}
+
+/// The values of a plant that are kept.
 ///
 /// # Errors
 ///
 /// The allocator is out of memory.
-pub(crate) fn kept_bytes(alloc: Global, text: &[u8], plant: &Plant) -> io::Result<Vec<u8>> {
+fn values_of(alloc: Global, plant: &Plant) -> io::Result<Vec<KeptValue>> {
     let plan = plant.setup().plan();
     let mut values = Vec::new(alloc);
     for global in 0..plan.globals() {
         values.push(plant.value(global))?;
     }
-    let page = KeptPage {
-        text,
-        plan,
-        values: &values,
-    };
-    let mut bytes = Vec::new(alloc);
-    write!(bytes, "{page}")?;
+    Ok(kept_values(alloc, plan, &values)?)
+}
+
+/// The file of these values, which were kept then.
+///
+/// # Errors
+///
+/// The allocator is out of memory, or the file would be too long to be read.
+fn kept_bytes(alloc: Global, at: KeptAt, values: &[KeptValue]) -> io::Result<Vec<u8>>
+    ensures file { IfOk result (λ bytes. bytes.items ≡ printed_file at values.now) }
+    ensures short { IfOk result (λ bytes. length bytes.items ≤ most_bytes) }
+{
+    let bytes = kept_file(alloc, at, values)?;
+    if bytes.len() > MOST_BYTES {
+        return Err(io::Error::from(ErrorKind::FileTooLarge));
+    }
     Ok(bytes)
 }

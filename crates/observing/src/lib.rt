@@ -6,18 +6,21 @@
 //! until all before it was told too. At each tick the clock's worker takes what is in order: it
 //! repeats it on a plant of its own, whose variables, queues and counts the lines show, and writes.
 //! So no scan and no frame waits for a file. [`Storage`] is where files go. Nothing that an
-//! observer does reaches the plant or a bus; a file that can't be written is told once and given
-//! up, and the building goes on.
+//! observer does reaches the plant or a bus; a file that can't be written is told once and tried
+//! again each time that it is due, and the building goes on. The definition to read first is
+//! `IsServed` (specs/Trying.antt), when a file is tried.
 //!
 //! ```text
-//! let observer = BuildingObserver::open(rt, alloc, &storage, &beside, setup, workers, text)?;
+//! let observer = BuildingObserver::open(rt, alloc, &storage, &beside, setup, workers)?;
 //! // the building runs, with the observer as its gate
 //! observer.finish();
 //! ```
 #![tactic(auto)]
 
 mod counts;
+mod files;
 mod follower;
+mod history;
 mod keep;
 mod levels;
 mod log;
@@ -28,8 +31,8 @@ mod pages;
 mod record;
 mod status;
 mod storage;
+mod told;
 mod unsorted;
 
 pub use observer::BuildingObserver;
-pub use pages::NotOpened;
-pub use storage::Storage;
+pub use storage::{Care, Storage};

@@ -1,11 +1,11 @@
 //! Who is told by the workers of a building.
 
-use crate::pages::{NotOpened, Pages};
+use crate::pages::Pages;
 use crate::storage::Storage;
 use crate::unsorted::{Told, Unsorted};
 use ilcompile::Setup;
 use invocations::Beside;
-use std::alloc::Global;
+use std::alloc::{AllocError, Global};
 use std::sync::{Mutex, Wait};
 use turns::{Gate, Happened};
 
@@ -16,15 +16,16 @@ pub struct BuildingObserver<'o, 'a, S: Storage, R: Wait> {
     storage: &'o S,
     alloc: Global,
     told: Mutex<Unsorted>,
-    pages: Mutex<Pages<'o, 'a>>,
+    pages: Mutex<Pages<'a>>,
 }
 
 impl<'o, 'a, S: Storage, R: Wait> BuildingObserver<'o, 'a, S, R> {
-    /// Opens the files that are wanted beside a building of this setup and this text.
+    /// Who writes the files that are wanted beside a building of this setup. None is written
+    /// before the first tick, so that the lights come first.
     ///
     /// # Errors
     ///
-    /// A file can't be written, or the allocator is out of memory.
+    /// The allocator is out of memory.
     pub fn open(
         rt: &'o R,
         alloc: Global,
@@ -32,9 +33,8 @@ impl<'o, 'a, S: Storage, R: Wait> BuildingObserver<'o, 'a, S, R> {
         beside: &Beside<'a>,
         setup: Setup,
         workers: usize,
-        text: &'o [u8],
-    ) -> Result<BuildingObserver<'o, 'a, S, R>, NotOpened<'a>> {
-        let pages = Pages::open(alloc, storage, beside, setup, workers, text)?;
+    ) -> Result<BuildingObserver<'o, 'a, S, R>, AllocError> {
+        let pages = Pages::open(alloc, beside, setup, workers)?;
         Ok(BuildingObserver {
             rt,
             storage,

@@ -1,57 +1,137 @@
-//! Files that are written again from time to time.
+//! Files that are written whole, again and again.
 
-use crate::storage::Storage;
+ghost use Rattle.std.specs.Prelude.{◌≡◌, ◌↔◌, ◌/◌, Some, IsSomeAnd, IsTrue, option_map};
+ghost use Rattle.observing.specs.Trying.{CameTo, IsDue, IsTried, IsWanted};
+ghost use Rattle.observing.specs.Trying.{is_failing, period_of, turn_between};
+
+use crate::storage::{Care, Storage};
 use std::alloc::Global;
-use std::io;
 
-/// A file that is written whole, as often as wanted, where its bytes changed.
+/// How often a file is written.
+#[derive(Clone, Copy)]
+pub(crate) enum Pace {
+    EachSecond,
+    EachTenSeconds,
+    EachMinute,
+}
+
+impl Pace {
+    /// The number of the period in which this moment is, from 0. The moment is in milliseconds.
+    fn period_at(self, moment: u64) -> u64
+        ensures { result ≡ moment / period_of self }
+    {
+        match self {
+            Pace::EachSecond => moment / 1000,
+            Pace::EachTenSeconds => moment / 10_000,
+            Pace::EachMinute => moment / 60_000,
+        }
+    }
+}
+
+/// Whether a file began to fail, or is mended.
+#[derive(Clone, Copy, PartialEq, Eq, Debug)]
+pub(crate) enum Turn {
+    /// It is as it was: written, or failing.
+    Same,
+    Fails,
+    Mended,
+}
+
+/// What is told, by whether a file failed before and whether it fails now.
+pub(crate) fn turn_of(failed: bool, fails: bool) -> Turn
+    ensures { result ≡ turn_between failed fails }
+{
+    match (failed, fails) {
+        (false, true) => Turn::Fails,
+        (true, false) => Turn::Mended,
+        (false, false) | (true, true) => Turn::Same,
+    }
+}
+
+/// A file that is written whole, once in each period where its bytes changed.
 #[derive(Drop)]
 pub(crate) struct Page<'a> {
     pub(crate) path: &'a str,
-    /// Seconds from one writing to the next.
-    each: u64,
-    /// Whether it is to last beyond a loss of power.
-    lasts: bool,
-    /// The seconds since 1970 before which it isn't written again.
-    next: u64,
-    /// What it has.
-    bytes: Vec<u8>,
+    pub(crate) pace: Pace,
+    pub(crate) care: Care,
+    /// The number of the period in which it was tried last, once it was tried.
+    pub(crate) tried: Option<u64>,
+    /// What it has, where the last try wrote it.
+    pub(crate) has: Option<Vec<u8>>,
 }
 
 impl<'a> Page<'a> {
-    /// A file that isn't written yet.
-    pub(crate) fn new(alloc: Global, path: &'a str, each: u64, lasts: bool) -> Page<'a> {
+    /// A file that wasn't tried yet.
+    pub(crate) fn new(path: &'a str, pace: Pace, care: Care) -> Page<'a> {
         Page {
             path,
-            each,
-            lasts,
-            next: 0,
-            bytes: Vec::new(alloc),
+            pace,
+            care,
+            tried: None,
+            has: None,
         }
     }
 
-    /// Whether it is time to write it, at so many seconds since 1970.
-    pub(crate) fn is_due(&self, now: u64) -> bool {
-        self.next <= now
+    /// Whether it wasn't tried in the period of this moment, in milliseconds.
+    fn is_due(&self, moment: u64) -> bool
+        ensures { IsTrue result ↔ IsDue moment self.now }
+    {
+        self.tried != Some(self.pace.period_at(moment))
     }
 
-    /// Writes it, where its bytes changed.
-    ///
-    /// # Errors
-    ///
-    /// It can't be written.
+    /// Whether it was tried, and wasn't written by the last try.
+    fn is_failing(&self) -> bool
+        ensures { result ≡ is_failing self.now }
+    {
+        self.tried.is_some() && self.has.is_none()
+    }
+
+    /// Tries to write these bytes, unless the file has them. Without memory for them there are none.
+    /// Answers whether it began to fail, or is mended.
     pub(crate) fn write<S: Storage>(
         &mut self,
         alloc: Global,
         storage: &S,
-        now: u64,
-        bytes: Vec<u8>,
-    ) -> io::Result<()> {
-        self.next = now.saturating_add(self.each);
-        if self.bytes != bytes {
-            storage.replace(alloc, self.path, &bytes, self.lasts)?;
-            self.bytes = bytes;
+        moment: u64,
+        bytes: Option<Vec<u8>>,
+    ) -> Turn
+        ensures tried { IsTried (S.replaced storage.now) (S.unwritten storage.now) moment
+            (option_map (λ bytes. bytes.items) bytes) self.old self.new }
+        ensures told { result ≡ turn_between (is_failing self.old) (is_failing self.new) }
+    {
+        let failed = self.is_failing();
+        let has = match bytes {
+            Some(bytes) => self.put(alloc, storage, bytes),
+            None => None,
+        };
+        self.tried = Some(self.pace.period_at(moment));
+        self.has = has;
+        turn_of(failed, self.is_failing())
+    }
+
+    /// The bytes, once the file has them; none where it can't be written.
+    fn put<S: Storage>(&self, alloc: Global, storage: &S, bytes: Vec<u8>) -> Option<Vec<u8>>
+        ensures { CameTo (S.replaced storage.now) (S.unwritten storage.now) self.now
+            (Some bytes.items) (option_map (λ has. has.items) result) }
+    {
+        let has_them = match &self.has {
+            Some(has) => *has == bytes,
+            None => false,
+        };
+        if has_them || storage.replace(alloc, self.path, &bytes, self.care).is_ok() {
+            Some(bytes)
+        } else {
+            None
         }
-        Ok(())
+    }
+}
+
+/// Whether there is a file that is to be tried at this moment.
+pub(crate) fn is_wanted(page: &Option<Page>, at_once: bool, moment: u64) -> bool
+    ensures { IsTrue result ↔ IsSomeAnd page.now (IsWanted at_once moment) }
+{
+    match page {
+        Some(page) => at_once || page.is_due(moment),
+        None => false,
     }
 }

@@ -32,18 +32,19 @@ pub fn load_kept(
     binding: &Binding,
     kept: &Kept,
 ) -> Result<(Setup, Vec<LeftOut>), LoadFault>
-    ensures setup { IfOk result (λ loaded. IsKeptSetup binding.now text.now kept.now loaded.0) }
-    ensures left_out { IfOk result (λ loaded. AreLeftOut text.now kept.now loaded.1.items) }
+    ensures setup { IfOk result (λ loaded.
+        IsKeptSetup binding.now text.now kept.now.values loaded.0) }
+    ensures left_out { IfOk result (λ loaded. AreLeftOut text.now kept.now.values loaded.1.items) }
     ensures fault { IfErr result
-        (IsLoadFaultOrMemory (IsKeptLoadFault binding.now text.now kept.now)) }
+        (IsLoadFaultOrMemory (IsKeptLoadFault binding.now text.now kept.now.values)) }
     // The runs of each task's code are the scans of the source program that begins so, both ways.
     ensures meant { IfOk result (λ loaded.
-        (is : IsKeptSetup binding.now text.now kept.now loaded.0)
+        (is : IsKeptSetup binding.now text.now kept.now.values loaded.0)
         → AreMeant is.plan.tree binding.now.buses loaded.0.codes) }
     // A text has at most one answer, but for out of memory.
     ensures one { (a b : Result Loaded LoadFault)
-        → IsKeptLoaded binding.now text.now kept.now a
-        → IsKeptLoaded binding.now text.now kept.now b → a ≡ b }
+        → IsKeptLoaded binding.now text.now kept.now.values a
+        → IsKeptLoaded binding.now text.now kept.now.values b → a ≡ b }
 {
     let (plan, left_out) = plan_of_kept(alloc, text, binding, kept)?;
     let setup = setup_of(alloc, plan)?;
@@ -63,10 +64,11 @@ pub fn plan_of_kept(
     binding: &Binding,
     kept: &Kept,
 ) -> Result<(Plan, Vec<LeftOut>), LoadFault>
-    ensures plan { IfOk result (λ loaded. IsKeptPlan binding.now text.now kept.now loaded.0) }
-    ensures left_out { IfOk result (λ loaded. AreLeftOut text.now kept.now loaded.1.items) }
+    ensures plan { IfOk result (λ loaded.
+        IsKeptPlan binding.now text.now kept.now.values loaded.0) }
+    ensures left_out { IfOk result (λ loaded. AreLeftOut text.now kept.now.values loaded.1.items) }
     ensures fault { IfErr result
-        (IsLoadFaultOrMemory (IsKeptPlanFault binding.now text.now kept.now)) }
+        (IsLoadFaultOrMemory (IsKeptPlanFault binding.now text.now kept.now.values)) }
 {
     let source = source_of(alloc, text, binding)?;
     let (source, left_out) = with_kept(alloc, source, binding, kept)?;

@@ -1,7 +1,7 @@
 //! What is written beside the buildings of a row: it stays in memory, as the files of the row do.
 
 use crate::simulated::RowsSite;
-use observing::Storage;
+use observing::{Care, Storage};
 use std::alloc::{AllocError, Global};
 use std::io;
 use std::io::ErrorKind;
@@ -15,6 +15,9 @@ const SECONDS: u64 = 1_795_815_310;
 /// The name of a file beside which time passes: each date is ten seconds after the one before.
 const PASSING: &str = "passing";
 
+/// The name of a file beside which the date is set back: each one is ten seconds before the last.
+const FALLING: &str = "falling";
+
 /// The memory that every building of a row takes for its own, in KiB.
 const MEMORY: u64 = 8192;
 
@@ -27,15 +30,15 @@ pub struct Left {
     pub is_written: bool,
     /// What was written to standard error.
     pub told: Vec<u8>,
-    /// How often the file `nearly-full` was written.
+    /// How often the file `nearly-full` or `late` was to be written.
     writings: u32,
-    /// The seconds that passed.
-    passed: u64,
+    /// How often the date was asked for.
+    dates: u64,
 }
 
 /// The files of a row, and standard error, for the threads of one command. A file `full` takes
-/// nothing, since the disk is full, a file `nearly-full` takes what is written two times, and a file
-/// `starved` can't be written for lack of memory.
+/// nothing, since the disk is full, a file `nearly-full` takes what is written two times, a file
+/// `late` takes nothing the first time, and a file `starved` can't be written for lack of memory.
 #[derive(Drop)]
 pub struct RowsDisk {
     alloc: Global,
@@ -52,7 +55,7 @@ impl RowsDisk {
                 is_written: false,
                 told: Vec::new(alloc),
                 writings: 0,
-                passed: 0,
+                dates: 0,
             }),
         }
     }
@@ -93,25 +96,38 @@ impl RowsDisk {
         match path {
             "full" => Err(io::Error::from(ErrorKind::StorageFull)),
             "starved" => Err(io::Error::from(ErrorKind::OutOfMemory)),
-            "nearly-full" => {
-                let mut left = self.left()?;
-                left.writings = left.writings.saturating_add(1);
-                match left.writings {
-                    0..=2 => Ok(()),
-                    _ => Err(io::Error::from(ErrorKind::StorageFull)),
-                }
-            }
+            "nearly-full" => match self.count_writing()? {
+                0..=2 => Ok(()),
+                _ => Err(io::Error::from(ErrorKind::StorageFull)),
+            },
+            "late" => match self.count_writing()? {
+                0..=1 => Err(io::Error::from(ErrorKind::StorageFull)),
+                _ => Ok(()),
+            },
             _ => Ok(()),
         }
     }
 
-    /// The seconds that passed, of which there are ten more where time passes in this row.
-    fn passed(&self) -> io::Result<u64> {
+    /// How often one of the files that are counted was to be written, with this time.
+    fn count_writing(&self) -> io::Result<u32> {
         let mut left = self.left()?;
+        left.writings = left.writings.saturating_add(1);
+        Ok(left.writings)
+    }
+
+    /// The date, in seconds since the beginning of 1970: ten seconds after the one before where time
+    /// passes in this row, and ten before it where the date falls.
+    fn date(&self) -> io::Result<u64> {
+        let mut left = self.left()?;
+        left.dates = left.dates.saturating_add(1);
+        let passed = left.dates.saturating_mul(10);
         if left.files.iter().any(|file| file.path.as_str() == PASSING) {
-            left.passed = left.passed.saturating_add(10);
+            Ok(SECONDS.saturating_add(passed))
+        } else if left.files.iter().any(|file| file.path.as_str() == FALLING) {
+            Ok(SECONDS.saturating_sub(passed))
+        } else {
+            Ok(SECONDS)
         }
-        Ok(left.passed)
     }
 
     /// Puts a file with these bytes at a path, in place of one that is there.
@@ -124,12 +140,17 @@ impl RowsDisk {
         Ok(())
     }
 
-    /// Adds bytes to the file at a path, which is made where it isn't there; how many it has then.
-    fn extend(&self, path: &str, bytes: &[u8]) -> io::Result<u64> {
-        let mut file = match self.read(path) {
+    /// The bytes of the file at a path, none where it isn't there.
+    fn read_or_none(&self, path: &str) -> Vec<u8> {
+        match self.read(path) {
             Ok(file) => file,
             Err(_) => Vec::new(self.alloc),
-        };
+        }
+    }
+
+    /// Adds bytes to the file at a path, which is made where it isn't there; how many it has then.
+    fn extend(&self, path: &str, bytes: &[u8]) -> io::Result<u64> {
+        let mut file = self.read_or_none(path);
         file.extend_from_slice(bytes)?;
         let size = file.len() as u64;
         self.put(path, file)?;
@@ -143,16 +164,33 @@ fn remove(files: &mut Vec<StoredFile>, path: &str) {
 }
 
 impl<S> Storage for RowsSite<'_, S> {
+    ghost use Rattle.std.specs.Prelude.{⊤};
+
+    ghost replaced = { λ _ _ _. ⊤ };
+
+    ghost appended = { λ _ _ _. ⊤ };
+
+    ghost unwritten = { λ _ _. ⊤ };
+
     fn append(&self, path: &str, bytes: &[u8]) -> io::Result<u64> {
-        if !bytes.is_empty() {
-            self.disk.begin_writing(path)?;
-        }
+        self.disk.begin_writing(path)?;
         self.disk.extend(path, bytes)
     }
 
-    fn replace(&self, alloc: Global, path: &str, bytes: &[u8], _lasts: bool) -> io::Result<()> {
+    fn end_line(&self, path: &str) -> io::Result<u64> {
+        match self.disk.read_or_none(path).last() {
+            Some(byte) if *byte != b'\n' => self.disk.extend(path, b"\n"),
+            _ => self.disk.extend(path, b""),
+        }
+    }
+
+    fn replace(&self, alloc: Global, path: &str, bytes: &[u8], _care: Care) -> io::Result<()> {
         self.disk.begin_writing(path)?;
         self.disk.put(path, Vec::from_slice(alloc, bytes)?)
+    }
+
+    fn read(&self, _alloc: Global, path: &str) -> io::Result<Vec<u8>> {
+        self.disk.read(path)
     }
 
     fn rename(&self, from: &str, to: &str) -> io::Result<()> {
@@ -168,7 +206,7 @@ impl<S> Storage for RowsSite<'_, S> {
     }
 
     fn seconds(&self) -> u64 {
-        SECONDS.saturating_add(self.disk.passed().unwrap_or(0))
+        self.disk.date().unwrap_or(SECONDS)
     }
 
     fn memory(&self) -> Option<u64> {

@@ -4,7 +4,7 @@
 use crate::house::House;
 use daliframe::BusNumber;
 use invocations::Beside;
-use observing::{BuildingObserver, Storage};
+use observing::{BuildingObserver, Care, Storage};
 use plantlive::live;
 use plantplay::bus_of;
 use simbus::{Scenario, ScriptedClock, SimBus};
@@ -58,11 +58,27 @@ struct Held<'r, R: Wait> {
 }
 
 impl<R: Wait> Storage for Held<'_, R> {
+    ghost use Rattle.std.specs.Prelude.{⊤};
+
+    ghost replaced = { λ _ _ _. ⊤ };
+
+    ghost appended = { λ _ _ _. ⊤ };
+
+    ghost unwritten = { λ _ _. ⊤ };
+
     fn append(&self, _path: &str, _bytes: &[u8]) -> io::Result<u64> {
         Ok(0)
     }
 
-    fn replace(&self, _alloc: Global, _path: &str, bytes: &[u8], _lasts: bool) -> io::Result<()> {
+    fn end_line(&self, _path: &str) -> io::Result<u64> {
+        Ok(0)
+    }
+
+    fn read(&self, _alloc: Global, _path: &str) -> io::Result<Vec<u8>> {
+        Err(io::Error::from(io::ErrorKind::NotFound))
+    }
+
+    fn replace(&self, _alloc: Global, _path: &str, bytes: &[u8], _care: Care) -> io::Result<()> {
         let mut told = self.told.lock(self.rt);
         told.extend_from_slice(bytes)?;
         Ok(())
@@ -127,7 +143,6 @@ fn is_logged<R: Threads + Wait + Timer + Sync>(rt: &R, alloc: Global) -> Result<
         &BESIDE,
         HOUSE.setup(alloc)?,
         WORKERS,
-        b"",
     ) else {
         return Err(Fail::new("the log isn't opened"));
     };
@@ -158,7 +173,7 @@ fn have_pages<R: Threads + Wait + Timer + Sync>(
         told: Mutex::new(Vec::new(alloc)),
     };
     let setup = HOUSE.setup(alloc)?;
-    let Ok(observer) = BuildingObserver::open(rt, alloc, &held, &PAGES, setup, WORKERS, b"") else {
+    let Ok(observer) = BuildingObserver::open(rt, alloc, &held, &PAGES, setup, WORKERS) else {
         return Err(Fail::new("the pages aren't opened"));
     };
     let mut place: u64 = 0;

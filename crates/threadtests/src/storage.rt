@@ -2,8 +2,9 @@
 //! them: the rows have a disk in memory.
 
 use building::HostStorage;
-use observing::Storage;
+use observing::{Care, Storage};
 use std::alloc::{AllocError, Global};
+use std::os::unix::fs::{MetadataExt, symlink};
 use std::rt::Files;
 use std::test::Fail;
 use std::time::Clock as Timer;
@@ -61,10 +62,10 @@ fn are_appended<R: Files + AllocGlobal + Timer + Eprint>(
 fn are_replaced<R: Files + AllocGlobal + Timer + Eprint>(
     rt: &R,
     paths: &Paths,
-    lasts: bool,
+    care: Care,
 ) -> io::Result<bool> {
     let site = HostStorage { rt };
-    site.replace(rt.alloc(), &paths.log, b"three\n", lasts)?;
+    site.replace(rt.alloc(), &paths.log, b"three\n", care)?;
     let alone = has(rt, &paths.log, b"three\n")?;
     Ok(alone && !fs::exists(rt, paths.beside.as_str())?)
 }
@@ -72,23 +73,56 @@ fn are_replaced<R: Files + AllocGlobal + Timer + Eprint>(
 /// Whether a file that is renamed is found under its new name alone, in place of another one.
 fn is_renamed<R: Files + AllocGlobal + Timer + Eprint>(rt: &R, paths: &Paths) -> io::Result<bool> {
     let site = HostStorage { rt };
-    site.replace(rt.alloc(), &paths.old, b"old\n", false)?;
-    site.replace(rt.alloc(), &paths.log, b"new\n", false)?;
+    site.replace(rt.alloc(), &paths.old, b"old\n", Care::Lasting)?;
+    site.replace(rt.alloc(), &paths.log, b"new\n", Care::Passing)?;
     site.rename(&paths.log, &paths.old)?;
     let there = has(rt, &paths.old, b"new\n")?;
     Ok(there && !fs::exists(rt, paths.log.as_str())?)
+}
+
+/// Whether the last line of a file is ended, once.
+fn is_ended<R: Files + AllocGlobal + Timer + Eprint>(rt: &R, paths: &Paths) -> io::Result<bool> {
+    let site = HostStorage { rt };
+    let none = site.end_line(&paths.log)?;
+    site.append(&paths.log, b"half")?;
+    let (first, second) = (site.end_line(&paths.log)?, site.end_line(&paths.log)?);
+    let ended = has(rt, &paths.log, b"half\n")?;
+    rt.remove_file(&paths.log)?;
+    Ok(ended && (none, first, second) == (0, 5, 5))
+}
+
+/// Whether a file is written beside its path as a new one, which only its owner may read, where a link
+/// to another file was.
+fn is_made_anew<R: Files + AllocGlobal + Timer + Eprint>(
+    rt: &R,
+    paths: &Paths,
+) -> io::Result<bool> {
+    let site = HostStorage { rt };
+    site.append(&paths.old, b"mine\n")?;
+    symlink(rt, paths.old.as_str(), paths.beside.as_str())?;
+    site.replace(rt.alloc(), &paths.log, b"new\n", Care::Private)?;
+    let kept = has(rt, &paths.old, b"mine\n")?;
+    let new = has(rt, &paths.log, b"new\n")?;
+    let mode = rt.metadata(&paths.log)?.mode();
+    rt.remove_file(&paths.old)?;
+    rt.remove_file(&paths.log)?;
+    Ok(kept && new && mode & 0o777 == 0o600)
 }
 
 #[test]
 fn what_is_written_beside_a_building_is_on_the_disk(rt: HostRuntime) -> Result<(), Fail> {
     let paths = Paths::new(&rt, rt.alloc())?;
     fs::create_dir(&rt, paths.folder.as_str())?;
+    let ended = is_ended(&rt, &paths)?;
+    let anew = is_made_anew(&rt, &paths)?;
     let appended = are_appended(&rt, &paths)?;
-    let lasting = are_replaced(&rt, &paths, true)?;
-    let replaced = are_replaced(&rt, &paths, false)?;
+    let lasting = are_replaced(&rt, &paths, Care::Private)?;
+    let replaced = are_replaced(&rt, &paths, Care::Passing)?;
     let renamed = is_renamed(&rt, &paths)?;
     rt.remove_file(&paths.old)?;
     fs::remove_dir(&rt, paths.folder.as_str())?;
+    assert!(rt; ended, "a line is ended");
+    assert!(rt; anew, "a file is made anew");
     assert!(rt; appended, "bytes are appended");
     assert!(rt; lasting && replaced, "bytes replace a file");
     assert!(rt; renamed, "a file is renamed");

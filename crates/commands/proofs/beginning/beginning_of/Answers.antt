@@ -1,7 +1,7 @@
 use Rattle.std.proofs.Common.{rules, ◌≡◌, ◌∙◌, ℕ, List, Some, option_map, ap, subst, sym}
-use Rattle.keeping.specs.KeptFiles.{IsKeptFile, digest_of}
+use Rattle.keeping.specs.KeptFiles.{IsKeptFile}
 use Rattle.keeping.specs.Faults.{IsKeptFaultOrMemory}
-use Rattle.keeping.specs.declared.fault.KeptFault.TheVariants.{Empty, Torn, OtherText}
+use Rattle.keeping.specs.declared.fault.KeptFault.TheVariants.{Empty, Torn}
 use Rattle.commands.specs.Beginnings.{IsFileOf}
 use Rattle.commands.proofs.LivesOut.{if_left}
 use Rattle.commands.proofs.UnusedValues.{begun_without, unusable_unused}
@@ -9,13 +9,12 @@ use Rattle.commands.proofs.beginning.beginning_of.Goals as goal
 
 pub returns-in-Ok-clause-used : goal.returns-in-Ok-clause-used
 returns-in-Ok-clause-used c =
-    let text = c.args.text.now in
     let kept = c.in-Ok.kept in
     let bytes : c.deref.result.now ≡ c.in-Some.bytes.now.items = search rules in
-    let read : IsKeptFile c.in-Some.bytes.now.items (digest_of text) kept =
-    subst (λ (b : List ℕ). IsKeptFile b (digest_of text) kept) bytes c.in-Ok.ensures.kept in
-    let file : IsFileOf text (option_map (λ bytes. bytes.now.items) c.args.file) kept =
-    subst (λ f. IsFileOf text (option_map (λ bytes. bytes.now.items) f) kept) (sym c.in-Some.is) read in
+    let read : IsKeptFile c.in-Some.bytes.now.items kept =
+    subst (λ (b : List ℕ). IsKeptFile b kept) bytes c.in-Ok.ensures.kept in
+    let file : IsFileOf (option_map (λ bytes. bytes.now.items) c.args.file) kept =
+    subst (λ f. IsFileOf (option_map (λ bytes. bytes.now.items) f) kept) (sym c.in-Some.is) read in
     if_left _ _ (λ b used. used (option_map (λ bytes. bytes.now.items) c.args.file) file) c.begun_with.result
     c.begun_with.ensures.used
 
@@ -30,7 +29,7 @@ returns-in-Err-Empty-clause-used c =
     unusable_unused c.args.binding.now c.args.text.now c.deref.result.now
     (option_map (λ bytes. bytes.now.items) c.args.file) c.without.result Empty
     (ap (λ file. option_map (λ bytes. bytes.now.items) file) c.in-Some.is ∙ ap Some (sym bytes)) c.without.ensures.kept
-    (subst (IsKeptFaultOrMemory c.args.text.now c.deref.result.now) c.in-Err-Empty.field-0-is c.in-Err-Empty.ensures.fault)
+    (subst (IsKeptFaultOrMemory c.deref.result.now) c.in-Err-Empty.field-0-is c.in-Err-Empty.ensures.fault)
 
 pub returns-in-Err-Torn-clause-begun : goal.returns-in-Err-Torn-clause-begun
 returns-in-Err-Torn-clause-begun c =
@@ -43,17 +42,4 @@ returns-in-Err-Torn-clause-used c =
     unusable_unused c.args.binding.now c.args.text.now c.deref.result.now
     (option_map (λ bytes. bytes.now.items) c.args.file) c.without-in-Err-Torn.result Torn
     (ap (λ file. option_map (λ bytes. bytes.now.items) file) c.in-Some.is ∙ ap Some (sym bytes)) c.without-in-Err-Torn.ensures.kept
-    (subst (IsKeptFaultOrMemory c.args.text.now c.deref.result.now) c.in-Err-Torn.field-0-is c.in-Err-Torn.ensures.fault)
-
-pub returns-in-Err-OtherText-clause-begun : goal.returns-in-Err-OtherText-clause-begun
-returns-in-Err-OtherText-clause-begun c =
-    begun_without c.args.binding.now c.args.text.now c.in_ok-setup.setup c.without-in-Err-OtherText.result c.in_ok-setup.ensures.setup
-    c.without-in-Err-OtherText.ensures.setup c.without-in-Err-OtherText.ensures.kept
-
-pub returns-in-Err-OtherText-clause-used : goal.returns-in-Err-OtherText-clause-used
-returns-in-Err-OtherText-clause-used c =
-    let bytes : c.deref.result.now ≡ c.in-Some.bytes.now.items = search rules in
-    unusable_unused c.args.binding.now c.args.text.now c.deref.result.now
-    (option_map (λ bytes. bytes.now.items) c.args.file) c.without-in-Err-OtherText.result OtherText
-    (ap (λ file. option_map (λ bytes. bytes.now.items) file) c.in-Some.is ∙ ap Some (sym bytes)) c.without-in-Err-OtherText.ensures.kept
-    (subst (IsKeptFaultOrMemory c.args.text.now c.deref.result.now) c.in-Err-OtherText.field-0-is c.in-Err-OtherText.ensures.fault)
+    (subst (IsKeptFaultOrMemory c.deref.result.now) c.in-Err-Torn.field-0-is c.in-Err-Torn.ensures.fault)

@@ -12,7 +12,7 @@ returns-in-Err-Text-clause-begun c =
 
 pub returns-in-Err-Text-clause-used : goal.returns-in-Err-Text-clause-used
 returns-in-Err-Text-clause-used c =
-    let faults = IsKeptLoadFault c.in_ok-binding.binding c.args.text.now c.args.kept in
+    let faults = IsKeptLoadFault c.in_ok-binding.binding c.args.text.now c.args.kept.values in
     refused_unused c.args.binding.now c.args.text.now c.args.kept c.without.result c.in_ok-binding.binding
     (Text c.in-Err-Text.field-0-0) c.without.ensures.kept c.in_ok-binding.ensures.binding
     (subst (IsLoadFaultOrMemory faults) c.in-Err-Text.field-0-is c.in-Err-Text.ensures.fault)
@@ -24,7 +24,7 @@ returns-in-Err-Name-clause-begun c =
 
 pub returns-in-Err-Name-clause-used : goal.returns-in-Err-Name-clause-used
 returns-in-Err-Name-clause-used c =
-    let faults = IsKeptLoadFault c.in_ok-binding.binding c.args.text.now c.args.kept in
+    let faults = IsKeptLoadFault c.in_ok-binding.binding c.args.text.now c.args.kept.values in
     refused_unused c.args.binding.now c.args.text.now c.args.kept c.without-in-Err-Name.result c.in_ok-binding.binding
     (Name c.in-Err-Name.field-0-0) c.without-in-Err-Name.ensures.kept c.in_ok-binding.ensures.binding
     (subst (IsLoadFaultOrMemory faults) c.in-Err-Name.field-0-is c.in-Err-Name.ensures.fault)
@@ -36,7 +36,7 @@ returns-in-Err-Code-clause-begun c =
 
 pub returns-in-Err-Code-clause-used : goal.returns-in-Err-Code-clause-used
 returns-in-Err-Code-clause-used c =
-    let faults = IsKeptLoadFault c.in_ok-binding.binding c.args.text.now c.args.kept in
+    let faults = IsKeptLoadFault c.in_ok-binding.binding c.args.text.now c.args.kept.values in
     refused_unused c.args.binding.now c.args.text.now c.args.kept c.without-in-Err-Code.result c.in_ok-binding.binding
     (Code c.in-Err-Code.field-0-0) c.without-in-Err-Code.ensures.kept c.in_ok-binding.ensures.binding
     (subst (IsLoadFaultOrMemory faults) c.in-Err-Code.field-0-is c.in-Err-Code.ensures.fault)

@@ -7,8 +7,8 @@ use Rattle.keeping.proofs.begun.begun_globals.Given as goal
 
 abbrev pub invariant-declarations : goal.invariant-declarations
 invariant-declarations l =
-    (l.list.items ++ flat_map (begun_in l.fn.source l.fn.kept) l.left
-    ≡ flat_map (begun_in l.fn.source l.fn.kept) l.fn.declarations)
+    (l.list.items ++ flat_map (begun_in l.fn.source l.fn.kept.values) l.left
+    ≡ flat_map (begun_in l.fn.source l.fn.kept.values) l.fn.declarations)
     × (l.rest ≡ flat_map (globals_in (types_of_text l.fn.source)) l.left)
 
 abbrev pub decreases-declarations : goal.decreases-declarations

@@ -7,6 +7,6 @@ use Rattle.liveclock.proofs.clocks.LiveClock.note.Goals as goal
 pub invariant_of-self : goal.invariant_of-self
 invariant_of-self g c =
     let given : reverse c.self.inside.given.items ≡ c.args.self.now.log.given =
-    ap (λ (v : ClockState). v.log.given) c.self.view_is in
+    ap (λ (v : ClockState g.row.S.Denot). v.log.given) c.self.view_is in
     never_falls_on c.self.inside.given.items c.push.new.self.items c.args.moment c.push.ensures
     (subst (λ (xs : List ℕ). All (λ (e : ℕ). e ≤ c.args.moment) xs) (sym given) c.requires)

@@ -1,0 +1,8 @@
+use Rattle.std.proofs.Common.{◌≡◌}
+use Rattle.keeping.specs.KeptStates.{entries_of}
+use Rattle.keeping.proofs.KeptEntries.{kept_and_left}
+use Rattle.keeping.proofs.keep.kept_values.Given as goal
+
+abbrev pub invariant-loop-global : goal.invariant-loop-global
+invariant-loop-global l =
+    kept_and_left l.fn.plan.text l.fn.plan.globals l.fn.values l.global l.kept.items ≡ entries_of l.fn.plan l.fn.values

@@ -1,0 +1,132 @@
+//! What is sent and heard on buses, and what the history says of that.
+
+ghost use Rattle.std.specs.Prelude.{◌≡◌, ◌<◌, [], Err, IfOk, OnOk, false, length, map, true};
+ghost use Rattle.std.specs.Prelude.{vec_len};
+ghost use Rattle.buslink.specs.BusLog.{one_more};
+ghost use Rattle.driving.specs.Links.{AreLinked, log_of};
+ghost use Rattle.driving.specs.Open.{HasNothingOpen};
+ghost use Rattle.plantevents.specs.Histories.{is_down, sent_in};
+
+use buslink::Bus;
+use driving::{Halt, Observer, has_down, send_next, settle};
+use plant::{CallError, CallRefusal, Order, Plant};
+use plantevents::what_is_counted;
+use std::alloc::Global;
+
+/// `a_bus_goes_down_that_did_not_fail`: a bus went down whose interface had not failed.
+pub fn bus_goes_down_only_where_it_failed<B: Bus, O: Observer<B>>(
+    plant: &mut Plant,
+    line: &mut B,
+    observer: &mut O,
+) -> Result<bool, Halt>
+    requires { 0 < plant.old.plant.plan.buses }
+    ensures { IfOk result (λ down. down ≡ true
+        → (B.log line.new).failures ≡ one_more (B.log line.old).failures) }
+{
+    send_next(plant, 0, line, observer)?;
+    Ok(plant.is_down(0))
+}
+
+/// `a_report_is_filed_and_nothing_sent`: the history had a report of frames that the bus had not
+/// sent.
+pub fn reported_frames_were_sent<B: Bus, O: Observer<B>>(
+    plant: &mut Plant,
+    line: &mut B,
+    observer: &mut O,
+) -> Result<(), Halt>
+    requires { (B.log line.old).sent ≡ sent_in 0 plant.old.history }
+    ensures { OnOk result ((B.log line.new).sent ≡ sent_in 0 plant.new.history) }
+{
+    send_next(plant, 0, line, observer)
+}
+
+/// `out_of_memory_where_the_plant_refuses`: the driving was out of memory where a bus is down.
+pub fn refusal_is_not_out_of_memory<B: Bus, O: Observer<B>>(
+    plant: &mut Plant,
+    line: &mut B,
+    observer: &mut O,
+) -> Result<(), Halt>
+    requires known { 0 < plant.old.plant.plan.buses }
+    requires down { is_down 0 plant.old.history ≡ true }
+    ensures { result ≡ Err (Halt.Refused CallRefusal.BusDown) }
+{
+    send_next(plant, 0, line, observer)
+}
+
+/// `a_bus_that_is_down_is_not_seen`: of a plant whose only bus is down no bus was down.
+pub fn bus_that_is_down_is_seen(plant: &Plant) -> bool
+    requires one { plant.now.plant.plan.buses ≡ 1 }
+    requires down { is_down 0 plant.now.history ≡ true }
+    ensures { result ≡ true }
+{
+    has_down(plant)
+}
+
+/// `a_round_with_a_scan_alone_is_the_last`: all was done, and a task was ready.
+pub fn no_task_is_left<B: Bus, O: Observer<B>>(
+    alloc: Global,
+    plant: &mut Plant,
+    lines: &mut Vec<B>,
+    observer: &mut O,
+) -> Result<Result<Order, CallError>, Halt>
+    requires workers { 0 < plant.old.plant.workers }
+    requires count { vec_len lines.old ≡ plant.old.plant.plan.buses }
+    requires open { HasNothingOpen plant.old }
+    ensures { IfOk result (λ taken. OnOk taken ⊥) }
+{
+    settle(alloc, plant, lines, observer)?;
+    Ok(plant.take(alloc, 0))
+}
+
+/// `a_bus_is_asked_once`: all was done, and a bus that is up had not been heard to its end.
+pub fn bus_is_heard_to_its_end<B: Bus, O: Observer<B>>(
+    alloc: Global,
+    plant: &mut Plant,
+    lines: &mut Vec<B>,
+    observer: &mut O,
+) -> Result<bool, Halt>
+    requires known { 0 < plant.old.plant.plan.buses }
+    requires workers { 0 < plant.old.plant.workers }
+    requires count { vec_len lines.old ≡ plant.old.plant.plan.buses }
+    requires open { HasNothingOpen plant.old }
+    ensures { IfOk result (λ down. down ≡ false
+        → (log_of (map B.log lines.new.items) 0).heard_none ≡ true) }
+{
+    settle(alloc, plant, lines, observer)?;
+    Ok(plant.is_down(0))
+}
+
+/// An event that was invented: the history had a frame that its bus had not heard.
+/// `a_frame_that_was_heard_is_not_noted`: it lacked one that its bus had heard.
+pub fn heard_frames_are_in_the_history<B: Bus, O: Observer<B>>(
+    alloc: Global,
+    plant: &mut Plant,
+    lines: &mut Vec<B>,
+    observer: &mut O,
+    firsts: &Vec<B>,
+) -> Result<u64, Halt>
+    requires known { 0 < plant.old.plant.plan.buses }
+    requires workers { 0 < plant.old.plant.workers }
+    requires count { vec_len lines.old ≡ plant.old.plant.plan.buses }
+    requires open { HasNothingOpen plant.old }
+    requires linked { AreLinked (map B.log firsts.now.items) plant.old.history (map B.log lines.old.items) }
+    requires none { (log_of (map B.log firsts.now.items) 0).heard ≡ [] }
+    ensures { IfOk result (λ heards.
+        heards ≡ length (log_of (map B.log lines.new.items) 0).heard) }
+{
+    what_is_counted();
+    settle(alloc, plant, lines, observer)?;
+    Ok(plant.heards(0))
+}
+
+/// A mend that changes the log, `a_mend_hears`, `a_mend_takes_the_bus_up`: to ask whether an
+/// interface answers again sent, heard or counted something.
+pub fn asking_changes_no_count<B: Bus>(line: &mut B) -> bool
+    ensures sent { (B.log line.new).sent ≡ (B.log line.old).sent }
+    ensures heard { (B.log line.new).heard ≡ (B.log line.old).heard }
+    ensures hears { (B.log line.new).hears ≡ (B.log line.old).hears }
+    ensures failures { (B.log line.new).failures ≡ (B.log line.old).failures }
+    ensures mends { (B.log line.new).mends ≡ (B.log line.old).mends }
+{
+    line.mend()
+}
