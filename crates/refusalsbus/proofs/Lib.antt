@@ -1,1 +1,3 @@
+pub mod Logs
 pub mod LostFrames
+pub mod ShortTexts

@@ -14,6 +14,7 @@
 pub mod bindings;
 pub mod events;
 pub mod frames;
+pub mod lines;
 pub mod scenarios;
 pub mod transactions;
 pub mod words;

@@ -1,3 +1,4 @@
+pub mod FileFaults
 pub mod FirstTasks
 pub mod ImageSlots
 pub mod Joined

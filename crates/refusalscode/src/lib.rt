@@ -16,6 +16,7 @@
 
 pub mod bounds;
 pub mod compiled;
+pub mod files;
 pub mod images;
 pub mod known;
 pub mod machines;

@@ -22,6 +22,13 @@ pub not_done : {A : Type 0} (cases : List Case) (refusal : CallRefusal) (done : 
     → GivesFirst cases (Ok done) → ¬ (first_refusal cases ≡ Some refusal)
 not_done cases refusal done gives first = absurd (cc)
 
+-- what is answered is the first case that holds
+pub gave : {A : Type 0} (cases : List Case) (refusal : CallRefusal) (given : Result A CallRefusal)
+    → GivesFirst cases given → given ≡ Err refusal → first_refusal cases ≡ Some refusal
+gave cases refusal (Ok x) gives is = absurd (cc)
+gave cases refusal (Err other) gives is =
+    let same : other ≡ refusal = cc in gives ∙ ap (λ (r : CallRefusal). Some r) same
+
 pub below : (a b : ℕ) → a < b → nat_lt a b ≡ true
 below a b lt = grind (arith, common_steps)
 

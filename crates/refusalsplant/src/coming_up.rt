@@ -1,12 +1,16 @@
 //! Buses that come up again.
 
-ghost use Rattle.std.specs.Prelude.{◌≡◌, ◌+◌, ◌<◌, [], Err, IfOk, false, length, true};
+ghost use Rattle.std.specs.Prelude.{◌≡◌, ◌≢◌, ◌+◌, ◌<◌, [], Err, IfOk, Some, false, length, true};
+ghost use Rattle.ilimage.specs.Images.{Global as GlobalVariable};
 ghost use Rattle.plantevents.specs.Histories.{hand, is_down};
-ghost use Rattle.plantevents.specs.Waiting.{handouts, waiting};
+ghost use Rattle.plantevents.specs.Plants.{output_at};
+ghost use Rattle.plantevents.specs.Variables.{value, whole};
+ghost use Rattle.plantevents.specs.Waiting.{handouts, level_class, waiting};
 ghost use Rattle.plant.specs.Shown.{is_full, used};
 
 use busqueue::Class;
 use plant::{CallRefusal, Plant};
+use plantevents::{what_coming_up_changes, what_is_handed_out};
 
 /// `a_bus_that_is_up_comes_up`: a bus came up that was not down.
 pub fn bus_that_is_up_does_not_come_up(plant: &mut Plant) -> Result<(), CallRefusal>
@@ -61,5 +65,22 @@ pub fn other_bus_owes_nothing_anew(plant: &mut Plant) -> Result<(), CallRefusal>
     match plant.up(0) {
         Ok(()) => plant.allows_hand(1),
         Err(_) => Err(CallRefusal::NothingReady),
+    }
+}
+
+/// `a_bus_that_came_up_owes_nothing_anew`, `a_bus_that_comes_up_owes_what_it_owed`,
+/// `a_bus_that_comes_up_owes_no_level_of_254`: a level was not owed again once its bus came up.
+pub fn level_is_owed_again(plant: &mut Plant) -> Result<(), CallRefusal>
+    requires located { output_at plant.old.plant 0 5 ≡ Some 3 }
+    requires class { level_class plant.old.plant 3 ≡ 2 }
+    requires lit { value plant.old.plant (GlobalVariable 3) plant.old.history
+        ≡ Some (whole 254) }
+    ensures { result ≢ Err CallRefusal.NothingReady }
+{
+    what_coming_up_changes();
+    what_is_handed_out();
+    match plant.up(0) {
+        Ok(()) => plant.allows_hand(0),
+        Err(_) => Ok(()),
     }
 }

@@ -1,0 +1,73 @@
+-- Texts that are too short for what a line is to say.
+use Rattle.std.proofs.Common.{◌≡◌, ◌∙◌, ◌<◌, ◌≤◌, ℕ, List, [], ◌++◌, length, codes, Option, Some, None, Result, Ok, Err}
+use Rattle.std.proofs.Common.{IfOk, false, inl, inr, refl, sym, ap, arith, length-append, is_ok}
+use Rattle.std.specs.Fmt.{decimal}
+use Rattle.std.specs.Io.KnownBytes.{Consumes}
+use Rattle.linebus.specs.Exchanges.{IsExchange, LineState}
+use Rattle.linebus.specs.Greetings.{Ends, IsGreeted, ended, ends}
+use Rattle.linebus.specs.Lines.{IsMessage, fault_line, greeting, hear_line, line_end, numbered_answer}
+
+-- bytes that were read of a text begin it
+pub record BeginBy (text bytes : List ℕ) (left : Option (List ℕ)) : Type 0 where
+  pub rest : List ℕ
+  pub is : left ≡ Some rest
+  pub are : text ≡ bytes ++ rest
+
+pub begin_by : (old new : Option (List ℕ)) (text bytes : List ℕ) → old ≡ Some text → Consumes old new bytes
+    → BeginBy text bytes new
+begin_by None new text bytes is read = absurd cc
+begin_by (Some xs) None text bytes is read = absurd read
+begin_by (Some xs) (Some ys) text bytes is read =
+    let same : xs ≡ text = cc in record { rest = ys; is = refl; are = sym same ∙ read }
+
+-- ---- a message
+
+message_long : (message : Option ℕ) (line : List ℕ) → IsMessage message line → 4 ≤ length line
+message_long None line says = omega (arith, ap length says)
+message_long (Some frame) line says = omega (arith, ap length says.1, length-append (codes "event ") says.0)
+
+pub no_message : {E : Type 0} (given : Result (Option ℕ) E) (old new : LineState) (text : List ℕ)
+    → old.unread ≡ Some text → length text < 5
+    → IfOk given (λ message. IsExchange hear_line (λ line. IsMessage message line) old new) → is_ok given ≡ false
+no_message (Err fault) old new text is short said = refl
+no_message (Ok message) old new text is short said =
+    let read = begin_by old.unread new.unread text (said.line ++ line_end) is said.answer in
+    let long = message_long message said.line said.says in
+    absurd (omega
+    (arith, ap length read.are, length-append (said.line ++ line_end) read.rest, length-append said.line line_end))
+
+-- ---- a greeting
+
+too_short : (text : List ℕ) (old new : Ends) → old.unread ≡ Some text → length text < 16 → ¬ IsGreeted 7 old new
+too_short text old new is short (inl greeted) =
+    let answer = greeted.answer in
+    let bytes = numbered_answer 7 ++ line_end in
+    let read = begin_by old.unread new.unread text (ended answer.passed ++ bytes) is answer.read in
+    omega (
+      arith,
+      ap length read.are,
+      length-append (ended answer.passed ++ bytes) read.rest,
+      length-append (ended answer.passed) bytes,
+      length-append (numbered_answer 7) line_end,
+      length-append (codes "gushewa 2 hears ") (decimal 7),
+    )
+too_short text old new is short (inr greeted) =
+    let refusal = greeted.refusal in
+    let first = begin_by old.unread greeted.refused text (ended refusal.passed ++ (fault_line ++ line_end)) is refusal.read in
+    let away = begin_by greeted.refused greeted.silent first.rest greeted.read_away.0 first.is greeted.read_away.1 in
+    let last = begin_by greeted.silent new.unread away.rest (greeting ++ line_end) away.is greeted.plain_answer in
+    omega (
+      arith,
+      ap length first.are,
+      length-append (ended refusal.passed ++ (fault_line ++ line_end)) first.rest,
+      length-append (ended refusal.passed) (fault_line ++ line_end),
+      ap length away.are,
+      length-append greeted.read_away.0 away.rest,
+      ap length last.are,
+      length-append (greeting ++ line_end) last.rest,
+    )
+
+pub no_greeting : {E : Type 0} (given : Result Ends E) (old : Ends) (text : List ℕ) → old.unread ≡ Some text
+    → length text < 16 → IfOk given (λ greeted. IsGreeted 7 old greeted) → is_ok given ≡ false
+no_greeting (Err fault) old text is short greeted = refl
+no_greeting (Ok new) old text is short greeted = absurd (too_short text old new is short greeted)

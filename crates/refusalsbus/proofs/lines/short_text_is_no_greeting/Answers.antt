@@ -1,0 +1,11 @@
+use Rattle.std.proofs.Common.{◌∙◌}
+use Rattle.linebus.specs.Greetings.{ends}
+use Rattle.refusalsbus.proofs.ShortTexts.{no_greeting}
+use Rattle.refusalsbus.proofs.lines.short_text_is_no_greeting.Goals as goal
+
+pub returns : goal.returns
+returns g c =
+    c.is_ok.ensures.value
+    ∙ no_greeting c.greet.result
+    (ends (g.R.Read.remaining c.args.from) (g.W.Write.contents c.args.to)) c.args.text.now c.requires.text
+    c.requires.short c.greet.ensures

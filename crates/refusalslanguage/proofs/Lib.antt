@@ -1,0 +1,5 @@
+pub mod Lexed
+pub mod Results
+pub mod SmallNumbers
+pub mod Somewhere
+pub mod Words

@@ -1,0 +1,18 @@
+use Rattle.std.proofs.Common.{◌≡◌, ℕ, Some}
+use Rattle.ildeclared.specs.declared.fault.NameCause.{NameCause}
+use Rattle.ildeclared.specs.declared.fault.NameCause.TheVariants.{BackwardJump}
+use Rattle.ildeclared.specs.declared.found.Found.{Found}
+use Rattle.ildeclared.specs.Faults.{IsLeastOf, SomeOf}
+use Rattle.ilscope.proofs.OneFault.{one_least}
+use Rattle.ilscope.specs.Declarations.{bodies_of}
+use Rattle.iluses.specs.Faults.{IsFaultOfBody}
+use Rattle.refusalslanguage.proofs.Results.{if_ok}
+use Rattle.refusalslanguage.proofs.uses.jump_back_is_found.Goals as goal
+
+pub returns : goal.returns
+returns c =
+    let tree = c.args.scope.now.tree in
+    let faults : ℕ → NameCause → Type 0 = λ at cause. SomeOf (λ p. IsFaultOfBody tree p at cause) (bodies_of tree) in
+    let fault : Found = record { at = c.args.place; cause = BackwardJump } in
+    if_ok (IsLeastOf faults) (λ found. found ≡ Some fault) c.fault_of_lines.result c.fault_of_lines.ensures
+    (λ found least. one_least faults found (Some fault) least c.requires)
