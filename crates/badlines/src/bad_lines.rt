@@ -150,6 +150,9 @@ pub(crate) fn bad_words(
     line: &[u8],
     forms: &[Form],
 ) -> Result<Option<Reason>, AllocError> {
+    if let [0xef, 0xbb, 0xbf, content @ ..] = line {
+        return Ok(Some(marked(alloc, content)?));
+    }
     if let Some(reason) = bad_blanks(alloc, line)? {
         return Ok(Some(reason));
     }
@@ -182,6 +185,15 @@ pub(crate) fn example_of(line: &[u8], forms: &[Form], other: &'static str) -> &'
         Some(form) => form.example,
         None => other,
     }
+}
+
+/// A reason of a byte order mark, with what stands behind it.
+fn marked(alloc: Global, content: &[u8]) -> Result<Reason, AllocError> {
+    let what = String::from_str(alloc, "a byte order mark")?;
+    let cure = "save the file without one: as ASCII, or as UTF-8 without a mark";
+    let mut reason = Reason::new(alloc, 1, what, cure)?;
+    reason.meant = Some(Vec::from_slice(alloc, content)?);
+    Ok(reason)
 }
 
 /// Why the blanks of a line are bad.

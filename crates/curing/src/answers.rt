@@ -1,7 +1,7 @@
 //! What is said of a fault.
 
 use crate::advice::Advice;
-use crate::edits::Edit;
+use crate::edits::{Edit, TriedLines};
 use std::alloc::{AllocError, Global};
 use std::io;
 use std::io::Write;
@@ -21,8 +21,10 @@ pub struct FaultAnswer {
 /// Lines that show what helps.
 #[derive(Drop)]
 pub enum Example {
-    /// Lines in place of those at fault: with them the text is accepted, or the fault is gone.
+    /// A line in place of that at fault: with it the file is accepted, or the fault is gone.
     Tried(String),
+    /// Lines in place of these: with them the text is accepted, or the fault is gone.
+    TriedLines(TriedLines),
     /// Lines of another text.
     Other(String),
 }
@@ -49,7 +51,7 @@ impl FaultAnswer {
             what: self.what,
             facts: self.facts,
             cure: self.cure,
-            example: Example::Tried(edit.lines(alloc, text)?),
+            example: Example::TriedLines(edit.lines(alloc, text)?),
         })
     }
 
@@ -64,8 +66,8 @@ impl FaultAnswer {
     }
 }
 
-/// Writes what is known, what helps, and the lines.
-pub fn write_answer<W: Write>(out: &mut W, answer: &FaultAnswer) -> io::Result<()> {
+/// Writes what is known, what helps, and the lines, of a fault on this line.
+pub fn write_answer<W: Write>(out: &mut W, answer: &FaultAnswer, line: usize) -> io::Result<()> {
     write!(out, "{}", answer.facts.as_str())?;
     write_cure(out, answer.cure.as_str())?;
     match &answer.example {
@@ -73,10 +75,26 @@ pub fn write_answer<W: Write>(out: &mut W, answer: &FaultAnswer) -> io::Result<(
             writeln!(out, "as it could read:")?;
             write_lines(out, lines.as_str())
         }
+        Example::TriedLines(tried) => {
+            write_title(out, tried, line)?;
+            write_lines(out, tried.with.as_str())
+        }
         Example::Other(lines) => {
             writeln!(out, "for example:")?;
             write_lines(out, lines.as_str())
         }
+    }
+}
+
+/// Writes which lines could read as it was tried, unless they are the one at fault alone.
+fn write_title<W: Write>(out: &mut W, tried: &TriedLines, line: usize) -> io::Result<()> {
+    let TriedLines { first, last, .. } = *tried;
+    if first == line && last == line {
+        writeln!(out, "as it could read:")
+    } else if first == last {
+        writeln!(out, "as line {first} could read:")
+    } else {
+        writeln!(out, "as lines {first} to {last} could read:")
     }
 }
 

@@ -1,7 +1,10 @@
 //! Changes of a text that may cure it, and trying them.
 
+ghost use Rattle.std.specs.Prelude.{IfOk};
+ghost use Rattle.curing.specs.LeavingOut.{IsEdit};
+
 use crate::asked::AskedText;
-use crate::marking::shown_text;
+use crate::marking::{line_number, shown_text};
 use crate::spots::{Spot, part, place_of};
 use ilscope::NameFault;
 use iltext::{TextFault, parse};
@@ -18,7 +21,9 @@ pub struct Edit {
 
 impl Edit {
     /// These bytes in place of others.
-    pub fn new(alloc: Global, from: usize, to: usize, with: &[u8]) -> Result<Edit, AllocError> {
+    pub fn new(alloc: Global, from: usize, to: usize, with: &[u8]) -> Result<Edit, AllocError>
+        ensures { IfOk result (λ edit. IsEdit from to with.now edit) }
+    {
         Ok(Edit {
             from,
             to,
@@ -41,11 +46,15 @@ impl Edit {
     }
 
     /// The lines that the change touches, as they could read.
-    pub fn lines(&self, alloc: Global, text: &[u8]) -> Result<String, AllocError> {
+    pub fn lines(&self, alloc: Global, text: &[u8]) -> Result<TriedLines, AllocError> {
         let first = Spot::of(text, self.from);
         let last = Spot::of(text, self.to);
         let bytes = self.apply(alloc, text, first.line_from, last.line_to)?;
-        shown_text(alloc, &bytes)
+        Ok(TriedLines {
+            first: line_number(text, self.from),
+            last: line_number(text, self.to),
+            with: shown_text(alloc, part(&bytes, 0, content_len(&bytes)))?,
+        })
     }
 
     /// Whether the text reads with the change up to the end of its last line, and of that of a place,
@@ -94,6 +103,26 @@ impl Edit {
             }),
         }
     }
+}
+
+/// How many bytes there are up to the last one that is no blank.
+pub fn content_len(bytes: &[u8]) -> usize {
+    let mut len: usize = 0;
+    for (index, byte) in bytes.iter().enumerate() {
+        if *byte != b' ' && *byte != b'\t' {
+            len = index.saturating_add(1);
+        }
+    }
+    len
+}
+
+/// Lines of a text, and what could stand in their place.
+#[derive(Drop)]
+pub struct TriedLines {
+    /// The first and the last of them, counted from 1.
+    pub first: usize,
+    pub last: usize,
+    pub with: String,
 }
 
 /// What stands against a text with a change.

@@ -3,8 +3,10 @@
 //! What crosses the boundary: a [`Spot`], what stands at a place and around it; [`Surroundings`],
 //! what is open there; [`Possible`], what could stand there, for which the parser is asked; an
 //! [`Edit`], a change, with its [`EditOutcome`] where it is tried; and a [`FaultAnswer`], what is
-//! said of a fault, whose lines were tried or are of another text. What is printed is fixed by
-//! worked rows (crates/rows); of the code it is proved that it is safe and ends.
+//! said of a fault, whose lines were tried or are of another text. [`left_out`] and
+//! [`in_place_of_sign`] take away signs that stand for nothing, and nothing else (`LeavesOut`,
+//! `ReplacesSign`). What is printed is fixed by worked rows (crates/rows); of the rest of the code
+//! it is proved that it is safe and ends.
 //!
 //! ```text
 //! let spot = Spot::of(text, at);
@@ -17,6 +19,7 @@ mod advice;
 mod answers;
 mod asked;
 mod edits;
+mod leaving_out;
 mod marking;
 mod nearest;
 mod possible;
@@ -27,7 +30,8 @@ mod words;
 pub use advice::Advice;
 pub use answers::{Example, FaultAnswer, write_answer};
 pub use asked::AskedText;
-pub use edits::{Edit, EditOutcome};
+pub use edits::{Edit, EditOutcome, TriedLines, content_len};
+pub use leaving_out::{in_place_of_sign, left_out};
 pub use marking::{
     first_column, line_number, line_of, shown_text, write_found, write_line, write_place,
 };

@@ -1,6 +1,6 @@
 //! Words that differ from another one by a letter.
 
-use crate::words::SPELLED;
+use crate::words::{INSTRUCTIONS, SPELLED};
 use iltokens::keyword_of;
 
 /// Whether two words differ by one letter that was added, left out or changed, or by two beside each
@@ -51,18 +51,51 @@ fn common(one: &[u8], other: &[u8]) -> usize {
     same
 }
 
-/// The first reserved word that is near to another word, which is none.
+/// The first reserved word that is near to another word, which is none. An instruction begins as
+/// the other word does, and has as many letters N, or one at its end too: an N turns it round.
 pub fn near_word(found: &[u8]) -> Option<&'static str> {
     if keyword_of(found).is_some() {
         return None;
     }
+    near_among(INSTRUCTIONS, found, true).or(near_among(SPELLED, found, false))
+}
+
+/// The first word of some lists that is near to another one; an instruction is alike too.
+fn near_among(
+    lists: &'static [&'static [&'static str]],
+    found: &[u8],
+    is_instruction: bool,
+) -> Option<&'static str> {
     let mut nearest = None;
-    for words in SPELLED {
+    for words in lists {
         for word in *words {
-            if nearest.is_none() && is_near(found, word.as_bytes()) {
+            let bytes = word.as_bytes();
+            let is_kept = !is_instruction || is_alike(bytes, found);
+            if nearest.is_none() && is_kept && is_near(found, bytes) {
                 nearest = Some(*word);
             }
         }
     }
     nearest
+}
+
+/// Whether an instruction and another word begin with the same letter, and have as many letters N, or
+/// both one at the end. In a conversion, which has a `_`, an N turns nothing round.
+fn is_alike(instruction: &[u8], other: &[u8]) -> bool {
+    let is_kept = instruction.iter().any(|byte| *byte == b'_')
+        || turns(instruction) == turns(other)
+        || is_turned(instruction) && is_turned(other);
+    common(instruction, other) > 0 && is_kept
+}
+
+/// How many letters N a word has.
+fn turns(word: &[u8]) -> usize {
+    word.iter()
+        .filter(|byte| matches!(**byte, b'n' | b'N'))
+        .count()
+}
+
+/// Whether a word has an N at its end.
+fn is_turned(word: &[u8]) -> bool {
+    matches!(word, [.., b'n' | b'N'])
 }

@@ -31,6 +31,8 @@ pub struct Surroundings {
     has_block: bool,
     /// The last token before the place.
     pub before: (usize, usize),
+    /// Where the word stands that begins a block of variables as other languages have it.
+    pub foreign: Option<(usize, usize)>,
     /// Whether a name may follow the word that was last, which begins something.
     is_named: bool,
 }
@@ -45,6 +47,7 @@ const NOTHING: Surroundings = Surroundings {
     open: 0,
     has_block: false,
     before: (0, 0),
+    foreign: None,
     is_named: false,
 };
 
@@ -61,6 +64,9 @@ impl Surroundings {
             match token(front, at) {
                 Lexed::Token { what, from, to } => {
                     all = all.after(what, from, to);
+                    if what == What::Name && is_foreign(part(front, from, to)) {
+                        all.foreign = Some((from, to));
+                    }
                     at = to;
                 }
                 _ => return all,
@@ -107,6 +113,7 @@ impl Surroundings {
             }
             Keyword::EndVar => {
                 next.block = None;
+                next.foreign = None;
                 next.has_block = true;
             }
             Keyword::EndResource => next.resource = None,
@@ -180,6 +187,13 @@ impl Surroundings {
             None => false,
         }
     }
+}
+
+/// Whether a word begins a block of variables in other languages.
+fn is_foreign(word: &[u8]) -> bool {
+    word.eq_ignore_ascii_case(b"VAR_OUTPUT")
+        || word.eq_ignore_ascii_case(b"VAR_IN_OUT")
+        || word.eq_ignore_ascii_case(b"VAR_TEMP")
 }
 
 impl OpenConstruct {

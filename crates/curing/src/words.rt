@@ -164,15 +164,11 @@ pub const WORDS: &[&str] = &[
 /// Signs; `&` is another word for AND.
 pub const SIGNS: &[&str] = &[",", ":", ";", ":=", ".", "..", "(", ")"];
 
-/// Lists of words that a misspelled one may be meant for.
-pub const SPELLED: &[&[&str]] = &[
-    OUTER,
-    OPERATORS,
-    &["BOOL", "TIME", "TRUE", "FALSE"],
-    INTEGERS,
-    BLOCKS,
-    WORDS,
-];
+/// Lists of instructions that a misspelled word may be meant for.
+pub const INSTRUCTIONS: &[&[&str]] = &[OUTER, OPERATORS];
+
+/// Lists of other words that it may be meant for.
+pub const SPELLED: &[&[&str]] = &[&["BOOL", "TIME", "TRUE", "FALSE"], INTEGERS, BLOCKS, WORDS];
 
 /// How a sign is called.
 pub fn sign_name(sign: &str) -> &str {

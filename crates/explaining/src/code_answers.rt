@@ -1,7 +1,7 @@
 //! What is said of a refused word.
 
 use crate::block_commands::commands_of;
-use crate::code_causes::{OTHER_TYPE, UNFIT_INPUT, UNFIT_OPERAND, advice_of};
+use crate::code_causes::{OTHER_TYPE, UNFIT_CONSTANT, UNFIT_INPUT, UNFIT_OPERAND, advice_of};
 use curing::{
     AskedText, Edit, EditOutcome, Example, FaultAnswer, Spot, part, place_of, shown_text,
 };
@@ -90,6 +90,12 @@ fn unfit(
                 usize::from(block),
                 usize::from(port),
             )
+        }
+        _ if found.lo == found.hi => {
+            let mut answer = FaultAnswer::of(alloc, UNFIT_CONSTANT)?.with_facts(ranges);
+            let nearest = found.hi.min(allowed.hi).max(allowed.lo);
+            answer.example = Example::Other(format!(in alloc; "LD {nearest}")?);
+            Ok(answer)
         }
         _ => {
             let mut answer = FaultAnswer::of(alloc, advice_of(refused.cause))?.with_facts(ranges);

@@ -10,6 +10,13 @@ pub(crate) const UNFIT: Advice = Advice {
     line: "MIN 254\nMAX 0\nST level",
 };
 
+/// A number that is always the same, and does not fit.
+pub(crate) const UNFIT_CONSTANT: Advice = Advice {
+    what: "a number that does not fit",
+    cure: "write a number that is allowed, or declare what it goes to wider",
+    line: "",
+};
+
 /// An operand of a call of a function that may not fit.
 pub(crate) const UNFIT_OPERAND: Advice = Advice {
     what: "a number that may not fit",

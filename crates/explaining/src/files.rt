@@ -117,7 +117,7 @@ fn write_at<W: Write>(
     writeln!(out, "{}", answer.what.as_str())?;
     write_line(out, asked.text, line, Some(col))?;
     write_found(out, asked.text, line, col)?;
-    write_answer(out, answer)
+    write_answer(out, answer, line)
 }
 
 /// Explains a task whose code is refused: with a way to the word, and where what is wrong is the
@@ -160,7 +160,7 @@ fn write_refused<W: Write>(
         answer.what.as_str()
     )?;
     write_line(out, asked.text, refusal.line, None)?;
-    write_answer(out, answer)
+    write_answer(out, answer, refusal.line)
 }
 
 /// Writes the calls or the way that lead to a refused word.
@@ -240,5 +240,5 @@ fn write_bad_line<W: Write>(
     write_place(out, path, line, bad.col)?;
     writeln!(out, "{kind} fault: {}", bad.answer.what.as_str())?;
     write_line(out, bytes, line, Some(bad.col))?;
-    write_answer(out, &bad.answer)
+    write_answer(out, &bad.answer, line)
 }

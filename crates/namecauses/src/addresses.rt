@@ -1,4 +1,4 @@
-//! What is said of an address of something that is not there.
+//! What is said of an address of something that does not exist.
 
 use crate::name_causes::advice_of;
 use crate::said::Said;
@@ -58,14 +58,14 @@ impl Located {
 }
 
 const NO_TRIGGER: Advice = Advice {
-    what: "a variable that is no trigger",
+    what: "a variable that is not a trigger",
     cure: "SINGLE names a variable of VAR_GLOBAL that has an address %IX; for a task\n\
         that runs again and again write INTERVAL",
     line: "VAR_GLOBAL pressed AT %IX0.0 : BOOL; END_VAR\n\
         TASK push (SINGLE := pressed, PRIORITY := 1);",
 };
 
-/// What is said of an address of something that is not there.
+/// What is said of an address of something that does not exist.
 pub(crate) fn answer_address(
     alloc: Global,
     asked: &AskedText,

@@ -35,8 +35,8 @@ const NO_INTERVAL: Advice = Advice {
 };
 
 const PRIORITIES: Advice = Advice {
-    what: "a priority that is none",
-    cure: "priorities are 0 to 65535, and 0 is the first",
+    what: "a priority outside 0 to 65535",
+    cure: "write one of 0 to 65535; a task with 0 comes before all others",
     line: "TASK clock (INTERVAL := T#100ms, PRIORITY := 1);",
 };
 
@@ -54,13 +54,13 @@ const OUTSIDE: Advice = Advice {
 };
 
 const NO_TRUTH: Advice = Advice {
-    what: "a first value that is no truth value",
+    what: "a first value that is not a truth value",
     cure: "write TRUE, FALSE, 1 or 0",
     line: "is_on : BOOL := TRUE;",
 };
 
 const NO_NUMBER: Advice = Advice {
-    what: "a first value that is no number",
+    what: "a first value that is not a number",
     cure: "write a number, or a time",
     line: "level : USINT (0..254) := 100;",
 };
@@ -79,6 +79,8 @@ enum Bad {
     Advised(&'static Advice),
     /// The type differs from that of VAR_GLOBAL.
     Different,
+    /// The first value is outside the range.
+    Outside { first: i64, low: i64, high: i64 },
 }
 
 /// What is said of a bad declaration at a place, where it is known.
@@ -91,6 +93,9 @@ pub(crate) fn answer_declaration(
     match bad_at(source, spot.at) {
         Some(Bad::Advised(advice)) => Ok(Some(Said::of(alloc, advice)?)),
         Some(Bad::Different) => different(alloc, asked, source, spot),
+        Some(Bad::Outside { first, low, high }) => {
+            Ok(Some(Said::plain(alloc, outside(alloc, first, low, high)?)))
+        }
         None => Ok(None),
     }
 }
@@ -102,15 +107,15 @@ fn bad_at(source: &Source, at: usize) -> Option<Bad> {
             return Some(Bad::Advised(of_task(task)));
         }
         if let Some(global) = global_at(configuration, at) {
-            return Some(Bad::Advised(of_global(global)?));
+            return of_global(global);
         }
     }
     for element in source.elements() {
         if let Some(declaration) = declaration_in(element, at) {
             return bad_in_program(declaration);
         }
-        if let Some(advice) = of_type_or_function(element, at) {
-            return Some(Bad::Advised(advice));
+        if let Some(bad) = of_type_or_function(element, at) {
+            return Some(bad);
         }
     }
     None
@@ -126,7 +131,7 @@ fn declaration_in(element: &Element, at: usize) -> Option<&Declaration> {
 
 /// What is wrong with a type of the text, or with a function's result, inputs and variables, where
 /// the name stands at a place.
-fn of_type_or_function(element: &Element, at: usize) -> Option<&'static Advice> {
+fn of_type_or_function(element: &Element, at: usize) -> Option<Bad> {
     match element {
         Element::DerivedType(one) if one.name.from == at => {
             of_variable(one.specification, one.initial)
@@ -137,7 +142,7 @@ fn of_type_or_function(element: &Element, at: usize) -> Option<&'static Advice> 
 }
 
 /// What is wrong with a function's result, inputs and variables, where the name stands at a place.
-fn of_function(function: &SourceFunction, at: usize) -> Option<&'static Advice> {
+fn of_function(function: &SourceFunction, at: usize) -> Option<Bad> {
     if function.name().from == at {
         // Without an input, that is what is at fault there.
         return if function.inputs().is_empty() {
@@ -163,7 +168,7 @@ fn bad_in_program(declaration: &Declaration) -> Option<Bad> {
         Declared::Variables {
             specification,
             initial,
-        } => Some(Bad::Advised(of_variable(specification, initial)?)),
+        } => of_variable(specification, initial),
         Declared::Blocks(_) => None,
     }
 }
@@ -205,22 +210,37 @@ fn of_task(task: &TaskDeclaration) -> &'static Advice {
 }
 
 /// What is said of a variable of this type that begins so.
-fn of_variable(specification: Specification, initial: Option<Constant>) -> Option<&'static Advice> {
-    match (specification, initial) {
-        (Specification::Subrange { low, high, .. }, _) if low > high => Some(&EXCHANGED),
-        (Specification::Bool, Some(_)) => Some(&NO_TRUTH),
-        (Specification::Bool, None) | (Specification::Named(_), None) => None,
-        (_, Some(Constant::Bool(_))) => Some(&NO_NUMBER),
-        (Specification::Subrange { .. }, _) | (_, Some(_)) => Some(&OUTSIDE),
-        _ => None,
-    }
+fn of_variable(specification: Specification, initial: Option<Constant>) -> Option<Bad> {
+    let advice = match (specification, initial) {
+        (Specification::Subrange { low, high, .. }, _) if low > high => &EXCHANGED,
+        (Specification::Bool, Some(_)) => &NO_TRUTH,
+        (Specification::Bool, None) | (Specification::Named(_), None) => return None,
+        (_, Some(Constant::Bool(_))) => &NO_NUMBER,
+        (Specification::Subrange { low, high, .. }, Some(Constant::Number(first)))
+            if first < low || first > high => {
+            return Some(Bad::Outside { first, low, high });
+        }
+        (Specification::Subrange { .. }, _) | (_, Some(_)) => &OUTSIDE,
+        _ => return None,
+    };
+    Some(Bad::Advised(advice))
+}
+
+/// That a first value is outside its range.
+fn outside(alloc: Global, first: i64, low: i64, high: i64) -> Result<FaultAnswer, AllocError> {
+    let mut answer = FaultAnswer::of(alloc, OUTSIDE)?;
+    answer.what = format!(in alloc; "{first} is outside {low}..{high}")?;
+    answer.cure = String::from_str(alloc, "write a first value of the range, or a wider range")?;
+    Ok(answer)
 }
 
 /// What is said of global variables.
-fn of_global(global: &GlobalDeclaration) -> Option<&'static Advice> {
+fn of_global(global: &GlobalDeclaration) -> Option<Bad> {
     match (global.address(), global.specification()) {
-        (Some(_), Specification::Subrange { low, high, .. }) if low > high => Some(&EXCHANGED),
-        (Some(_), _) => Some(&LOCATED),
+        (Some(_), Specification::Subrange { low, high, .. }) if low > high => {
+            Some(Bad::Advised(&EXCHANGED))
+        }
+        (Some(_), _) => Some(Bad::Advised(&LOCATED)),
         (None, specification) => of_variable(specification, global.initial()),
     }
 }

@@ -43,7 +43,7 @@ const STORED_INPUT: Advice = Advice {
 
 const FUNCTIONS: Advice = Advice {
     what: "a function too many: a text has at most 64",
-    cure: "leave one out, or give one an input more and let it do for two",
+    cure: "leave one out, or write one with an input more in place of two",
     line: "VAR_INPUT v : INT (0..254); is_upper : BOOL; END_VAR",
 };
 

@@ -22,7 +22,7 @@ const TASKS: Advice = Advice {
 /// What is said of an instance too many.
 const INSTANCES: Advice = Advice {
     what: "the 65th program instance: there are at most 64",
-    cure: "let one program do for two rooms, with two sets of variables",
+    cure: "write one program for two rooms, with a set of variables for each",
     line: "PROGRAM hall WITH clock : two_rooms;",
 };
 
@@ -41,9 +41,9 @@ const TWICE: Advice = Advice {
     line: "VAR lamp : BOOL; lamp2 : BOOL; END_VAR",
 };
 
-/// What is said of a label that is not there.
+/// What is said of a label that does not exist.
 const UNKNOWN_LABEL: Advice = Advice {
-    what: "a label that is not there",
+    what: "a label that does not exist",
     cure: "write the label further on, or correct the name",
     line: "skip:",
 };
@@ -56,9 +56,9 @@ const BACKWARD_JUMP: Advice = Advice {
     line: "JMP below",
 };
 
-/// What is said of an address of something that is not there.
+/// What is said of an address of something that does not exist.
 const BAD_ADDRESS: Advice = Advice {
-    what: "an address of something that is not there",
+    what: "an address of something that does not exist",
     cure: "compare it with the binding: buses count from 0, and %IX names a source\n\
         that is bound; without --bind there is one bus and no source",
     line: "pressed AT %IX0.0 : BOOL;",

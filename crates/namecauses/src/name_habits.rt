@@ -2,16 +2,9 @@
 
 use curing::Advice;
 
-/// Names that other languages have for one thing.
-#[derive(Clone, Copy)]
-pub(crate) struct NameHabit {
-    /// The names in small letters.
-    names: &'static [&'static str],
-    /// What to write in their place; empty where no word does.
-    pub word: &'static str,
-    /// What is said of them.
-    pub advice: Advice,
-}
+/// Names that other languages have for one thing, in small letters; what to write in their place,
+/// empty where no word does; and what is said of them.
+pub(crate) type NameHabit = (&'static [&'static str], &'static str, Advice);
 
 const TOF: Advice = Advice {
     what: "there is no TOF, a delay at switching off",
@@ -47,7 +40,7 @@ const FALLING: Advice = Advice {
 
 const REAL: Advice = Advice {
     what: "there are no numbers with a fraction",
-    cure: "reckon in hundredths, with a DINT or a range of one",
+    cure: "calculate in hundredths, with a DINT or a range of one",
     line: "VAR share : DINT (0..10000); END_VAR",
 };
 
@@ -115,88 +108,102 @@ const INSTRUCTION: Advice = Advice {
     line: "LD button",
 };
 
+/// What is said of an instruction that has another word here; the cure names it.
+pub(crate) const OTHER_WORD: Advice = Advice {
+    what: "an instruction that has another word here",
+    cure: "",
+    line: "LD button\nANDN off\nST light",
+};
+
+const MOVE: Advice = Advice {
+    what: "there is no MOVE",
+    cure: "load the value, and store it",
+    line: "LD 200\nST lamp",
+};
+
+const NOTHING_DONE: Advice = Advice {
+    what: "there is no NOP",
+    cure: "leave the line out; a label may stand before any instruction, or before the end",
+    line: "below: LD lamp",
+};
+
+const EDGE: Advice = Advice {
+    what: "there are no FP and no FN, edges",
+    cure: "an R_TRIG sees where its CLK becomes TRUE; hand it the opposite for a falling\n\
+        edge",
+    line: "CAL press(CLK := button)\nLD press.Q",
+};
+
+/// What is said of a type that has another word here; the cure names it.
+const OTHER_TYPE: Advice = Advice {
+    what: "a type that has another word here",
+    cure: "",
+    line: "VAR button : BOOL; END_VAR",
+};
+
+const TIMER: Advice = Advice {
+    what: "a timer as other languages have it",
+    cure: "a timer is an instance of TON, which CAL calls: its Q is TRUE once IN has been\n\
+        TRUE for PT",
+    line: "VAR rest : TON; END_VAR\nCAL rest(IN := pressed, PT := T#3m)\nLD rest.Q",
+};
+
+const TURNED: Advice = Advice {
+    what: "there are no NAND and no NOR",
+    cure: "write AND or OR, and NOT on a line of its own below it",
+    line: "LD button\nAND other\nNOT",
+};
+
+const TURNED_STORE: Advice = Advice {
+    what: "S and R have no form with N",
+    cure: "they act where the result is TRUE: write NOT on a line of its own before them",
+    line: "LD button\nNOT\nS light",
+};
+
+const FRAME: Advice = Advice {
+    what: "a line that this language does not have",
+    cure: "leave it out: the instructions stand between the variables and END_PROGRAM or\n\
+        END_FUNCTION",
+    line: "VAR button, light : BOOL; END_VAR\nLD button\nST light\nEND_PROGRAM",
+};
+
 /// Function blocks that other languages have.
 const BLOCKS: &[NameHabit] = &[
-    NameHabit {
-        names: &["tof"],
-        word: "",
-        advice: TOF,
-    },
-    NameHabit {
-        names: &["tp"],
-        word: "",
-        advice: TP,
-    },
-    NameHabit {
-        names: &["rs", "sr"],
-        word: "",
-        advice: LATCH,
-    },
-    NameHabit {
-        names: &["ctd", "ctud"],
-        word: "",
-        advice: DOWN,
-    },
-    NameHabit {
-        names: &["f_trig"],
-        word: "",
-        advice: FALLING,
-    },
+    (&["tof"], "", TOF),
+    (&["tp"], "", TP),
+    (&["rs", "sr"], "", LATCH),
+    (&["ctd", "ctud"], "", DOWN),
+    (&["f_trig"], "", FALLING),
 ];
 
 /// Types that other languages have.
 const TYPES: &[NameHabit] = &[
-    NameHabit {
-        names: &["real", "lreal"],
-        word: "DINT",
-        advice: REAL,
-    },
-    NameHabit {
-        names: &["byte"],
-        word: "USINT",
-        advice: BYTE,
-    },
-    NameHabit {
-        names: &["word"],
-        word: "UINT",
-        advice: BYTE,
-    },
-    NameHabit {
-        names: &["dword"],
-        word: "UDINT",
-        advice: BYTE,
-    },
-    NameHabit {
-        names: &["lint"],
-        word: "DINT",
-        advice: LONG,
-    },
-    NameHabit {
-        names: &["lword", "ulint"],
-        word: "UDINT",
-        advice: LONG,
-    },
-    NameHabit {
-        names: &["string", "wstring", "char"],
-        word: "",
-        advice: STRING,
-    },
-    NameHabit {
-        names: &["date", "tod", "time_of_day", "dt", "date_and_time"],
-        word: "",
-        advice: DATE,
-    },
+    (&["real", "lreal"], "DINT", REAL),
+    (&["byte"], "USINT", BYTE),
+    (&["word"], "UINT", BYTE),
+    (&["dword"], "UDINT", BYTE),
+    (&["lint"], "DINT", LONG),
+    (&["lword", "ulint"], "UDINT", LONG),
+    (&["string", "wstring", "char"], "", STRING),
+    (&["boolean", "bit"], "BOOL", OTHER_TYPE),
+    (&["integer"], "INT", OTHER_TYPE),
+    (&["timer", "s5time"], "", TIMER),
+    (
+        &["date", "tod", "time_of_day", "dt", "date_and_time"],
+        "",
+        DATE,
+    ),
 ];
 
 /// Statements and functions that other languages have.
 const STATEMENTS: &[NameHabit] = &[
-    NameHabit {
-        names: &["if", "else", "end_if", "elsif", "case", "end_case"],
-        word: "",
-        advice: STRUCTURED,
-    },
-    NameHabit {
-        names: &[
+    (
+        &["if", "else", "end_if", "elsif", "case", "end_case"],
+        "",
+        STRUCTURED,
+    ),
+    (
+        &[
             "for",
             "end_for",
             "while",
@@ -205,77 +212,89 @@ const STATEMENTS: &[NameHabit] = &[
             "until",
             "end_repeat",
         ],
-        word: "",
-        advice: LOOP,
-    },
-    NameHabit {
-        names: &["sel", "mux"],
-        word: "",
-        advice: SELECT,
-    },
-    NameHabit {
-        names: &["shl", "shr"],
-        word: "",
-        advice: SHIFT,
-    },
-    NameHabit {
-        names: &["rol", "ror"],
-        word: "",
-        advice: ROTATION,
-    },
+        "",
+        LOOP,
+    ),
+    (&["sel", "mux"], "", SELECT),
+    (&["shl", "shr"], "", SHIFT),
+    (&["rol", "ror"], "", ROTATION),
 ];
+
+/// Instructions alone on their line.
+const ALONE: &[NameHabit] = &[(&["set"], "LD TRUE", OTHER_WORD)];
 
 /// Instructions by the names that they have elsewhere.
 const INSTRUCTIONS: &[NameHabit] = &[
-    NameHabit {
-        names: &["goto", "jump"],
-        word: "JMP",
-        advice: INSTRUCTION,
-    },
-    NameHabit {
-        names: &["return"],
-        word: "RET",
-        advice: INSTRUCTION,
-    },
-    NameHabit {
-        names: &["load"],
-        word: "LD",
-        advice: INSTRUCTION,
-    },
-    NameHabit {
-        names: &["store"],
-        word: "ST",
-        advice: INSTRUCTION,
-    },
-    NameHabit {
-        names: &["set"],
-        word: "S",
-        advice: INSTRUCTION,
-    },
-    NameHabit {
-        names: &["reset"],
-        word: "R",
-        advice: INSTRUCTION,
-    },
-    NameHabit {
-        names: &["call"],
-        word: "CAL",
-        advice: INSTRUCTION,
-    },
+    (&["goto", "jump"], "JMP", INSTRUCTION),
+    (&["return"], "RET", INSTRUCTION),
+    (&["load"], "LD", INSTRUCTION),
+    (&["store"], "ST", INSTRUCTION),
+    (&["set"], "S", INSTRUCTION),
+    (&["reset"], "R", INSTRUCTION),
+    (&["call"], "CAL", INSTRUCTION),
+    (&["out"], "ST", OTHER_WORD),
+    (&["rst"], "R", OTHER_WORD),
+    (&["inv"], "NOT", OTHER_WORD),
+    (&["ldi", "ldnot"], "LDN", OTHER_WORD),
+    (&["ani", "andnot"], "ANDN", OTHER_WORD),
+    (&["ori", "ornot"], "ORN", OTHER_WORD),
+    (&["xnor", "xornot"], "XORN", OTHER_WORD),
+    (&["gte"], "GE", OTHER_WORD),
+    (&["lte"], "LE", OTHER_WORD),
+    (&["nand", "nor"], "", TURNED),
+    (&["sn", "rn"], "", TURNED_STORE),
+    (&["begin", "end", "network"], "", FRAME),
 ];
 
-/// What is said of a name that is not declared, where other languages have it.
-pub(crate) fn name_habit(found: &[u8]) -> Option<&'static NameHabit> {
-    habit_among(BLOCKS, found)
+/// What Siemens' lists have: the word that stands for it, and what is said where none does.
+const SIEMENS: &[NameHabit] = &[
+    (&["l"], "LD", OTHER_WORD),
+    (&["t"], "ST", OTHER_WORD),
+    (&["a", "u"], "AND", OTHER_WORD),
+    (&["an", "un"], "ANDN", OTHER_WORD),
+    (&["o"], "OR", OTHER_WORD),
+    (&["x"], "XOR", OTHER_WORD),
+    (&["xn"], "XORN", OTHER_WORD),
+    (&["ju", "spa"], "JMP", OTHER_WORD),
+    (&["jc", "spb"], "JMPC", OTHER_WORD),
+    (&["jcn", "spbn"], "JMPCN", OTHER_WORD),
+    (&["be", "bea", "beu"], "RET", OTHER_WORD),
+    (&["beb", "bec"], "RETC", OTHER_WORD),
+    (&["clr"], "LD FALSE", OTHER_WORD),
+    (&["neg", "negi", "negd"], "MUL -1", OTHER_WORD),
+    (&["inc"], "ADD", OTHER_WORD),
+    (&["dec"], "SUB", OTHER_WORD),
+    (&["move", "mov"], "", MOVE),
+    (&["nop"], "", NOTHING_DONE),
+    (&["fp", "fn"], "", EDGE),
+    (&["slw", "srw", "sld", "srd"], "", SHIFT),
+    (&["se", "sd", "sa", "sf"], "", TIMER),
+];
+
+/// What is said of a name that is not declared, where other languages have it; instructions only
+/// where the name stands as one, alone on its line or not.
+pub(crate) fn name_habit(
+    found: &[u8],
+    is_instruction: bool,
+    is_alone: bool,
+) -> Option<&'static NameHabit> {
+    let named = habit_among(BLOCKS, found)
         .or(habit_among(TYPES, found))
-        .or(habit_among(STATEMENTS, found))
-        .or(habit_among(INSTRUCTIONS, found))
+        .or(habit_among(STATEMENTS, found));
+    if named.is_some() || !is_instruction {
+        return named;
+    }
+    let alone = habit_among(ALONE, found);
+    if is_alone && alone.is_some() {
+        return alone;
+    }
+    habit_among(INSTRUCTIONS, found).or(habit_among(SIEMENS, found))
 }
 
 /// The first of some that has a name.
 fn habit_among(habits: &'static [NameHabit], found: &[u8]) -> Option<&'static NameHabit> {
     for habit in habits {
-        if has_name(habit.names, found) {
+        if has_name(habit.0, found) {
             return Some(habit);
         }
     }

@@ -1,6 +1,6 @@
 //! What is said of `=` and of `=>` where `:=` may stand.
 
-use crate::examples::is_call;
+use crate::examples::is_in_call;
 use crate::text_causes::EQUALS;
 use crate::unexpected::{Standing, is_cure};
 use curing::{Advice, Edit, FaultAnswer, Spot, part, shown_text};
@@ -31,7 +31,7 @@ pub(crate) fn answer_equals(
         let answer = named(alloc, EQUALS, spot)?;
         return Ok(Some(answer.with_tried(alloc, spot.text, &edit)?));
     }
-    if is_in_call(standing) {
+    if is_in_call(spot, &standing.around) {
         return Ok(Some(named(alloc, INPUTS, spot)?));
     }
     Ok(None)
@@ -97,12 +97,4 @@ fn all_of_line(alloc: Global, spot: &Spot) -> Result<Edit, AllocError> {
 fn code_len(line: &[u8]) -> usize {
     let comment = line.windows(2).position(|pair| pair == b"(*".as_slice());
     comment.unwrap_or(line.len())
-}
-
-/// Whether the inputs of a call of a block stand there.
-fn is_in_call(standing: &Standing) -> bool {
-    let Some(open) = standing.around.parenthesis else {
-        return false;
-    };
-    is_call(&Spot::of(standing.spot.text, open)) && standing.around.is_in_body()
 }

@@ -179,8 +179,16 @@ fn is_jump(spot: &Spot) -> bool {
     )
 }
 
+/// Whether the inputs of a call of a block stand there.
+pub(crate) fn is_in_call(spot: &Spot, around: &Surroundings) -> bool {
+    let Some(open) = around.parenthesis else {
+        return false;
+    };
+    is_call(&Spot::of(spot.text, open)) && around.is_in_body()
+}
+
 /// Whether the line begins with a call of a block.
-pub(crate) fn is_call(spot: &Spot) -> bool {
+fn is_call(spot: &Spot) -> bool {
     matches!(
         keyword_of(spot.first_word()),
         Some(Keyword::Cal | Keyword::Calc | Keyword::Calcn)

@@ -1,7 +1,8 @@
 //! What people write, changed to what is meant.
 
-use crate::habits::Fix;
-use curing::{Edit, Spot, Surroundings, part};
+use crate::habit::Fix;
+use crate::habits::quoted_len;
+use curing::{Edit, Spot, Surroundings, content_len, left_out, near_word, part};
 use std::alloc::{AllocError, Global};
 
 /// The change that is meant at a place, where there is one.
@@ -15,11 +16,17 @@ pub(crate) fn edit_of(
         return Ok(Some(Edit::new(alloc, from, to, with.as_bytes())?));
     }
     match fix {
-        Fix::LeaveOut => Ok(Some(left_out(alloc, spot)?)),
-        Fix::Comment => Ok(Some(commented(alloc, spot)?)),
+        Fix::LeaveOut => left_out(alloc, spot),
+        Fix::Comment => commented(alloc, spot),
         Fix::Milliseconds => with_milliseconds(alloc, spot),
-        Fix::Bare => Ok(Some(bare(alloc, spot)?)),
+        Fix::Bare => bare(alloc, spot),
         Fix::LoadAndStore => load_and_store(alloc, spot),
+        Fix::Call => call(alloc, spot, around.before.0),
+        Fix::Unquoted => unquoted(alloc, spot),
+        Fix::Block(word) => match around.foreign {
+            Some((from, to)) => Ok(Some(Edit::new(alloc, from, to, word.as_bytes())?)),
+            None => Ok(None),
+        },
         _ => Ok(None),
     }
 }
@@ -32,7 +39,8 @@ fn replacement(
 ) -> Option<((usize, usize), &'static str)> {
     let from = spot.literal_from();
     match fix {
-        Fix::LeaveOutBefore => Some(((around.before.0, spot.at), "")),
+        Fix::LeaveOutBefore => Some((with_blanks_before(spot, around.before), "")),
+        Fix::Joined => Some(((around.before.1, spot.at), "_")),
         Fix::Replace(word) => Some((first_word_of(spot), word)),
         Fix::Front(len, word) => Some(((from, from.saturating_add(len)), word)),
         Fix::Literal(word) => Some(((from, spot.literal_to()), word)),
@@ -48,31 +56,10 @@ fn type_len(spot: &Spot) -> usize {
     typed.saturating_add(1)
 }
 
-/// Without what was found, and without the blanks before it where it is the last of its line.
-pub(crate) fn left_out(alloc: Global, spot: &Spot) -> Result<Edit, AllocError> {
-    let to = spot.found_to();
-    let is_last = spot
-        .part(to, spot.line_to)
-        .iter()
-        .all(|byte| *byte == b' ' || *byte == b'\t');
-    let from = if is_last {
-        spot.line_from.saturating_add(content_len(spot.front()))
-    } else {
-        spot.at
-    };
-    let end = if is_last { spot.line_to } else { to };
-    Edit::new(alloc, from, end, b"")
-}
-
-/// How many bytes there are up to the last one that is no blank.
-fn content_len(bytes: &[u8]) -> usize {
-    let mut len: usize = 0;
-    for (index, byte) in bytes.iter().enumerate() {
-        if *byte != b' ' && *byte != b'\t' {
-            len = index.saturating_add(1);
-        }
-    }
-    len
+/// Where a word stands, with the blanks before it on its line.
+fn with_blanks_before(spot: &Spot, (from, to): (usize, usize)) -> (usize, usize) {
+    let word = Spot::of(spot.text, from);
+    (word.line_from.saturating_add(content_len(word.front())), to)
 }
 
 /// Where the first word of the line stands.
@@ -85,34 +72,62 @@ pub(crate) fn first_word_of(spot: &Spot) -> (usize, usize) {
     (from, from.saturating_add(spot.first_word().len()))
 }
 
-/// The rest of the line as a comment, without the signs that begin and end it.
-fn commented(alloc: Global, spot: &Spot) -> Result<Edit, AllocError> {
+/// The rest of the line as a comment, without the signs that begin and end it; nothing where they
+/// do not end with the line.
+fn commented(alloc: Global, spot: &Spot) -> Result<Option<Edit>, AllocError> {
     let rest = spot.rest();
     let content = match rest {
-        [b'/', b'/', content @ ..] => content,
+        [b'/', b'/', content @ ..] | [b'-', b'-', content @ ..] => content,
+        [b'/', b'*', content @ .., b'*', b'/'] => content,
+        [b'/', b'*', ..] => return Ok(None),
         [b'{', content @ .., b'}'] => content,
         [_, content @ ..] => content,
         [] => rest,
     };
     let blanks = content.iter().take_while(|byte| **byte == b' ').count();
     let content = part(content, blanks, content_len(content));
+    if content.is_empty() {
+        return Ok(None);
+    }
     let mut with = Vec::from_slice(alloc, b"(* ")?;
     with.extend_from_slice(content)?;
     with.extend_from_slice(b" *)")?;
-    Edit::new(alloc, spot.at, spot.line_to, &with)
+    Ok(Some(Edit::new(alloc, spot.at, spot.line_to, &with)?))
 }
 
-/// What stands in parentheses up to the end of the line, without them.
-fn bare(alloc: Global, spot: &Spot) -> Result<Edit, AllocError> {
-    let content = match spot.rest() {
-        [b'(', content @ .., b')'] => content,
-        [b'(', content @ ..] => content,
-        rest => rest,
+/// What stands in parentheses up to the end of the line, without them; nothing where they do not
+/// hold all of it.
+fn bare(alloc: Global, spot: &Spot) -> Result<Option<Edit>, AllocError> {
+    let [b'(', content @ .., b')'] = spot.rest() else {
+        return Ok(None);
     };
     let mut with = Vec::from_slice(alloc, b" ")?;
     let blanks = content.iter().take_while(|byte| **byte == b' ').count();
     with.extend_from_slice(part(content, blanks, content_len(content)))?;
-    Edit::new(alloc, spot.at, spot.line_to, &with)
+    Ok(Some(Edit::new(alloc, spot.at, spot.line_to, &with)?))
+}
+
+/// The call of an instance, which stands at a place, with CAL before it; or with a reserved word in
+/// place of one that is near to it.
+fn call(alloc: Global, spot: &Spot, instance: usize) -> Result<Option<Edit>, AllocError> {
+    let (from, to) = first_word_of(spot);
+    if from == instance {
+        return Ok(Some(Edit::new(alloc, from, from, b"CAL ")?));
+    }
+    match near_word(spot.first_word()) {
+        Some(word) => Ok(Some(Edit::new(alloc, from, to, word.as_bytes())?)),
+        None => Ok(None),
+    }
+}
+
+/// A name in quotes, without them.
+fn unquoted(alloc: Global, spot: &Spot) -> Result<Option<Edit>, AllocError> {
+    let Some(len) = quoted_len(spot.rest()) else {
+        return Ok(None);
+    };
+    let to = spot.at.saturating_add(len);
+    let name = spot.part(spot.at.saturating_add(1), to.saturating_sub(1));
+    Ok(Some(Edit::new(alloc, spot.at, to, name)?))
 }
 
 /// A time of seconds with one to three digits behind the dot, as seconds and milliseconds.

@@ -2,9 +2,9 @@
 //! does not have, or letters.
 
 use crate::decimals::{Decimal, edit_of};
-use crate::habit_rows::{BASED, DOTTED, UNIT};
+use crate::habit_advice::{BASED, DOTTED, UNIT};
 use crate::unexpected::{Standing, is_cure};
-use curing::{Advice, Edit, Example, FaultAnswer, Spot, part, shown_text};
+use curing::{Advice, Edit, Example, FaultAnswer, Spot, content_len, part, shown_text};
 use std::alloc::{AllocError, Global};
 
 /// What is said of a number with a fraction.
@@ -19,6 +19,21 @@ const WHOLE: Advice = Advice {
     what: "a whole number with a dot or an exponent",
     cure: "write it in digits alone: there are no fractions and no exponents",
     line: "LD 1000",
+};
+
+/// What is said of a number whose digits are parted.
+pub(crate) const GROUPED: Advice = Advice {
+    what: "a number with a dot or a comma in it",
+    cure: "digits stand together, or with _ between them: a thousand is 1000 or 1_000,\n\
+        and one is 1",
+    line: "LD 1_000",
+};
+
+const NO_TIME: Advice = Advice {
+    what: "a number with a fraction where a time is asked for",
+    cure: "a time begins with T#, and has whole numbers with the units d, h, m, s and ms,\n\
+        in this order",
+    line: "CAL rest(PT := T#1s500ms)",
 };
 
 const PERCENT: Advice = Advice {
@@ -55,11 +70,54 @@ pub(crate) fn answer_number(
     if let Some(place) = number.iter().position(|byte| *byte == b'#') {
         return based(alloc, standing, (from, to), place);
     }
+    if is_grouped(number) {
+        return Ok(Some(FaultAnswer::of(alloc, GROUPED)?));
+    }
     let answer = match Decimal::of(number) {
+        Some(_) if is_time(spot) => FaultAnswer::of(alloc, NO_TIME)?,
         Some(decimal) => of_decimal(alloc, standing, (from, to), decimal)?,
         None => of_other(alloc, standing, from, number)?,
     };
     Ok(Some(answer))
+}
+
+/// Whether three digits stand behind a dot or a comma, which may be there for a thousand.
+fn is_grouped(number: &[u8]) -> bool {
+    let front = number
+        .iter()
+        .take_while(|byte| byte.is_ascii_digit())
+        .count();
+    let is_sole = match part(number, front, number.len()) {
+        [
+            b'.' | b',',
+            b'0'..=b'9',
+            b'0'..=b'9',
+            b'0'..=b'9',
+            rest @ ..,
+        ] => { matches!(rest, [] | [b'.' | b',', ..]) }
+        _ => false,
+    };
+    is_sole && front > 0 && front < 4 && !number.starts_with(b"0")
+}
+
+/// Whether a time is given there: behind PT, or in the line before a store to it.
+fn is_time(spot: &Spot) -> bool {
+    let front = spot.part(spot.line_from, spot.literal_from());
+    let front = part(front, 0, content_len(front));
+    let named = match front {
+        [named @ .., b':', b'='] => part(named, 0, content_len(named)),
+        _ => b"".as_slice(),
+    };
+    let next = spot.part(spot.line_to, spot.next_line_to());
+    ends_with_time(named) || ends_with_time(part(next, 0, content_len(next)))
+}
+
+/// Whether the name of an input that takes a time stands last.
+fn ends_with_time(bytes: &[u8]) -> bool {
+    matches!(
+        bytes,
+        [.., b'(' | b',' | b' ' | b'.', b'P' | b'p', b'T' | b't']
+    )
 }
 
 /// What is said of a number with other characters than digits, which begins at a place: it may be

@@ -1,10 +1,9 @@
 //! Changes of a line that are tried where something cannot stand.
 
-use crate::fixes::left_out;
 use crate::unexpected::Standing;
 use curing::{
-    Edit, Group, OpenConstruct, Possible, SIGNS, Spot, line_number, near_word, shown_text,
-    sign_name,
+    Edit, Group, OpenConstruct, Possible, SIGNS, Spot, content_len, in_place_of_sign, left_out,
+    line_number, near_word, shown_text, sign_name,
 };
 use iltokens::{Keyword, keyword_of};
 use std::alloc::{AllocError, Global};
@@ -54,6 +53,8 @@ pub(crate) enum Kind {
     Close,
     /// The one word that could stand there.
     Only,
+    /// The end of what is open in place of another end.
+    OtherEnd,
     /// A name that is not reserved.
     Renamed,
     /// A reserved word that is near to what was found.
@@ -83,6 +84,7 @@ impl Kind {
 pub(crate) const PROPOSALS: &[Kind] = &[
     Kind::End,
     Kind::Close,
+    Kind::OtherEnd,
     Kind::Near,
     Kind::NearBefore,
     Kind::Timed,
@@ -123,6 +125,7 @@ pub(crate) fn propose(
         }
         Kind::Timed => timed(alloc, spot, possible),
         Kind::Only => only(alloc, spot, possible),
+        Kind::OtherEnd => other_end(alloc, standing, possible),
         Kind::With(number) => with_sign(alloc, standing, possible, number),
         Kind::Broken => broken(alloc, standing, possible),
         Kind::Without => without(alloc, spot, possible),
@@ -223,12 +226,14 @@ fn closing(alloc: Global, spot: &Spot, count: usize) -> Result<Edit, AllocError>
 }
 
 /// Another name in place of a reserved word.
-fn renamed(
+pub(crate) fn renamed(
     alloc: Global,
     spot: &Spot,
     possible: &Possible,
 ) -> Result<Option<Proposal>, AllocError> {
-    let is_reserved = keyword_of(spot.token()).is_some() && !is_bracket(spot.token());
+    let word = keyword_of(spot.token());
+    let is_value = matches!(word, Some(Keyword::True | Keyword::False));
+    let is_reserved = word.is_some() && !is_bracket(spot.token()) && !is_value;
     if !is_reserved || !possible.has(Group::Name) {
         return Ok(None);
     }
@@ -297,9 +302,33 @@ fn timing(alloc: Global, spot: &Spot) -> Result<Edit, AllocError> {
 
 /// The one word that could stand there in place of another one.
 fn only(alloc: Global, spot: &Spot, possible: &Possible) -> Result<Option<Proposal>, AllocError> {
-    let (Some(word), Some(_)) = (possible.only_word(), keyword_of(spot.token())) else {
+    let Some(word) = possible.only_word() else {
         return Ok(None);
     };
+    if !is_bracket(spot.token()) {
+        return Ok(None);
+    }
+    Ok(Some(Proposal {
+        what: in_place_of(alloc, spot.token(), word)?,
+        cure: format!(in alloc; "write {word}")?,
+        edit: Edit::new(alloc, spot.at, spot.found_to(), word.as_bytes())?,
+    }))
+}
+
+/// The end of what is open in place of the end of something else.
+fn other_end(
+    alloc: Global,
+    standing: &Standing,
+    possible: &Possible,
+) -> Result<Option<Proposal>, AllocError> {
+    let spot = &standing.spot;
+    let Some(opened) = standing.around.innermost() else {
+        return Ok(None);
+    };
+    let (_, word) = opened.words();
+    if !is_end_word(spot.token()) || !possible.has_word(word) {
+        return Ok(None);
+    }
     Ok(Some(Proposal {
         what: in_place_of(alloc, spot.token(), word)?,
         cure: format!(in alloc; "write {word}")?,
@@ -335,28 +364,12 @@ fn sign_edit(alloc: Global, standing: &Standing, sign: &str) -> Result<Edit, All
         with.push(b' ')?;
     }
     with.extend_from_slice(sign.as_bytes())?;
-    let mut to = spot.at;
-    if sign.as_bytes() == b"(".as_slice() {
-        with.extend_from_slice(spot.rest())?;
-        with.push(b')')?;
-        to = spot.line_to;
-    } else if spot.at >= spot.text.len() {
-        to = from;
-    } else {
-        with.extend_from_slice(spot.part(from, spot.at))?;
+    if sign.as_bytes() != b"(".as_slice() {
+        return Edit::new(alloc, from, from, &with);
     }
-    Edit::new(alloc, from, to, &with)
-}
-
-/// How long the line is up to the last byte before the place that is no blank.
-fn front_len(spot: &Spot) -> usize {
-    let mut len: usize = 0;
-    for (index, byte) in spot.front().iter().enumerate() {
-        if *byte != b' ' && *byte != b'\t' {
-            len = index.saturating_add(1);
-        }
-    }
-    len
+    with.extend_from_slice(spot.rest())?;
+    with.push(b')')?;
+    Edit::new(alloc, from, spot.line_to, &with)
 }
 
 /// The end of the line before what was found.
@@ -369,57 +382,38 @@ fn broken(
     if !possible.is_line_end || !standing.around.is_in_body() || spot.is_first() {
         return Ok(None);
     }
-    if keyword_of(spot.token()).is_none() {
+    let is_end = spot.token() == b")".as_slice() && standing.around.open > 0;
+    let word = keyword_of(spot.token());
+    // NOT behind a store may be meant for what is stored.
+    let is_store = keyword_of(spot.first_word()) == Some(Keyword::St);
+    if word.is_none() && !is_end || word == Some(Keyword::Not) && is_store {
         return Ok(None);
     }
-    let from = spot.line_from.saturating_add(front_len(spot));
+    let from = spot.line_from.saturating_add(content_len(spot.front()));
     let edit = Edit::new(alloc, from, spot.at, b"\n")?;
-    let what = String::from_str(alloc, "two instructions on one line")?;
+    let what = if is_end {
+        ") behind an instruction"
+    } else {
+        "two instructions on one line"
+    };
+    let what = String::from_str(alloc, what)?;
     Proposal::new(alloc, what, "write each on a line of its own", edit)
 }
 
-/// The line without what was found.
+/// The line without the sign that was found, where nothing stands behind it.
 fn without(
     alloc: Global,
     spot: &Spot,
     possible: &Possible,
 ) -> Result<Option<Proposal>, AllocError> {
-    let is_needed = possible.has(Group::Outer) || is_end_word(spot.token());
-    if spot.token().is_empty() || is_needed || is_inside(spot) {
+    if possible.has(Group::Outer) {
         return Ok(None);
     }
-    let edit = left_out(alloc, spot)?;
+    let Some(edit) = left_out(alloc, spot)? else {
+        return Ok(None);
+    };
     let what = with_found(alloc, spot.token(), "is too much here")?;
     Proposal::new(alloc, what, "leave it out, or end the line before it", edit)
-}
-
-/// Whether what was found is part of something longer: characters of a word, or of a number, stand
-/// on both sides of it, or before it where it is such characters too, or digits behind a sign of
-/// numbers.
-pub(crate) fn is_inside(spot: &Spot) -> bool {
-    let is_behind = is_letter_at(spot.part(spot.found_to(), spot.line_to));
-    let is_before = match spot.front() {
-        [.., last] => is_letter(*last),
-        [] => false,
-    };
-    match spot.token() {
-        [b',' | b'.', ..] => is_behind,
-        [first, ..] if is_letter(*first) => is_before || is_behind,
-        _ => is_before && is_behind,
-    }
-}
-
-/// Whether a character of a word or of a number stands first.
-fn is_letter_at(bytes: &[u8]) -> bool {
-    match bytes {
-        [first, ..] => is_letter(*first),
-        [] => false,
-    }
-}
-
-/// Whether a byte is part of a word or of a number.
-fn is_letter(byte: u8) -> bool {
-    byte.is_ascii_alphanumeric() || byte == b'_' || byte == b'#'
 }
 
 /// Whether a word ends something, or begins a block of variables.
@@ -456,13 +450,18 @@ fn instead(
     let Some(sign) = SIGNS.get(number) else {
         return Ok(None);
     };
-    if !possible.has_word(sign) || spot.token().is_empty() {
+    // A dot within a name parts it, where a comma would make two of it.
+    let is_name = spot.token() == b".".as_slice() && sign.as_bytes() == b",".as_slice();
+    if !possible.has_word(sign) || is_name {
         return Ok(None);
     }
+    let Some(edit) = in_place_of_sign(alloc, spot, sign)? else {
+        return Ok(None);
+    };
     let name = sign_name(sign);
     Ok(Some(Proposal {
         what: in_place_of(alloc, spot.token(), name)?,
         cure: format!(in alloc; "write {name} in its place")?,
-        edit: Edit::new(alloc, spot.at, spot.found_to(), sign.as_bytes())?,
+        edit,
     }))
 }

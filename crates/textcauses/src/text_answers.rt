@@ -1,14 +1,17 @@
 //! What is said of a fault of a text.
 
 use crate::equals::answer_equals;
-use crate::fixes::{edit_of, left_out};
-use crate::habit_rows::UNNAMED;
-use crate::habits::{Fix, habit_at, is_unnamed};
+use crate::fixes::edit_of;
+use crate::habit::Fix;
+use crate::habit_advice::UNNAMED;
+use crate::habits::{habit_at, is_unnamed};
+use crate::negations::answer_negation;
 use crate::numbers::answer_number;
-use crate::proposals::is_inside;
 use crate::text_causes::{BYTE_ORDER_MARK, advice_of, number_advice};
 use crate::unexpected::{Standing, answer_unexpected, is_cure};
-use curing::{Advice, AskedText, Edit, EditOutcome, FaultAnswer, Spot, Surroundings, shown_text};
+use curing::{
+    Advice, AskedText, Edit, EditOutcome, FaultAnswer, Spot, Surroundings, left_out, shown_text,
+};
 use iltext::TextCause;
 use std::alloc::{AllocError, Global};
 
@@ -45,6 +48,9 @@ fn habitual(
 ) -> Result<FaultAnswer, AllocError> {
     if is_unnamed(&standing.spot, &standing.around) {
         return FaultAnswer::of(alloc, UNNAMED);
+    }
+    if let Some(answer) = answer_negation(alloc, standing)? {
+        return Ok(answer);
     }
     match habit_at(&standing.spot, &standing.around) {
         Some((_, _, fix, advice)) => of_habit(alloc, standing, *fix, *advice),
@@ -83,26 +89,25 @@ fn of_habit(
     }
 }
 
-/// What is said of a character that begins nothing.
+/// What helps where such a character is the last of its line.
+const LEFT_OUT: &str = "leave it out: a text has words, numbers, times, addresses, comments and\n\
+    , : ; := . .. ( ) &";
+
+/// What is said of a character that no word begins with.
 fn bad_token(alloc: Global, standing: &Standing) -> Result<FaultAnswer, AllocError> {
     let mut answer = FaultAnswer::of(alloc, *advice_of(TextCause::BadToken))?;
-    answer.what = begins_nothing(alloc, standing.spot.token())?;
-    if is_inside(&standing.spot) || has_digit_beside(&standing.spot) {
+    answer.what = begins_no_word(alloc, standing.spot.token())?;
+    let Some(edit) = left_out(alloc, &standing.spot)? else {
         return Ok(answer);
-    }
-    with_edit(alloc, standing, answer, &left_out(alloc, &standing.spot)?)
+    };
+    answer.cure = String::from_str(alloc, LEFT_OUT)?;
+    with_edit(alloc, standing, answer, &edit)
 }
 
-/// That a sign begins nothing.
-fn begins_nothing(alloc: Global, sign: &[u8]) -> Result<String, AllocError> {
+/// That no word begins with a sign.
+fn begins_no_word(alloc: Global, sign: &[u8]) -> Result<String, AllocError> {
     let found = shown_text(alloc, sign)?;
-    format!(in alloc; "the sign {found} begins nothing")
-}
-
-/// Whether a digit stands right before what was found, or right behind it.
-fn has_digit_beside(spot: &Spot) -> bool {
-    let behind = spot.part(spot.found_to(), spot.line_to);
-    matches!(spot.front(), [.., b'0'..=b'9']) || matches!(behind, [b'0'..=b'9', ..])
+    format!(in alloc; "no word begins with {found}")
 }
 
 /// What is said of a byte that is not ASCII.

@@ -45,11 +45,10 @@ const NOT_ASCII: Advice = Advice {
     line: "PROGRAM cafe",
 };
 
-/// What is said of a sign that begins nothing.
+/// What is said of a sign that no word begins with.
 const BAD_TOKEN: Advice = Advice {
-    what: "a sign that begins nothing",
-    cure: "leave it out: words, numbers, times, addresses and , : ; := . .. ( ) &\n\
-        are all",
+    what: "a sign that no word begins with",
+    cure: "a text has words, numbers, times, addresses, comments and , : ; := . .. ( ) &",
     line: "LD a",
 };
 

@@ -1,9 +1,10 @@
 //! What is said where something cannot stand: what could, and a change of the line that is tried.
 
 use crate::examples::example_of;
-use crate::proposals::{PROPOSALS, Proposal, in_place_of, propose, with_found};
+use crate::proposals::{PROPOSALS, Proposal, in_place_of, propose, renamed, with_found};
 use curing::{
-    AskedText, Edit, EditOutcome, Example, FaultAnswer, Possible, Spot, Surroundings, list_words,
+    AskedText, Edit, EditOutcome, Example, FaultAnswer, Group, Possible, Spot, Surroundings,
+    list_words,
 };
 use std::alloc::{AllocError, Global};
 
@@ -30,10 +31,25 @@ pub(crate) fn answer_unexpected(
         return Ok(tried(alloc, standing, proposal)?.with_facts(facts));
     }
     let mut answer = plain(alloc, standing)?.with_facts(facts);
-    if let Some(what) = asked_for(alloc, standing, &possible)? {
+    if let Some(Proposal { what, cure, .. }) = reserved(alloc, &spot, &possible)? {
+        answer.what = what;
+        answer.cure = cure;
+    } else if let Some(what) = asked_for(alloc, standing, &possible)? {
         answer.what = what;
     }
     Ok(answer)
+}
+
+/// Another name in place of a reserved word, where a name alone could stand.
+fn reserved(
+    alloc: Global,
+    spot: &Spot,
+    possible: &Possible,
+) -> Result<Option<Proposal>, AllocError> {
+    if possible.has(Group::OtherType) || possible.has(Group::Number) {
+        return Ok(None);
+    }
+    renamed(alloc, spot, possible)
 }
 
 /// The first change that helps.
@@ -94,7 +110,10 @@ fn is_cure_up_to(
 ) -> Result<bool, AllocError> {
     let around = &standing.around;
     let is_open = !around.is_in_body() || around.open > 0 || edit.with.contains(&b'(');
-    if !edit.is_read(alloc, &standing.spot, around.from, is_bold && is_open)? {
+    // What was found stands on a line behind the change: that line shows whether it helps.
+    let is_shown = edit.to <= standing.spot.line_from;
+    let with_next = is_bold && is_open && !is_shown;
+    if !edit.is_read(alloc, &standing.spot, around.from, with_next)? {
         return Ok(false);
     }
     Ok(match edit.outcome(alloc, standing.asked)? {
@@ -113,7 +132,7 @@ fn tried(
         what: proposal.what,
         facts: String::new(alloc),
         cure: proposal.cure,
-        example: Example::Tried(proposal.edit.lines(alloc, standing.spot.text)?),
+        example: Example::TriedLines(proposal.edit.lines(alloc, standing.spot.text)?),
     })
 }
 
