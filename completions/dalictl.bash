@@ -3,7 +3,7 @@
 _dalictl() {
     local word=${COMP_WORDS[COMP_CWORD]} before=${COMP_WORDS[COMP_CWORD - 1]} options='' files='' others=''
     if ((COMP_CWORD == 1)); then
-        mapfile -t COMPREPLY < <(compgen -W 'check step play run live probe listen blink ask look notes list explain code frame event help --help --version' -- "$word")
+        mapfile -t COMPREPLY < <(compgen -W 'check explain notes list code step play look run probe listen blink ask live frame event help --help --version' -- "$word")
         return
     fi
     # `=` is a word of its own: `--bind=FILE` is three.
@@ -13,20 +13,20 @@ _dalictl() {
         before=${COMP_WORDS[COMP_CWORD - 2]}
     fi
     case ${COMP_WORDS[1]} in
-        check) options='--bind --code --help' files='--bind' others='' ;;
+        check) options='--bind --code --json --help' files='--bind' others='' ;;
+        explain) options='--bind --json --help' files='--bind' others='' ;;
+        notes) options='--bind --deny --json --help' files='--bind' others='--deny' ;;
+        list) options='--bind --json --help' files='--bind' others='' ;;
+        code) options='--bind --help' files='--bind' others='' ;;
         step) options='--bind --scans --every --help' files='--bind' others='--scans --every' ;;
-        play) options='--limit --names --expect --watch --help' files='' others='--limit --expect --watch' ;;
+        play) options='--limit --names --brief --expect --watch --help' files='' others='--limit --expect --watch' ;;
+        look) options='--bind --text --out --bus --from --to --watch --help' files='--bind --out' others='--bus --from --to --watch' ;;
         run) options='--limit --workers --help' files='' others='--limit --workers' ;;
-        live) options='--line --period --for --stop --limit --workers --patience --end-on-down --stay --log --log-size --record --status --json --keep --help' files='--stop --log --record --status --keep' others='--line --period --for --limit --workers --patience --log-size' ;;
         probe) options='--line --patience --bus --help' files='--line' others='--patience --bus' ;;
         listen) options='--line --patience --bind --bus --record --for --stop --help' files='--line --bind --record --stop' others='--patience --bus --for' ;;
         blink) options='--line --patience --help' files='--line' others='--patience' ;;
         ask) options='--line --patience --help' files='--line' others='--patience' ;;
-        look) options='--bind --text --out --bus --from --to --watch --help' files='--bind --out' others='--bus --from --to --watch' ;;
-        notes) options='--bind --help' files='--bind' others='' ;;
-        list) options='--bind --help' files='--bind' others='' ;;
-        explain) options='--bind --help' files='--bind' others='' ;;
-        code) options='--bind --help' files='--bind' others='' ;;
+        live) options='--line --period --for --stop --limit --workers --patience --end-on-down --stay --log --log-size --record --status --json --keep --help' files='--stop --log --record --status --keep' others='--line --period --for --limit --workers --patience --log-size' ;;
         frame) options='--help' files='' others='' ;;
         event) options='--help' files='' others='' ;;
         *) return ;;

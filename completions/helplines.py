@@ -1,6 +1,9 @@
 """What the help of a built program says, which is made from the tables of crates/commandline/src/tables.rt."""
 import re, subprocess
 
+# The groups of commands in the help.
+GROUPS = ["At the desk:", "Trying:", "On a bus:", "By hand:"]
+
 # The names in the help whose values are files.
 FILES = {"FILE", "TEXT", "BIND", "SCENARIO", "OUT", "PATH"}
 
@@ -36,9 +39,11 @@ def option_of(front, about):
 
 def commands_of(program):
     """Each command: its name, what is said of it, its words and its options."""
-    for name, about in rows_below(help_of(program), "Commands:"):
-        if name != "help":
+    for group in GROUPS:
+        for name, about in rows_below(help_of(program), group):
             lines = help_of(program, name)
+            if lines[0] != about:
+                raise SystemExit(f"the help says of {name} what its own help does not")
             words = rows_below(lines, "Arguments:")
             yield name, about, words, [option_of(*row) for row in rows_below(lines, "Options:")]
 

@@ -24,7 +24,7 @@ use Rattle.ilcompile.specs.Loaded.{AreCodes, IsCodeOf, Loaded}
 use Rattle.plantload.specs.Loading.{AreMeant, IsPlanOfText, IsSetup}
 use Rattle.ilcompile.proofs.CodeLemmas.{all_last, code_at}
 use Rattle.answers.specs.Taking.{Taking}
-use Rattle.answers.specs.Answered.{IsFirstCalled, IsStepped, ScansMean}
+use Rattle.answers.specs.Answered.{IsMeantTask, IsStepped, ScansMean}
 use Rattle.answers.specs.Stepping.{ScansTo, AreScansOf, HasTask, lasting_at_first, run_of}
 
 -- one value for each type
@@ -175,7 +175,7 @@ module _ (wiring : Wiring) (bytes : List ℕ) (setup : Loaded) (is : IsSetup wir
       let each_typed = length-map r.task.slots (λ (s : Slot). s.value_type) in
       record { task = r.task; is = r.is; valued = done.lasting ∙ last ∙ each_typed }
 
-  pub stepped : (name : List ℕ) → IsFirstCalled setup.plan name number
+  pub stepped : (name : Option (List ℕ)) → IsMeantTask setup.plan name number
       → IsStepped wiring bytes name scans every (run_of setup number each to)
   stepped name called =
       let Begun = λ (t : PlannedTask).

@@ -1,6 +1,6 @@
 -- Scans of a task of a text have one answer at most.
 use Rattle.std.proofs.Common.{◌≡◌, ℕ, zero, suc, ◌*◌, List, [], ◌∷◌, ◌++◌}
-use Rattle.std.proofs.Common.{Result, Ok, Err, sym, ap, ◌∙◌, subst, arith, inl, inr}
+use Rattle.std.proofs.Common.{Option, Some, None, Result, Ok, Err, sym, ap, ◌∙◌, subst, arith, inl, inr}
 use Rattle.std.proofs.lemmas.Bool.{cases_lt}
 use Rattle.ilblocks.specs.Stores.{Lasting, Store, lasting_of, store_at}
 use Rattle.ilplan.specs.Plans.{Planned, PlannedTask}
@@ -15,7 +15,7 @@ use Rattle.plantload.proofs.OneAnswer.{no_fault, same_fault, same_plan, same_set
 use Rattle.answers.specs.Taking.{Taking}
 use Rattle.answers.specs.declared.stop.Stop.{Stop}
 use Rattle.answers.specs.declared.stop.Stop.TheVariants.{Memory, Binding, Load, NoTask}
-use Rattle.answers.specs.Answered.{IsAfterName, IsChecked, IsFirstCalled, IsStep, IsStepped, NoneIsCalled}
+use Rattle.answers.specs.Answered.{IsAfterName, IsChecked, IsFirstCalled, IsMeantTask, IsStep, IsStepped, NoneIsMeant}
 use Rattle.answers.specs.Stepping.{AreScansOf, IsScanAt, Run, ScansTo, lasting_at_first}
 
 -- ---- scans
@@ -69,6 +69,14 @@ same_task plan name j k h g =
       ]
     ]
 
+none_meant : (plan : Planned) (name : Option (List ℕ)) (task : ℕ) → IsMeantTask plan name task → ¬ NoneIsMeant plan name
+none_meant plan (Some name) task called none = none task called.within called.is
+none_meant plan None task called none = none called.1
+
+same_meant : (plan : Planned) (name : Option (List ℕ)) (j k : ℕ) → IsMeantTask plan name j → IsMeantTask plan name k → j ≡ k
+same_meant plan (Some name) j k h g = same_task plan name j k h g
+same_meant plan None j k h g = h.0 ∙ sym g.0
+
 -- ---- answers
 
 module _ (wiring : Wiring) (bytes : List ℕ) where
@@ -87,32 +95,31 @@ module _ (wiring : Wiring) (bytes : List ℕ) where
   one_check (Err (Binding x)) b h g = absurd h
   one_check (Err (NoTask x)) b h g = absurd h
 
-  module _ (name : List ℕ) (scans every : ℕ) where
+  module _ (name : Option (List ℕ)) (scans every : ℕ) where
     abbrev IsRun : Run → Type 0
     IsRun made = IsStepped wiring bytes name scans every made
 
-    -- no task of the text's plan has the name
+    -- no task of the text's plan is meant
     abbrev HasNone : Type 0
-    HasNone = (plan : Planned) × IsPlanOfText wiring bytes plan × NoneIsCalled plan name
+    HasNone = (plan : Planned) × IsPlanOfText wiring bytes plan × NoneIsMeant plan name
 
     same_steps : (a b : Run) → IsRun a → IsRun b → a ≡ b
     same_steps a b h g =
         let setup : a.setup ≡ b.setup = same_setup wiring bytes a.setup b.setup h.loaded g.loaded in
-        let called = subst (λ (s : Loaded). IsFirstCalled s.plan name a.task) setup h.called in
-        let task : a.task ≡ b.task = same_task b.setup.plan name a.task b.task called g.called in
+        let called = subst (λ (s : Loaded). IsMeantTask s.plan name a.task) setup h.called in
+        let task : a.task ≡ b.task = same_meant b.setup.plan name a.task b.task called g.called in
         let mine = subst (λ (s : Loaded). AreScansOf s a.task scans every a.each a.left) setup h.runs in
         let runs = subst (λ (k : ℕ). AreScansOf b.setup k scans every a.each a.left) task mine in
         let left = same_runs b.setup b.task scans every a.each b.each a.left b.left runs g.runs in
         λ i. record { setup = setup i; task = task i; each = left.0 i; left = left.1 i }
 
-    none_called : (plan : Planned) (task : ℕ) → IsPlanOfText wiring bytes plan → IsFirstCalled plan name task
-        → ¬ HasNone
+    none_called : (plan : Planned) (task : ℕ) → IsPlanOfText wiring bytes plan → IsMeantTask plan name task → ¬ HasNone
     none_called plan task is called none =
         let same : plan ≡ none.0 = same_plan wiring bytes plan none.0 is none.1 in
-        let its : IsFirstCalled none.0 name task = subst (λ (x : Planned). IsFirstCalled x name task) same called in
-        none.2 task its.within its.is
+        let its : IsMeantTask none.0 name task = subst (λ (x : Planned). IsMeantTask x name task) same called in
+        none_meant none.0 name task its none.2
 
-    -- where a plan has no task of the name, no setup of the text has one
+    -- where no task of a plan is meant, none of a setup of the text is
     no_task : (a : Run) → IsRun a → ¬ HasNone
     no_task a h none = none_called a.setup.plan a.task h.loaded.plan h.called none
 
@@ -138,7 +145,7 @@ module _ (wiring : Wiring) (bytes : List ℕ) where
     one_step (Err (Load x)) (Err (Binding y)) h g = absurd g
     one_step (Err (NoTask x)) (Ok b) h g = absurd (no_task b g h.1)
     one_step (Err (NoTask x)) (Err (Load y)) h g = absurd (no_task_or_fault y g.0 g.1 h.1)
-    one_step (Err (NoTask x)) (Err (NoTask y)) h g = ap (λ (n : List ℕ). Err (NoTask n)) (h.0 ∙ sym g.0)
+    one_step (Err (NoTask x)) (Err (NoTask y)) h g = ap (λ (n : Option (List ℕ)). Err (NoTask n)) (h.0 ∙ sym g.0)
     one_step (Err (NoTask x)) (Err Memory) h g = absurd g
     one_step (Err (NoTask x)) (Err (Binding y)) h g = absurd g
     one_step (Err Memory) b h g = absurd h

@@ -1,7 +1,7 @@
 -- What a text is answered: what stands against running it, or the variables of a task after its scans (IEC 61131-3,
 -- 2.7.2 and 3.2, and profile).
 use Rattle.std.specs.Prelude.{◌≡◌, ℕ, zero, suc, ◌*◌, ◌<◌, ◌≤◌, List, [], ◌∷◌, ◌++◌, length, map, All, IfSome}
-use Rattle.std.specs.Prelude.{Result, Ok, Err, Some, slice_get, ⊤}
+use Rattle.std.specs.Prelude.{Result, Ok, Err, Option, Some, None, slice_get, ⊤}
 use Rattle.std.specs.Char.{to_ascii_lowercase}
 use Rattle.wordlines.specs.Wirings.{Wiring}
 use Rattle.gearcmd.specs.declared.requests.Request.{Request}
@@ -36,10 +36,19 @@ pub record IsFirstCalled (plan : Planned) (name : List ℕ) (task : ℕ) : Type 
 abbrev pub NoneIsCalled : Planned → List ℕ → Type 0
 NoneIsCalled plan name = (k : ℕ) → k < length plan.tasks → ¬ (IsCalled plan name k)
 
--- the setup of a text, and its first task of the name
-pub record IsFound (wiring : Wiring) (bytes name : List ℕ) (setup : Loaded) (task : ℕ) : Type 0 where
+-- the task of this number is the one that is meant: the first of the name, or where no name is given the only one
+abbrev pub IsMeantTask : Planned → Option (List ℕ) → ℕ → Type 0
+IsMeantTask plan (Some name) task = IsFirstCalled plan name task
+IsMeantTask plan None task = (task ≡ 0) × (length plan.tasks ≡ 1)
+
+abbrev pub NoneIsMeant : Planned → Option (List ℕ) → Type 0
+NoneIsMeant plan (Some name) = NoneIsCalled plan name
+NoneIsMeant plan None = ¬ (length plan.tasks ≡ 1)
+
+-- the setup of a text, and the task that is meant
+pub record IsFound (wiring : Wiring) (bytes : List ℕ) (name : Option (List ℕ)) (setup : Loaded) (task : ℕ) : Type 0 where
   pub loaded : IsSetup wiring bytes setup
-  pub called : IsFirstCalled setup.plan name task
+  pub called : IsMeantTask setup.plan name task
 
 -- ---- what stands against a text
 
@@ -55,17 +64,17 @@ abbrev pub IsCheckStop : Wiring → List ℕ → Stop → Type 0
 IsCheckStop wiring bytes (Load fault) = IsLoadFault wiring bytes fault
 IsCheckStop wiring bytes _ = ⊥
 
--- a refused code is reported where a task has the name
-abbrev pub IsAfterName : List ℕ → LoadFault → Type 0
-IsAfterName name (load_faults.Code refused) = (task : ℕ) × IsFirstCalled refused.plan name task
+-- a refused code is reported where a task is meant
+abbrev pub IsAfterName : Option (List ℕ) → LoadFault → Type 0
+IsAfterName name (load_faults.Code refused) = (task : ℕ) × IsMeantTask refused.plan name task
 IsAfterName name _ = ⊤
 
--- why a task of a text isn't run: the fault of the text or its names, else that no task has the name, else the first
--- refused code
-abbrev pub IsStepStop : Wiring → List ℕ → List ℕ → Stop → Type 0
+-- why a task of a text isn't run: the fault of the text or its names, else that no task is meant, else the first refused
+-- code
+abbrev pub IsStepStop : Wiring → List ℕ → Option (List ℕ) → Stop → Type 0
 IsStepStop wiring bytes name (Load fault) = IsLoadFault wiring bytes fault × IsAfterName name fault
 IsStepStop wiring bytes name (NoTask asked) =
-    (asked ≡ name) × ((plan : Planned) × IsPlanOfText wiring bytes plan × NoneIsCalled plan name)
+    (asked ≡ name) × ((plan : Planned) × IsPlanOfText wiring bytes plan × NoneIsMeant plan name)
 IsStepStop wiring bytes name _ = ⊥
 
 -- ---- what scans of a text leave
@@ -90,9 +99,10 @@ at_first tree task =
 
 -- the variables after this many scans of the text, so many milliseconds apart, from their initial values, with the
 -- requests and the steps of each scan, which are those of the task's code and at most its bound
-pub record IsStepped (wiring : Wiring) (bytes name : List ℕ) (scans every : ℕ) (made : Run) : Type 0 where
+pub record IsStepped (wiring : Wiring) (bytes : List ℕ) (name : Option (List ℕ)) (scans every : ℕ) (made : Run)
+    : Type 0 where
   pub loaded : IsSetup wiring bytes made.setup
-  pub called : IsFirstCalled made.setup.plan name made.task
+  pub called : IsMeantTask made.setup.plan name made.task
   pub task : SourceTask
   pub is : slice_get (tasks_of loaded.plan.tree) made.task ≡ Some task
   pub means : ScansMean loaded.plan.tree wiring.buses task every scans (at_first loaded.plan.tree task)
@@ -107,6 +117,6 @@ abbrev pub IsChecked : Wiring → List ℕ → Result Loaded Stop → Type 0
 IsChecked wiring bytes (Ok setup) = IsSetup wiring bytes setup
 IsChecked wiring bytes (Err stop) = IsCheckStop wiring bytes stop
 
-abbrev pub IsStep : Wiring → List ℕ → List ℕ → ℕ → ℕ → Result Run Stop → Type 0
+abbrev pub IsStep : Wiring → List ℕ → Option (List ℕ) → ℕ → ℕ → Result Run Stop → Type 0
 IsStep wiring bytes name scans every (Ok made) = IsStepped wiring bytes name scans every made
 IsStep wiring bytes name scans every (Err stop) = IsStepStop wiring bytes name stop

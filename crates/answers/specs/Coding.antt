@@ -1,5 +1,5 @@
 -- The code file of a task of a text, and what is answered to bytes that may be a code file (profile).
-use Rattle.std.specs.Prelude.{◌≡◌, ℕ, List, length, Some, slice_get, ⊤}
+use Rattle.std.specs.Prelude.{◌≡◌, ℕ, List, length, Option, Some, slice_get, ⊤}
 use Rattle.wordlines.specs.Wirings.{Wiring}
 use Rattle.ilcode.specs.Listings.{Listing}
 use Rattle.ilcode.specs.Paths.{IsBound}
@@ -12,8 +12,8 @@ use Rattle.answers.specs.Answered.{IsFound}
 use Rattle.answers.specs.declared.code_answer.CodeAnswer.{CodeAnswer}
 use Rattle.answers.specs.declared.code_answer.CodeAnswer.TheVariants.{Accepted, Faulty, Memory, Refused}
 
--- the bytes are the file of the code that the text's setup has for its first task of the name
-pub record IsCodeFile (wiring : Wiring) (text name bytes : List ℕ) : Type 0 where
+-- the bytes are the file of the code that the text's setup has for the task that is meant
+pub record IsCodeFile (wiring : Wiring) (text : List ℕ) (name : Option (List ℕ)) (bytes : List ℕ) : Type 0 where
   pub setup : Loaded
   pub task : ℕ
   pub found : IsFound wiring text name setup task

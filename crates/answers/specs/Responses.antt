@@ -1,5 +1,5 @@
 -- What an inquiry is answered (profile): the fault of the binding, else of the text, else what was asked for.
-use Rattle.std.specs.Prelude.{ℕ, ◌⊎◌, List, Option}
+use Rattle.std.specs.Prelude.{ℕ, ◌⊎◌, List, Option, option_map}
 use Rattle.wordlines.specs.Wirings.{Wiring}
 use Rattle.plantload.specs.Loading.{IsSetup}
 use Rattle.answers.specs.declared.answers.Answer.{Answer}
@@ -13,13 +13,13 @@ use Rattle.answers.specs.Connected.{IsConnected, IsBindingStop}
 -- what stands against an inquiry on a text
 abbrev pub IsInquiryStop : Wiring → List ℕ → Inquiry → Stop → Type 0
 IsInquiryStop wiring bytes (Check files) stop = IsCheckStop wiring bytes stop
-IsInquiryStop wiring bytes (Step files task scans every) stop = IsStepStop wiring bytes task.now stop
+IsInquiryStop wiring bytes (Step files task scans every) stop = IsStepStop wiring bytes (option_map (λ name. name.now) task) stop
 
 -- what was asked for of a text
 abbrev pub IsMade : Wiring → List ℕ → Inquiry → Answer → Type 0
 IsMade wiring bytes (Check files) (answers.Checked setup) = IsSetup wiring bytes setup
 IsMade wiring bytes (Step files task scans every) (answers.Stepped made) =
-    IsStepped wiring bytes task.now scans every made
+    IsStepped wiring bytes (option_map (λ name. name.now) task) scans every made
 IsMade wiring bytes inquiry (answers.Stopped stop) = IsStopOrMemory (IsInquiryStop wiring bytes inquiry) stop
 IsMade wiring bytes inquiry answer = ⊥
 

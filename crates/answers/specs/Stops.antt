@@ -1,5 +1,5 @@
 -- What stands against running a text, by the fault that it comes from, and the line that is printed of it (profile).
-use Rattle.std.specs.Prelude.{ℕ, List, ◌++◌, codes}
+use Rattle.std.specs.Prelude.{ℕ, List, [], ◌++◌, codes, unwrap_or}
 use Rattle.wordlines.specs.Bindings.{BindFault}
 use Rattle.wordlines.specs.declared.fault.LineFault.TheVariants as bind_faults
 use Rattle.wordlines.specs.Printed.{printed_bind_fault}
@@ -25,4 +25,4 @@ abbrev pub printed_stop : Stop → List ℕ
 printed_stop Memory = codes "no memory"
 printed_stop (Binding fault) = printed_bind_fault fault
 printed_stop (Load fault) = printed_load_fault fault
-printed_stop (NoTask asked) = codes "no task " ++ asked
+printed_stop (NoTask asked) = codes "no task " ++ unwrap_or asked []

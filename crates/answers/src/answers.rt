@@ -1,14 +1,15 @@
 //! What a text is answered: its setup, or what scans of a task left, with their requests.
 
-ghost use Rattle.std.specs.Prelude.{◌≡◌, ◌<◌, length, slice_get, Result, IfErr, IfOk, IfSome};
-ghost use Rattle.std.specs.Prelude.{MatchOption};
+ghost use Rattle.std.specs.Prelude.{◌≡◌, ◌<◌, ℕ, List, Option, length, slice_get, Result, IfErr, IfOk};
+ghost use Rattle.std.specs.Prelude.{IfSome, MatchOption, option_map};
 ghost use Rattle.iltypes.specs.Values.{AreOf};
 ghost use Rattle.ilplan.specs.Plans.{first_values, types_of};
 ghost use Rattle.std.specs.Option.{option_copied};
 ghost use Rattle.ilcompile.specs.Loaded.{Loaded};
 ghost use Rattle.plantload.specs.Loading.{IsSetup};
 ghost use Rattle.answers.specs.Answered.{IsCheckStop, IsChecked, IsFirstCalled, IsFound, IsStep};
-ghost use Rattle.answers.specs.Answered.{IsStepStop, IsStepped, NoneIsCalled, IsStopOrMemory};
+ghost use Rattle.answers.specs.Answered.{IsMeantTask, IsStepStop, IsStepped, IsStopOrMemory};
+ghost use Rattle.answers.specs.Answered.{NoneIsCalled, NoneIsMeant};
 ghost use Rattle.answers.specs.Connected.{IsConnected, IsBindingStop};
 ghost use Rattle.answers.specs.Responses.{IsAnswer, IsMade};
 ghost use Rattle.answers.specs.Stepping.{AreScansOf, Run};
@@ -17,7 +18,7 @@ ghost use Rattle.answers.specs.declared.stop.Stop.{Stop};
 use crate::scans;
 use crate::scans::Scans;
 use crate::stepped::Stepped;
-use crate::stop::{AskedName, Stop};
+use crate::stop::{Stop, UnknownTask};
 use ilcompile::Setup;
 use ilplan::Plan;
 use invocations::Inquiry;
@@ -98,51 +99,56 @@ pub fn check(alloc: Global, binding: &Binding, text: &[u8]) -> Result<Setup, Sto
     Ok(load(alloc, text, binding)?)
 }
 
-/// The setup of a text, and the number of the first task of a name, in any letter case.
+/// The setup of a text, and the number of the first task of a name, in any letter case, or without a
+/// name that of the only task.
 ///
 /// # Errors
 ///
-/// The text's first fault, else the least fault of its names, else that no task has the name, else
-/// the first task whose code is refused; or that the allocator is out of memory.
+/// The text's first fault, else the least fault of its names, else that no task is meant, else the
+/// first task whose code is refused; or that the allocator is out of memory.
 pub(crate) fn find_task(
     alloc: Global,
     binding: &Binding,
     text: &[u8],
-    task: &str,
+    task: Option<&str>,
 ) -> Result<(Setup, usize), Stop>
-    ensures found { IfOk result
-        (λ found. IsFound binding.now text.now task.now found.0 found.1) }
-    ensures stop { IfErr result (IsStopOrMemory (IsStepStop binding.now text.now task.now)) }
+    ensures found { IfOk result (λ found. IsFound binding.now text.now
+        (option_map (λ name. name.now) task.entry) found.0 found.1) }
+    ensures stop { IfErr result (IsStopOrMemory (IsStepStop binding.now text.now
+        (option_map (λ name. name.now) task.entry))) }
 {
     let plan = plan_of(alloc, text, binding)?;
-    let Some(number) = task_number(&plan, task) else {
-        return Err(Stop::NoTask(AskedName::of(alloc, task)?));
+    let Some(number) = meant_task(&plan, task) else {
+        return Err(Stop::NoTask(UnknownTask::of(alloc, &plan, task)?));
     };
     let setup = setup_of(alloc, plan)?;
     Ok((setup, number))
 }
 
-/// The requests of this many scans of a task, and its variables after them: the first scan from
-/// their initial values, but TRUE at an event task's trigger, and from block instances before their
-/// first call, `every` milliseconds apart.
+/// The requests of this many scans of the task of a name, or without a name of the only task, and its
+/// variables after them: the first scan from their initial values, but TRUE at an event task's
+/// trigger, and from block instances before their first call, `every` milliseconds apart.
 ///
 /// # Errors
 ///
-/// The text's first fault, else the least fault of its names, else that no task has the name, else
-/// the first task whose code is refused; or that the allocator is out of memory.
+/// The text's first fault, else the least fault of its names, else that no task is meant, else the
+/// first task whose code is refused; or that the allocator is out of memory.
 pub fn step(
     alloc: Global,
     binding: &Binding,
     text: &[u8],
-    task: &str,
+    task: Option<&str>,
     scans: u32,
     every: u32,
 ) -> Result<Stepped, Stop>
-    ensures made { IfOk result (IsStepped binding.now text.now task.now scans every) }
-    ensures stop { IfErr result (IsStopOrMemory (IsStepStop binding.now text.now task.now)) }
+    ensures made { IfOk result (IsStepped binding.now text.now
+        (option_map (λ name. name.now) task.entry) scans every) }
+    ensures stop { IfErr result (IsStopOrMemory (IsStepStop binding.now text.now
+        (option_map (λ name. name.now) task.entry))) }
     // A task of a text has at most one answer, but for out of memory.
-    ensures one { (a b : Result Run Stop) → IsStep binding.now text.now task.now scans every a
-        → IsStep binding.now text.now task.now scans every b → a ≡ b }
+    ensures one { (name : Option (List ℕ)) (a b : Result Run Stop)
+        → IsStep binding.now text.now name scans every a
+        → IsStep binding.now text.now name scans every b → a ≡ b }
 {
     let (setup, number) = find_task(alloc, binding, text, task)?;
     runs_are_as_meant();
@@ -168,6 +174,24 @@ fn run(
     let of_task = setup.plan().task(task);
     let first = of_task.first_values(alloc)?;
     scans::make(alloc, setup.code(task), &first, scans, every)
+}
+
+/// The number of the task that is meant: the first of the name, or without a name the only one.
+fn meant_task(plan: &Plan, name: Option<&str>) -> Option<usize>
+    ensures { MatchOption result (NoneIsMeant plan.now (option_map (λ name. name.now) name.entry))
+        (IsMeantTask plan.now (option_map (λ name. name.now) name.entry)) }
+{
+    match name {
+        Some(name) => task_number(plan, name),
+        None => only_task(plan),
+    }
+}
+
+/// The number of the plan's task, where it has one alone.
+fn only_task(plan: &Plan) -> Option<usize>
+    ensures { MatchOption result (NoneIsMeant plan.now None) (IsMeantTask plan.now None) }
+{
+    if plan.tasks() == 1 { Some(0) } else { None }
 }
 
 /// The number of the task of this name, without regard to letter case.

@@ -1,6 +1,6 @@
 //! The code file of a task, and the judgement of bytes that may be one.
 
-ghost use Rattle.std.specs.Prelude.{IfErr, IfOk};
+ghost use Rattle.std.specs.Prelude.{IfErr, IfOk, option_map};
 ghost use Rattle.answers.specs.Answered.{IsStepStop, IsStopOrMemory};
 ghost use Rattle.answers.specs.Coding.{IsCodeAnswer, IsCodeFile, IsVerdict};
 
@@ -13,16 +13,22 @@ use ilverify::{VerifyError, verify};
 use std::alloc::Global;
 use wordlines::Binding;
 
-/// The code file of the first task of a name, in any letter case.
+/// The code file of the first task of a name, in any letter case, or without a name of the only one.
 ///
 /// # Errors
 ///
-/// The text's first fault, else the least fault of its names, else that no task has the name, else
-/// the first task whose code is refused; or that the allocator is out of memory.
-pub fn code_of(alloc: Global, binding: &Binding, text: &[u8], task: &str) -> Result<Vec<u8>, Stop>
-    ensures file { IfOk result
-        (λ bytes. IsCodeFile binding.now text.now task.now bytes.items) }
-    ensures stop { IfErr result (IsStopOrMemory (IsStepStop binding.now text.now task.now)) }
+/// The text's first fault, else the least fault of its names, else that no task is meant, else the
+/// first task whose code is refused; or that the allocator is out of memory.
+pub fn code_of(
+    alloc: Global,
+    binding: &Binding,
+    text: &[u8],
+    task: Option<&str>,
+) -> Result<Vec<u8>, Stop>
+    ensures file { IfOk result (λ bytes. IsCodeFile binding.now text.now
+        (option_map (λ name. name.now) task.entry) bytes.items) }
+    ensures stop { IfErr result (IsStopOrMemory (IsStepStop binding.now text.now
+        (option_map (λ name. name.now) task.entry))) }
 {
     let (setup, number) = find_task(alloc, binding, text, task)?;
     let bytes = encode(alloc, setup.code(number).code())?;

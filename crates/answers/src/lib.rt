@@ -31,4 +31,4 @@ pub use coding::{code_of, judge};
 pub use lines::{ScanLine, TaskLine, VariableLine};
 pub use scans::{Scans, Taken, make};
 pub use stepped::{Stepped, task_line};
-pub use stop::{AskedName, Stop};
+pub use stop::{Stop, UnknownTask};

@@ -1,5 +1,6 @@
 //! Why a text isn't run.
 
+use ilplan::Plan;
 use plantload::LoadFault;
 use std::alloc::{AllocError, AllocFailed, Global};
 use std::error::Error;
@@ -7,42 +8,83 @@ use std::fmt;
 use std::marker::Model;
 use wordlines::BindFault;
 
-/// A name that a user gave for a task.
+/// A task that isn't there: the name that a user gave for it, where one was given, and the names of
+/// those that are. Without a name, the text has no task or more than one.
 #[derive(Drop)]
-pub struct AskedName {
-    name: String,
+pub struct UnknownTask {
+    asked: Option<String>,
+    tasks: Vec<String>,
 }
 
-impl Model for AskedName {
-    ghost use Rattle.std.specs.Prelude.{ℕ, List, string_bytes};
+impl Model for UnknownTask {
+    ghost use Rattle.std.specs.Prelude.{ℕ, List, Option, option_map, string_bytes};
 
-    ghost Value = { List ℕ };
+    ghost Value = { Option (List ℕ) };
 
-    ghost view = { λ asked. string_bytes asked.name };
+    ghost view = { λ unknown. option_map (λ name. string_bytes name) unknown.asked };
 }
 
-impl AskedName {
-    ghost use Rattle.std.specs.Prelude.{◌≡◌, IfOk};
+impl UnknownTask {
+    ghost use Rattle.std.specs.Prelude.{◌≡◌, IfOk, option_map, unwrap_or, []};
 
-    /// A copy of the name.
-    pub fn of(alloc: Global, name: &str) -> Result<AskedName, AllocError>
-        ensures { IfOk result (λ asked. asked ≡ name.now) }
+    /// A copy of the name, and the names of the plan's tasks, which are printed by rows alone.
+    pub fn of(alloc: Global, plan: &Plan, asked: Option<&str>) -> Result<UnknownTask, AllocError>
+        ensures { IfOk result (λ unknown. unknown ≡ option_map (λ name. name.now) asked.entry) }
     {
-        let name = String::from_str(alloc, name)?;
-        Ok(AskedName { name })
+        let tasks = names_of(alloc, plan)?;
+        match asked {
+            Some(name) => Ok(UnknownTask {
+                asked: Some(String::from_str(alloc, name)?),
+                tasks,
+            }),
+            None => Ok(UnknownTask { asked: None, tasks }),
+        }
     }
 
-    /// The name as text.
-    pub fn text(&self) -> &str
-        ensures { result.now ≡ self.now }
+    /// The name that was given, or none.
+    fn text(&self) -> &str
+        ensures { result.now ≡ unwrap_or self.now [] }
     {
-        self.name.as_str()
+        match &self.asked {
+            Some(name) => name.as_str(),
+            None => "",
+        }
     }
 }
 
-impl fmt::Debug for AskedName {
+/// The names of the tasks, in order.
+fn names_of(alloc: Global, plan: &Plan) -> Result<Vec<String>, AllocError> {
+    let mut names = Vec::new(alloc);
+    for task in 0..plan.tasks() {
+        names.push(String::from_str(alloc, plan.task_name(task))?)?;
+    }
+    Ok(names)
+}
+
+impl fmt::Debug for UnknownTask {
     fn fmt<W: fmt::Write>(&self, f: &mut fmt::Formatter<W>) -> fmt::Result {
         write!(f, "{}", self.text())
+    }
+}
+
+/// What is said of it on standard error.
+impl fmt::Display for UnknownTask {
+    fn fmt<W: fmt::Write>(&self, f: &mut fmt::Formatter<W>) -> fmt::Result {
+        match &self.asked {
+            Some(name) => write!(f, "error: no task {name}: ")?,
+            None => write!(f, "error: no task is named: ")?,
+        }
+        match self.tasks.as_slice() {
+            [] => write!(f, "there is none"),
+            [only] => write!(f, "there is {only}"),
+            [first, others @ ..] => {
+                write!(f, "there are {first}")?;
+                for other in others {
+                    write!(f, ", {other}")?;
+                }
+                Ok(())
+            }
+        }
     }
 }
 
@@ -55,8 +97,8 @@ pub enum Stop {
     Binding(BindFault),
     /// The text isn't loaded.
     Load(LoadFault),
-    /// No task has this name.
-    NoTask(AskedName),
+    /// No task has the name, or none is named and there isn't one alone.
+    NoTask(UnknownTask),
 }
 
 impl Error for Stop {}
@@ -72,7 +114,7 @@ impl fmt::Display for Stop {
             Stop::Memory => write!(f, "no memory"),
             Stop::Binding(fault) => write!(f, "{fault}"),
             Stop::Load(fault) => write!(f, "{fault}"),
-            Stop::NoTask(asked) => write!(f, "no task {}", asked.text()),
+            Stop::NoTask(unknown) => write!(f, "no task {}", unknown.text()),
         }
     }
 }

@@ -1,3 +1,4 @@
+mod CodeFiles
 mod Given
 mod Named
 mod Parsed

@@ -1,18 +1,18 @@
--- The command line (profile): `check FILE [--bind FILE]`, `check --code FILE`, `step FILE TASK [--bind FILE] [--scans N]
--- [--every MS]`, `play TEXT BIND SCENARIO [--limit N] [--names] [--expect NAME=VALUE].. [--watch NAME]..`,
--- `run TEXT BIND SCENARIO [--limit N] [--workers W]`,
--- `live TEXT BIND --line B=PATH.. [--period MS] [--for SECONDS] [--stop PATH] [--limit N] [--workers W] [--patience MS]
--- [--end-on-down] [--stay] [--log FILE] [--log-size BYTES] [--record FILE] [--status FILE] [--json] [--keep FILE]`,
+-- The command line (profile): `check TEXT [BIND] [--code] [--json]`, `explain TEXT [BIND [SCENARIO]] [--json]`,
+-- `notes TEXT [BIND] [--deny NOTE] [--json]`, `list TEXT [BIND] [TASK] [--json]`, `code TEXT [BIND] [TASK] OUT`,
+-- `step TEXT [BIND] [TASK] [--scans N] [--every MS]`, in each of which `--bind FILE` may stand in place of BIND,
+-- `play TEXT BIND SCENARIO [--limit N] [--names] [--brief] [--expect NAME=VALUE].. [--watch NAME]..`,
+-- `look TEXT BIND SCENARIO [--text] [--out FILE] [--bus B] [--from MS] [--to MS] [--watch NAME]..`,
+-- `look TEXT SCENARIO --bind FILE ..`, `run TEXT BIND SCENARIO [--limit N] [--workers W]`,
 -- `probe --line PATH [--patience MS] [TEXT BIND] [--bus B]`,
 -- `listen --line PATH [--patience MS] [--bind FILE] [--bus B] [--record FILE] [--for SECONDS] [--stop PATH]`,
 -- `blink --line PATH [--patience MS] ADR`, `ask --line PATH [--patience MS] REQUEST ADR [VALUE] [VALUE2]`,
--- `look TEXT BIND SCENARIO [--text] [--out FILE] [--bus B] [--from MS] [--to MS] [--watch NAME]..`,
--- `look TEXT SCENARIO --bind FILE ..`,
--- `notes FILE [--bind FILE]`, `list FILE [TASK] [--bind FILE]`, `explain FILE [SCENARIO] [--bind FILE]`,
--- `code FILE TASK OUT [--bind FILE]`, `frame HEX [HEX2] [HEX3] [HEX4]` and `event BIND B.K INFORMATION`, with the reading
--- of words that `clap` has.
+-- `live TEXT BIND --line B=PATH.. [--period MS] [--for SECONDS] [--stop PATH] [--limit N] [--workers W] [--patience MS]
+-- [--end-on-down] [--stay] [--log FILE] [--log-size BYTES] [--record FILE] [--status FILE] [--json] [--keep FILE]`,
+-- `frame HEX [HEX2] [HEX3] [HEX4]` and `event BIND B.K INFORMATION`, with the reading of words that `clap` has.
 use Rattle.std.specs.Prelude.{◌≡◌, ℕ, ◌<◌, ◌⊎◌, List, [], Option, Some, true, pos, codes, length, IsSome, Result}
-use Rattle.std.specs.Prelude.{Ok, Err}
+use Rattle.std.specs.Prelude.{Ok, Err, option_map}
+use Rattle.std.specs.Borrow.{Bor}
 use Rattle.clap.specs.Words.{App, HasKind, Row, Rule, Text, fault_of, first_of, kind_of, new_app, new_rule, one_of}
 use Rattle.clap.specs.Words.{subcommand_of, with_rule, with_subcommand}
 use Rattle.clap.specs.Simple.{on_top}
@@ -26,7 +26,9 @@ use Rattle.invocations.specs.ExpectedWords.{AreExpected}
 use Rattle.invocations.specs.Invocations.{IsLineName, IsOfCommand, expected_words, line_word, line_words}
 use Rattle.invocations.specs.Invocations.{watched_words}
 use Rattle.invocations.specs.LineWords.{AreLines, ArePaths}
+use Rattle.invocations.specs.TextWords.{AreCodeWords}
 use Rattle.invocations.specs.declared.expected_words.ExpectedWord.{ExpectedWord}
+use Rattle.invocations.specs.declared.files.Files.{Files}
 use Rattle.invocations.specs.declared.invocations.Invocation.{Invocation}
 use Rattle.invocations.specs.declared.line_words.LineWord.{LineWord}
 
@@ -68,16 +70,39 @@ in_range least most rule = record rule { parser = Some (parsers.Signed (pos leas
 abbrev pub number_option : Text → ℕ → ℕ → Rule
 number_option id least most = in_range least most (option id)
 
-abbrev pub check_files : App
-check_files = with_rule (with_rule (new_app (codes "check")) (wanted (codes "FILE"))) (option (codes "bind"))
+-- a command of this name on a text, and on the binding that may stand behind it
+abbrev pub text_files : Text → App
+text_files name = with_rule (with_rule (new_app name) (wanted (codes "TEXT"))) (optional (codes "BIND"))
 
 abbrev pub check_command : App
-check_command = with_rule check_files (flag (codes "code"))
+check_command =
+    with_rule (with_rule (with_rule (text_files (codes "check")) (option (codes "bind"))) (flag (codes "code")))
+    (flag (codes "json"))
+
+abbrev pub explain_command : App
+explain_command =
+    with_rule (with_rule (with_rule (text_files (codes "explain")) (optional (codes "SCENARIO")))
+    (option (codes "bind")))
+    (flag (codes "json"))
+
+abbrev pub notes_command : App
+notes_command =
+    with_rule (with_rule (with_rule (text_files (codes "notes")) (option (codes "bind"))) (option (codes "deny")))
+    (flag (codes "json"))
+
+abbrev pub list_command : App
+list_command =
+    with_rule (with_rule (with_rule (text_files (codes "list")) (optional (codes "TASK"))) (option (codes "bind")))
+    (flag (codes "json"))
+
+abbrev pub code_command : App
+code_command =
+    with_rule (with_rule (with_rule (text_files (codes "code")) (optional (codes "TASK"))) (optional (codes "OUT")))
+    (option (codes "bind"))
 
 abbrev pub step_files : App
 step_files =
-    with_rule (with_rule (with_rule (new_app (codes "step")) (wanted (codes "FILE"))) (wanted (codes "TASK")))
-    (option (codes "bind"))
+    with_rule (with_rule (text_files (codes "step")) (optional (codes "TASK"))) (option (codes "bind"))
 
 abbrev pub step_command : App
 step_command =
@@ -92,9 +117,10 @@ scenario_files name =
 
 abbrev pub play_command : App
 play_command =
-    with_rule (with_rule (with_rule (with_rule (scenario_files (codes "play"))
+    with_rule (with_rule (with_rule (with_rule (with_rule (scenario_files (codes "play"))
     (number_option (codes "limit") 100 1000000))
     (flag (codes "names")))
+    (flag (codes "brief")))
     (listed_option (codes "expect")))
     (listed_option (codes "watch"))
 
@@ -166,10 +192,7 @@ ask_command =
 
 abbrev pub look_files : App
 look_files =
-    with_rule (with_rule (with_rule (with_rule (new_app (codes "look")) (wanted (codes "TEXT")))
-    (optional (codes "BIND")))
-    (optional (codes "SCENARIO")))
-    (option (codes "bind"))
+    with_rule (with_rule (text_files (codes "look")) (optional (codes "SCENARIO"))) (option (codes "bind"))
 
 abbrev pub look_picture : App
 look_picture = with_rule (with_rule look_files (flag (codes "text"))) (option (codes "out"))
@@ -180,27 +203,6 @@ look_command =
     (number_option (codes "from") 0 4294967295))
     (number_option (codes "to") 0 4294967295))
     (listed_option (codes "watch"))
-
-abbrev pub notes_command : App
-notes_command = with_rule (with_rule (new_app (codes "notes")) (wanted (codes "FILE"))) (option (codes "bind"))
-
-abbrev pub list_command : App
-list_command =
-    with_rule (with_rule (with_rule (new_app (codes "list")) (wanted (codes "FILE"))) (optional (codes "TASK")))
-    (option (codes "bind"))
-
-abbrev pub explain_command : App
-explain_command =
-    with_rule (with_rule (with_rule (new_app (codes "explain")) (wanted (codes "FILE"))) (optional (codes "SCENARIO")))
-    (option (codes "bind"))
-
-abbrev pub code_files : App
-code_files =
-    with_rule (with_rule (with_rule (new_app (codes "code")) (wanted (codes "FILE"))) (wanted (codes "TASK")))
-    (wanted (codes "OUT"))
-
-abbrev pub code_command : App
-code_command = with_rule code_files (option (codes "bind"))
 
 abbrev pub frame_command : App
 frame_command =
@@ -219,50 +221,35 @@ abbrev pub program : App
 program =
     on_top (λ top. record top { has_version = true; subcommand_required = true }) (new_app (codes "dalictl"))
 
-abbrev pub inquiry_line : App
-inquiry_line = with_subcommand (with_subcommand program check_command.top) step_command.top
+-- the commands at the desk,
+abbrev pub desk_line : App
+desk_line =
+    with_subcommand (with_subcommand (with_subcommand (with_subcommand (with_subcommand program check_command.top)
+    explain_command.top)
+    notes_command.top)
+    list_command.top)
+    code_command.top
 
-abbrev pub played_line : App
-played_line = with_subcommand inquiry_line play_command.top
+-- those that try a text out,
+abbrev pub trying_line : App
+trying_line =
+    with_subcommand (with_subcommand (with_subcommand (with_subcommand desk_line step_command.top)
+    play_command.top)
+    look_command.top)
+    run_command.top
 
-abbrev pub run_line : App
-run_line = with_subcommand played_line run_command.top
+-- those at one line,
+abbrev pub tool_line : App
+tool_line =
+    with_subcommand (with_subcommand (with_subcommand (with_subcommand trying_line probe_command.top)
+    listen_command.top)
+    blink_command.top)
+    ask_command.top
 
-abbrev pub live_line : App
-live_line = with_subcommand run_line live_command.top
-
-abbrev pub probe_line : App
-probe_line = with_subcommand live_line probe_command.top
-
-abbrev pub listen_line : App
-listen_line = with_subcommand probe_line listen_command.top
-
-abbrev pub blink_line : App
-blink_line = with_subcommand listen_line blink_command.top
-
-abbrev pub ask_line : App
-ask_line = with_subcommand blink_line ask_command.top
-
-abbrev pub look_line : App
-look_line = with_subcommand ask_line look_command.top
-
-abbrev pub note_line : App
-note_line = with_subcommand look_line notes_command.top
-
-abbrev pub list_line : App
-list_line = with_subcommand note_line list_command.top
-
-abbrev pub explain_line : App
-explain_line = with_subcommand list_line explain_command.top
-
-abbrev pub code_line : App
-code_line = with_subcommand explain_line code_command.top
-
-abbrev pub frame_line : App
-frame_line = with_subcommand code_line frame_command.top
-
+-- and that for a building, and those by hand
 abbrev pub command_line : App
-command_line = with_subcommand frame_line event_command.top
+command_line =
+    with_subcommand (with_subcommand (with_subcommand tool_line live_command.top) frame_command.top) event_command.top
 
 -- ---- what they say
 
@@ -277,20 +264,36 @@ IsInvocation words invocation = Spell (λ name found. IsOfCommand name found inv
 
 -- ---- how they are taken
 
--- what was found under `check` names a binding beside a code file, which has none
-abbrev pub NamesBoth : Text → List Row → Type 0
-NamesBoth name found =
-    (name ≡ codes "check") × (one_of (codes "code") found ≡ Some (codes "true"))
-    × IsSome (first_of (codes "bind") found)
+-- what was found asks for a binding or for JSON
+abbrev pub AsksOfText : List Row → Type 0
+AsksOfText found =
+    IsSome (first_of (codes "bind") found) ⊎ IsSome (first_of (codes "BIND") found)
+    ⊎ (one_of (codes "json") found ≡ Some (codes "true"))
 
--- what was found under `look` names the binding by `--bind`, and has three words beside it
+-- what was found under `check` asks for that beside a code file, which has neither
+abbrev pub AsksBesideCode : Text → List Row → Type 0
+AsksBesideCode name found =
+    (name ≡ codes "check") × (one_of (codes "code") found ≡ Some (codes "true")) × AsksOfText found
+
+-- what was found under one of two commands has this word
+abbrev pub IsGivenUnder : Text → Text → Text → Text → List Row → Type 0
+IsGivenUnder one other id name found = ((name ≡ one) ⊎ (name ≡ other)) × IsSome (first_of id found)
+
+-- what was found has the last of the words that may stand behind the text, of which beside `--bind` there is one less
+abbrev pub HasLastWord : Text → List Row → Type 0
+HasLastWord name found =
+    IsGivenUnder (codes "check") (codes "notes") (codes "BIND") name found
+    ⊎ IsGivenUnder (codes "step") (codes "list") (codes "TASK") name found
+    ⊎ IsGivenUnder (codes "code") (codes "code") (codes "OUT") name found
+    ⊎ IsGivenUnder (codes "look") (codes "explain") (codes "SCENARIO") name found
+
+-- what was found names the binding by `--bind`, and by a word too
 abbrev pub NamesBindingTwice : Text → List Row → Type 0
-NamesBindingTwice name found =
-    (name ≡ codes "look") × IsSome (first_of (codes "bind") found) × IsSome (first_of (codes "SCENARIO") found)
+NamesBindingTwice name found = IsSome (first_of (codes "bind") found) × HasLastWord name found
 
 -- of what was found one thing can't be used beside another one
 abbrev pub IsConflicting : Text → List Row → Type 0
-IsConflicting name found = NamesBoth name found ⊎ NamesBindingTwice name found
+IsConflicting name found = AsksBesideCode name found ⊎ NamesBindingTwice name found
 
 -- what was found under `probe` names a text without its binding
 abbrev pub NamesNoBinding : Text → List Row → Type 0
@@ -307,16 +310,39 @@ HasLookFiles found =
 abbrev pub NamesNoScenario : Text → List Row → Type 0
 NamesNoScenario name found = (name ≡ codes "look") × ¬ HasLookFiles found
 
+-- what was found under `code` has no word behind the text, so that no code file is named
+abbrev pub NamesNoCodeFile : Text → List Row → Type 0
+NamesNoCodeFile name found = (name ≡ codes "code") × ¬ IsSome (first_of (codes "BIND") found)
+
+-- what was found asks for JSON without a file for how the building stands,
+abbrev pub HasNoStatus : List Row → Type 0
+HasNoStatus found =
+    (one_of (codes "json") found ≡ Some (codes "true")) × ¬ IsSome (first_of (codes "status") found)
+
+-- or gives the size of a log that has no file
+abbrev pub HasNoLog : List Row → Type 0
+HasNoLog found = IsSome (first_of (codes "log-size") found) × ¬ IsSome (first_of (codes "log") found)
+
+-- what was found under `live` lacks a file for what is written beside the building
+abbrev pub HasNoFileBeside : Text → List Row → Type 0
+HasNoFileBeside name found = (name ≡ codes "live") × (HasNoStatus found ⊎ HasNoLog found)
+
 -- what was found lacks a file
 abbrev pub IsLacking : Text → List Row → Type 0
-IsLacking name found = NamesNoBinding name found ⊎ NamesNoScenario name found
+IsLacking name found =
+    NamesNoBinding name found ⊎ NamesNoScenario name found ⊎ NamesNoCodeFile name found ⊎ HasNoFileBeside name found
+
+-- the path is that of the text, or that of the binding
+abbrev pub IsInput : Files → Bor Text → Type 0
+IsInput files to = (files.text.now ≡ to.now) ⊎ (option_map (λ path. path.now) files.binding ≡ Some to.now)
 
 -- what was found under `code` names the text or the binding as the code file that is written
+abbrev pub NamesInput : List Row → Type 0
+NamesInput found =
+    (files : Files) × (task : Option (Bor Text)) × (to : Bor Text) × AreCodeWords found files task to × IsInput files to
+
 abbrev pub WritesOverInput : Text → List Row → Type 0
-WritesOverInput name found =
-    (name ≡ codes "code")
-    × ((out : Text) × (first_of (codes "OUT") found ≡ Some out)
-    × ((first_of (codes "FILE") found ≡ Some out) ⊎ (first_of (codes "bind") found ≡ Some out)))
+WritesOverInput name found = (name ≡ codes "code") × NamesInput found
 
 -- what was found names no lines: under `live` a word is none, or names a bus or a path that another one names; at one
 -- line the word is neither a path nor two

@@ -6,7 +6,7 @@ ghost use Rattle.clap.specs.declared.builder.command.Command.TheViews.{out-Comma
 ghost use Rattle.commandline.specs.CommandLine.{program};
 ghost use Rattle.commandline.specs.Tables.{app_of_command, rule_of_word, with_commands};
 
-use crate::tables::{Subcommand, VERSION};
+use crate::tables::{HELP, Subcommand, VERSION};
 use crate::words::{Word, argument};
 use clap::Command;
 use std::alloc::{AllocError, Global};
@@ -35,7 +35,9 @@ pub(crate) fn program<'a>(alloc: Global) -> Command<'a>
     ensures local { (out-Command result).has_globals ≡ false }
 {
     let about = "Checks and runs Instruction List programs for DALI-2 lighting buses";
-    named(alloc, "dalictl", about)
+    Command::new(alloc, "dalictl")
+        .about(about)
+        .override_help(HELP)
         .version(VERSION)
         .subcommand_required(true)
 }
@@ -48,19 +50,22 @@ pub(crate) fn command_of<'a>(
     ensures shape { IfOk result (λ c. app_of c ≡ app_of_command description) }
     ensures local { IfOk result (λ c. (out-Command c).has_globals ≡ false) }
 {
-    let mut command = named(alloc, description.name, description.about);
+    let mut command = named(alloc, description);
     for word in description.words {
         command = added(command, alloc, *word)?;
     }
     Ok(command)
 }
 
-/// A command with no arguments.
-fn named<'a>(alloc: Global, name: &'a str, about: &'a str) -> Command<'a>
-    ensures shape { app_of result ≡ new_app name.now }
+/// The command with no arguments.
+fn named<'a>(alloc: Global, description: Subcommand) -> Command<'a>
+    ensures shape { app_of result ≡ new_app description.name.now }
     ensures local { (out-Command result).has_globals ≡ false }
 {
-    Command::new(alloc, name).about(about)
+    Command::new(alloc, description.name)
+        .about(description.about)
+        .override_usage(description.usage)
+        .after_help(description.end)
 }
 
 /// The command with one word more.

@@ -18,6 +18,7 @@ mod builders;
 mod checks;
 mod messages;
 mod options;
+mod refusal_text;
 mod tables;
 mod words;
 
@@ -27,3 +28,4 @@ pub use invocations::{
     Question, RunSize, Tool, WatchedNames,
 };
 pub use options::read;
+pub use refusal_text::said;

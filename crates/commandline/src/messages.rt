@@ -4,26 +4,69 @@ ghost use Rattle.std.specs.Prelude.{◌≡◌, IfOk};
 ghost use Rattle.clap.specs.Words.{kind_of};
 
 use crate::builders::command_of;
-use crate::checks::{is_given, is_word};
-use crate::tables::{ASK, BLINK, CHECK, CODE, LISTEN, LIVE, LOOK, PLAY, PROBE, Subcommand};
+use crate::checks::{asks_beside_code, has_no_status, is_given};
+use crate::tables::{
+    ASK, BLINK, CHECK, CODE, EXPLAIN, LIST, LISTEN, LIVE, LOOK, NOTES, PLAY, PROBE, STEP,
+    Subcommand,
+};
 use clap::error::ErrorKind;
 use clap::{ArgMatches, Error};
-use invocations::{ExpectedFault, LineWordFault, WatchedFault, WordFault, word_in};
+use invocations::{ExpectedFault, LineWordFault, WatchedFault, WordFault, code_words_in};
 use std::alloc::{AllocError, Global};
 
-/// The fault of a binding that is named beside a code file, or beside another one.
-pub(crate) fn conflict(alloc: Global, name: &str) -> Result<Error, AllocError>
+/// The fault of one thing that is given beside another one: a binding or JSON beside a code file, or
+/// a binding beside another one.
+pub(crate) fn conflict(alloc: Global, name: &str, found: &ArgMatches) -> Result<Error, AllocError>
     ensures { IfOk result (λ error. kind_of error ≡ ErrorKind.ArgumentConflict) }
 {
-    let (command, argument) = if name == "look" {
-        (LOOK, "[SCENARIO]")
+    let (argument, other) = if !asks_beside_code(name, found) {
+        (last_word(name), "--bind <FILE>")
+    } else if is_given(found, "bind") {
+        ("--code", "--bind <FILE>")
+    } else if is_given(found, "BIND") {
+        ("--code", "[BIND]")
     } else {
-        (CHECK, "--code")
+        ("--code", "--json")
     };
-    let message = format!(in alloc;
-        "the argument '{argument}' cannot be used with '--bind <FILE>'"
-    )?;
-    command_of(alloc, command)?.error(ErrorKind::ArgumentConflict, message.as_str())
+    let message = format!(in alloc; "the argument '{argument}' cannot be used with '{other}'")?;
+    command_of(alloc, text_command(name))?.error(ErrorKind::ArgumentConflict, message.as_str())
+}
+
+/// The word that has no place beside `--bind`, under the command's name.
+fn last_word(name: &str) -> &'static str {
+    if name == "look" || name == "explain" {
+        return "[SCENARIO]";
+    }
+    if name == "step" || name == "list" {
+        return "[TASK]";
+    }
+    if name == "code" {
+        return "[OUT]";
+    }
+    "[BIND]"
+}
+
+/// The command of this name among those that take a text and a binding.
+fn text_command(name: &str) -> Subcommand {
+    if name == "look" {
+        return LOOK;
+    }
+    if name == "explain" {
+        return EXPLAIN;
+    }
+    if name == "step" {
+        return STEP;
+    }
+    if name == "list" {
+        return LIST;
+    }
+    if name == "code" {
+        return CODE;
+    }
+    if name == "notes" {
+        return NOTES;
+    }
+    CHECK
 }
 
 /// The fault of files that aren't named.
@@ -32,6 +75,10 @@ pub(crate) fn lack(alloc: Global, name: &str, found: &ArgMatches) -> Result<Erro
 {
     let (command, arguments) = if name == "look" {
         (LOOK, look_files_that_lack(found))
+    } else if name == "code" {
+        (CODE, "<OUT>")
+    } else if name == "live" {
+        (LIVE, file_that_lacks(found))
     } else {
         (PROBE, "<BIND>")
     };
@@ -39,6 +86,14 @@ pub(crate) fn lack(alloc: Global, name: &str, found: &ArgMatches) -> Result<Erro
         "the following required arguments were not provided:\n  {arguments}"
     )?;
     command_of(alloc, command)?.error(ErrorKind::MissingRequiredArgument, message.as_str())
+}
+
+/// The file that lacks beside a building.
+fn file_that_lacks(found: &ArgMatches) -> &'static str {
+    if has_no_status(found) {
+        return "--status <FILE>";
+    }
+    "--log <FILE>"
 }
 
 /// The files that lack where a scenario is looked at.
@@ -56,8 +111,9 @@ fn look_files_that_lack(found: &ArgMatches) -> &'static str {
 pub(crate) fn overwriting(alloc: Global, found: &ArgMatches) -> Result<Error, AllocError>
     ensures { IfOk result (λ error. kind_of error ≡ ErrorKind.ValueValidation) }
 {
-    let out = word_in(found, "OUT").unwrap_or("");
-    let input = if is_word(found, "FILE", out) {
+    let words = code_words_in(found);
+    let out = words.to;
+    let input = if words.files.text == out {
         "the text"
     } else {
         "the binding"
@@ -110,7 +166,7 @@ fn no_line(alloc: Global, name: &str, fault: LineWordFault) -> Result<Error, All
 {
     let (word, reason) = match fault {
         LineWordFault::NoLine(word) if name == "live" => {
-            (word, "not B=PATH or B=FROM,TO with B in 0..=63")
+            (word, "not B=PATH or B=FROM,TO with B in 0..63")
         }
         LineWordFault::NoLine(word) => (word, "not PATH or FROM,TO"),
         LineWordFault::Again(word) => (word, "another line has this bus"),

@@ -5,13 +5,13 @@ ghost use Rattle.clap.specs.Words.{app_of, found_of, kind_of, rows_of};
 ghost use Rattle.clap.specs.declared.builder.command.Command.TheViews.{out-Command};
 ghost use Rattle.invocations.specs.Invocations.{IsOfCommand};
 ghost use Rattle.commandline.specs.CommandLine.{AreTaken, HasWrongValue, IsAtFault, IsConflicting};
-ghost use Rattle.commandline.specs.CommandLine.{IsInvocation, IsLacking, command_line, live_line};
-ghost use Rattle.commandline.specs.CommandLine.{look_line};
+ghost use Rattle.commandline.specs.CommandLine.{IsInvocation, IsLacking, command_line};
+ghost use Rattle.commandline.specs.CommandLine.{desk_line, tool_line, trying_line};
 
 use crate::builders::{extended, program};
 use crate::checks::{is_conflicting, is_lacking, writes_over_input};
 use crate::messages::{conflict, lack, overwriting, wrong_word};
-use crate::tables::{ASKING, LOOKING, RUNNING};
+use crate::tables::{AT_LINE, DESK, LAST, TRYING};
 use clap::error::ErrorKind;
 use clap::{ArgMatches, Command, Error};
 use invocations::{Invocation, invocation_of};
@@ -22,8 +22,9 @@ use std::alloc::{AllocError, Global};
 /// # Errors
 ///
 /// What `clap` says of words that spell none, and the help or the version where it is asked for; or
-/// that a binding is named beside a code file, or twice; or a text without its binding or its
-/// scenario; or that the code file would be written over the text or the binding; or that a word
+/// that a binding or JSON is asked for beside a code file, or a binding is named twice; or a text
+/// without its binding or its scenario, no code file, or what is written beside a building without
+/// its file; or that the code file would be written over the text or the binding; or that a word
 /// names no line, or a bus or a path that another one names; or that a word says nothing that is
 /// expected, or is one too many; or that a name that is watched is one too many.
 pub fn read<'a>(alloc: Global, words: &'a [String]) -> Result<Invocation<'a>, Error>
@@ -59,7 +60,7 @@ fn invocation<'a>(
         (IsOfCommand name.now (rows_of (found_of found.now))) }
 {
     if is_conflicting(name, found) {
-        return Err(conflict(alloc, name)?);
+        return Err(conflict(alloc, name, found)?);
     }
     if is_lacking(name, found) {
         return Err(lack(alloc, name, found)?);
@@ -77,24 +78,33 @@ fn invocation<'a>(
 fn command<'a>(alloc: Global) -> Result<Command<'a>, AllocError>
     ensures { IfOk result (λ c. app_of c ≡ command_line) }
 {
-    let line = looking(alloc)?;
-    extended(alloc, line, &ASKING)
+    let line = at_line(alloc)?;
+    extended(alloc, line, &LAST)
 }
 
-/// The line with the commands up to the one for a picture.
-fn looking<'a>(alloc: Global) -> Result<Command<'a>, AllocError>
-    ensures shape { IfOk result (λ c. app_of c ≡ look_line) }
+/// The line with the commands up to those at one line.
+fn at_line<'a>(alloc: Global) -> Result<Command<'a>, AllocError>
+    ensures shape { IfOk result (λ c. app_of c ≡ tool_line) }
     ensures local { IfOk result (λ c. (out-Command c).has_globals ≡ false) }
 {
-    let line = running(alloc)?;
-    extended(alloc, line, &LOOKING)
+    let line = trying(alloc)?;
+    extended(alloc, line, &AT_LINE)
 }
 
-/// The line with the commands that check and run texts.
-fn running<'a>(alloc: Global) -> Result<Command<'a>, AllocError>
-    ensures shape { IfOk result (λ c. app_of c ≡ live_line) }
+/// The line with the commands up to those that try a text out.
+fn trying<'a>(alloc: Global) -> Result<Command<'a>, AllocError>
+    ensures shape { IfOk result (λ c. app_of c ≡ trying_line) }
+    ensures local { IfOk result (λ c. (out-Command c).has_globals ≡ false) }
+{
+    let line = at_desk(alloc)?;
+    extended(alloc, line, &TRYING)
+}
+
+/// The line with the commands at the desk.
+fn at_desk<'a>(alloc: Global) -> Result<Command<'a>, AllocError>
+    ensures shape { IfOk result (λ c. app_of c ≡ desk_line) }
     ensures local { IfOk result (λ c. (out-Command c).has_globals ≡ false) }
 {
     let line = program(alloc);
-    extended(alloc, line, &RUNNING)
+    extended(alloc, line, &DESK)
 }

@@ -3,18 +3,17 @@ use Rattle.std.proofs.Common.{◌≡◌, ℕ, List, Option, inr}
 use Rattle.std.specs.Io.KnownBytes.{Appends}
 use Rattle.std.specs.Option.{option_copied}
 use Rattle.invocations.specs.declared.files.Files.{Files}
-use Rattle.answers.specs.Stops.{printed_stop}
 use Rattle.answers.specs.declared.stop.Stop.{Stop}
 use Rattle.exits.specs.ExitStatuses.{status_of_stop}
 use Rattle.exits.specs.declared.exit_status.ExitStatus.{ExitStatus}
 use Rattle.commands.specs.CodeFiles.{IsCodeServed, IsCodeStop}
-use Rattle.commands.specs.Reports.{ended}
+use Rattle.commands.specs.Reports.{stop_text}
 use Rattle.commands.specs.Served.{IsGiven}
 
-pub stopped : (gives takes : List ℕ → List ℕ → Type 0) (files : Files) (name to : List ℕ)
+pub stopped : (gives takes : List ℕ → List ℕ → Type 0) (files : Files) (name : Option (List ℕ)) (to : List ℕ)
     (before after : Option (List ℕ)) (status : ExitStatus) (binding read : Option (List ℕ)) (text bytes : List ℕ)
     (stop : Stop) → IsGiven gives (option_copied files.binding) read → gives files.text.now bytes → binding ≡ read
-    → text ≡ bytes → IsCodeStop binding text name stop → Appends before after (ended (printed_stop stop))
+    → text ≡ bytes → IsCodeStop binding text name stop → Appends before after (stop_text stop)
     → status ≡ status_of_stop stop → IsCodeServed gives takes files name to before after status
 stopped gives takes files name to before after status binding read text bytes stop given text_given same same_text stops
     line ends = (

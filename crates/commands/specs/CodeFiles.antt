@@ -8,7 +8,6 @@ use Rattle.wordlines.specs.Wirings.{Wiring}
 use Rattle.invocations.specs.declared.files.Files.{Files}
 use Rattle.answers.specs.Answered.{IsStepStop, IsStopOrMemory}
 use Rattle.answers.specs.Connected.{IsBindingStop, IsConnected}
-use Rattle.answers.specs.Stops.{printed_stop}
 use Rattle.answers.specs.declared.stop.Stop.{Stop}
 use Rattle.answers.specs.Coding.{IsCodeAnswer, IsCodeFile}
 use Rattle.answers.specs.CodePrinted.{printed}
@@ -16,7 +15,7 @@ use Rattle.answers.specs.declared.code_answer.CodeAnswer.{CodeAnswer}
 use Rattle.exits.specs.ExitStatuses.{status_of_code_answer, status_of_stop}
 use Rattle.exits.specs.declared.exit_status.ExitStatus.{ExitStatus}
 use Rattle.exits.specs.declared.exit_status.ExitStatus.TheVariants.{Accepted}
-use Rattle.commands.specs.Reports.{ended}
+use Rattle.commands.specs.Reports.{ended, stop_text}
 use Rattle.commands.specs.Served.{IsFirstUnread, IsGiven}
 use Rattle.commands.specs.declared.reading.DiskFault.{DiskFault}
 use Rattle.commands.specs.declared.serving.Unserved.{Unserved}
@@ -24,13 +23,13 @@ use Rattle.commands.specs.declared.serving.Unserved.TheVariants.{NotRead, NotWri
 
 -- ---- a code file is written
 
--- under the binding these are the bytes of the code file of the text's first task of the name
-abbrev pub IsCodeUnder : Option (List ℕ) → List ℕ → List ℕ → List ℕ → Type 0
+-- under the binding these are the bytes of the code file of the task that is meant
+abbrev pub IsCodeUnder : Option (List ℕ) → List ℕ → Option (List ℕ) → List ℕ → Type 0
 IsCodeUnder binding text name code =
     (wiring : Wiring) × IsConnected binding wiring × IsCodeFile wiring text name code
 
 -- the binding's fault; or, under the binding, what stands against the text or the name
-abbrev pub IsCodeStop : Option (List ℕ) → List ℕ → List ℕ → Stop → Type 0
+abbrev pub IsCodeStop : Option (List ℕ) → List ℕ → Option (List ℕ) → Stop → Type 0
 IsCodeStop binding text name stop =
     IsBindingStop binding stop
     ⊎ ((wiring : Wiring) × IsConnected binding wiring × IsStopOrMemory (IsStepStop wiring text name) stop)
@@ -42,8 +41,8 @@ pub record AreRead (gives : List ℕ → List ℕ → Type 0) (files : Files) (b
   pub text_given : gives files.text.now text
 
 -- the file at the path took the code file, and nothing is printed
-pub record IsWritten (takes : List ℕ → List ℕ → Type 0) (binding : Option (List ℕ)) (text name to : List ℕ)
-    (before after : Option (List ℕ)) (status : ExitStatus) : Type 0 where
+pub record IsWritten (takes : List ℕ → List ℕ → Type 0) (binding : Option (List ℕ)) (text : List ℕ)
+    (name : Option (List ℕ)) (to : List ℕ) (before after : Option (List ℕ)) (status : ExitStatus) : Type 0 where
   pub code : List ℕ
   pub under : IsCodeUnder binding text name code
   pub taken : takes to code
@@ -51,14 +50,14 @@ pub record IsWritten (takes : List ℕ → List ℕ → Type 0) (binding : Optio
   pub ends : status ≡ Accepted
 
 -- the line of what stands against that is printed
-pub record IsStopped (binding : Option (List ℕ)) (text name : List ℕ) (before after : Option (List ℕ))
-    (status : ExitStatus) : Type 0 where
+pub record IsStopped (binding : Option (List ℕ)) (text : List ℕ) (name : Option (List ℕ))
+    (before after : Option (List ℕ)) (status : ExitStatus) : Type 0 where
   pub stop : Stop
   pub stops : IsCodeStop binding text name stop
-  pub line : Appends before after (ended (printed_stop stop))
+  pub line : Appends before after (stop_text stop)
   pub ends : status ≡ status_of_stop stop
 
-abbrev pub IsCodeServed : (List ℕ → List ℕ → Type 0) → (List ℕ → List ℕ → Type 0) → Files → List ℕ → List ℕ
+abbrev pub IsCodeServed : (List ℕ → List ℕ → Type 0) → (List ℕ → List ℕ → Type 0) → Files → Option (List ℕ) → List ℕ
     → Option (List ℕ) → Option (List ℕ) → ExitStatus → Type 0
 IsCodeServed gives takes files name to before after status =
     (binding : Option (List ℕ)) × (text : List ℕ) × AreRead gives files binding text
@@ -66,7 +65,7 @@ IsCodeServed gives takes files name to before after status =
 
 -- the file at this path doesn't take the code file
 pub record IsRefused (gives : List ℕ → List ℕ → Type 0) (refuses : List ℕ → DiskFault → Type 0) (files : Files)
-    (name path : List ℕ) (why : DiskFault) : Type 0 where
+    (name : Option (List ℕ)) (path : List ℕ) (why : DiskFault) : Type 0 where
   pub binding : Option (List ℕ)
   pub text : List ℕ
   pub read : AreRead gives files binding text
@@ -77,7 +76,7 @@ pub record IsRefused (gives : List ℕ → List ℕ → Type 0) (refuses : List 
 -- the first of the named files that isn't read is reported, or that the code file isn't written; of a failure of the
 -- writer nothing is said
 abbrev pub IsCodeUnserved : (List ℕ → List ℕ → Type 0) → (List ℕ → DiskFault → Type 0) → (List ℕ → DiskFault → Type 0)
-    → Files → List ℕ → List ℕ → Unserved → Type 0
+    → Files → Option (List ℕ) → List ℕ → Unserved → Type 0
 IsCodeUnserved gives fails refuses files name to (NotRead path why) = IsFirstUnread gives fails files path.now why
 IsCodeUnserved gives fails refuses files name to (NotWritten path why) =
     (path.now ≡ to) × IsRefused gives refuses files name to why

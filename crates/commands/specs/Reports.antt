@@ -19,6 +19,8 @@ use Rattle.answers.specs.Printed.{printed_task, printed_scan, printed_request, p
 use Rattle.answers.specs.Responses.{IsAnswer}
 use Rattle.answers.specs.Stepping.{Run}
 use Rattle.answers.specs.Stops.{printed_stop}
+use Rattle.answers.specs.declared.stop.Stop.{Stop}
+use Rattle.answers.specs.declared.stop.Stop.TheVariants.{Binding, Load, Memory, NoTask}
 
 -- the first of these texts, one after another
 abbrev pub first_texts : (ℕ → List ℕ) → ℕ → List ℕ
@@ -79,13 +81,21 @@ variable_line made number =
     (slot_at made.setup.plan made.task number)
     (slice_get made.left.slots number)
 
+-- the line of what stands against a text; that a task isn't there is said on standard error, of which nothing is said
+-- here
+abbrev pub stop_text : Stop → List ℕ
+stop_text (NoTask asked) = []
+stop_text Memory = ended (printed_stop Memory)
+stop_text (Binding fault) = ended (printed_stop (Binding fault))
+stop_text (Load fault) = ended (printed_stop (Load fault))
+
 -- a line for each task; for each scan its line and those of its requests, and then a line for each variable; the line
 -- of what stands against it
 abbrev pub printed_answer : Answer → List ℕ
 printed_answer (answers.Checked setup) = first_lines (task_line setup) (length setup.plan.tasks)
 printed_answer (answers.Stepped made) =
     first_texts (scan_lines made) (length made.each) ++ first_lines (variable_line made) (length made.left.slots)
-printed_answer (answers.Stopped stop) = ended (printed_stop stop)
+printed_answer (answers.Stopped stop) = stop_text stop
 
 -- how the program ends after an answer
 abbrev pub status_of : Answer → ExitStatus

@@ -1,14 +1,13 @@
 //! The commands on code files: one is written, or one is judged.
 
-ghost use Rattle.std.specs.Prelude.{◌≡◌, IfErr, IfOk, OnOk};
+ghost use Rattle.std.specs.Prelude.{◌≡◌, IfErr, IfOk, OnOk, option_map};
 ghost use Rattle.std.specs.Io.KnownBytes.{Appends};
 ghost use Rattle.std.specs.Option.{option_copied};
-ghost use Rattle.answers.specs.Stops.{printed_stop};
 ghost use Rattle.answers.specs.CodePrinted.{printed};
 ghost use Rattle.exits.specs.ExitStatuses.{status_of_code_answer, status_of_stop};
 ghost use Rattle.commands.specs.CodeFiles.{IsCodeJudged, IsCodeServed, IsCodeStop, IsCodeUnder};
 ghost use Rattle.commands.specs.CodeFiles.{IsCodeUnserved, IsNotWritten, IsUnjudged};
-ghost use Rattle.commands.specs.Reports.{ended};
+ghost use Rattle.commands.specs.Reports.{ended, stop_text};
 
 use crate::reading::Disk;
 use crate::report;
@@ -20,25 +19,28 @@ use std::alloc::Global;
 use std::io;
 use std::io::{BufWriter, Write};
 
-/// Reads the files that are named, the binding before the text, and writes the code file of the
-/// task of this name to a path, or prints what stands against that; the writer, which then has that
-/// line, and how the program ends.
+/// Reads the files that are named, the binding before the text, and writes the code file of the task
+/// of this name, or without a name of the only one, to a path, or prints what stands against that; the
+/// writer, which then has that line, and how the program ends. `complaints` gets the line of a task
+/// that isn't there.
 ///
 /// # Errors
 ///
 /// The first file that isn't read, that the code file isn't written, or the writer's error.
-pub fn serve_code<'a, D: Disk, W: Write + Drop>(
+pub fn serve_code<'a, D: Disk, W: Write + Drop, E: Write>(
     alloc: Global,
     disk: &D,
     out: W,
+    complaints: &mut E,
     files: Files<'a>,
-    task: &str,
+    task: Option<&str>,
     to: &'a str,
 ) -> Result<(W, ExitStatus), Unserved<'a>>
     ensures served { IfOk result (λ done. IsCodeServed (D.gives disk.now) (D.takes disk.now)
-        files.entry task.now to.now (W.contents out) (W.contents done.0) done.1) }
+        files.entry (option_map (λ name. name.now) task.entry) to.now (W.contents out)
+        (W.contents done.0) done.1) }
     ensures unserved { IfErr result (IsCodeUnserved (D.gives disk.now) (D.fails disk.now)
-        (D.refuses disk.now) files.entry task.now to.now) }
+        (D.refuses disk.now) files.entry (option_map (λ name. name.now) task.entry) to.now) }
 {
     let binding = binding_at(alloc, disk, files.binding)?;
     let text = bytes_at(alloc, disk, files.text)?;
@@ -47,7 +49,7 @@ pub fn serve_code<'a, D: Disk, W: Write + Drop>(
             write_at(disk, to, &code)?;
             Ok((out, ExitStatus::Accepted))
         }
-        Err(stop) => Ok(print_stop(alloc, out, stop)?),
+        Err(stop) => Ok(print_stop(alloc, out, complaints, stop)?),
     }
 }
 
@@ -60,24 +62,29 @@ fn code_under(
     alloc: Global,
     binding: Option<&[u8]>,
     text: &[u8],
-    task: &str,
+    task: Option<&str>,
 ) -> Result<Vec<u8>, Stop>
-    ensures code { IfOk result (λ code. IsCodeUnder (option_copied binding.entry) text.now task.now
-        code.items) }
-    ensures stop { IfErr result
-        (IsCodeStop (option_copied binding.entry) text.now task.now) }
+    ensures code { IfOk result (λ code. IsCodeUnder (option_copied binding.entry) text.now
+        (option_map (λ name. name.now) task.entry) code.items) }
+    ensures stop { IfErr result (IsCodeStop (option_copied binding.entry) text.now
+        (option_map (λ name. name.now) task.entry)) }
 {
     let binding = binding_of(alloc, binding)?;
     code_of(alloc, &binding, text, task)
 }
 
 /// Prints the line of what stands against writing a code file.
-fn print_stop<W: Write + Drop>(alloc: Global, to: W, stop: Stop) -> io::Result<(W, ExitStatus)>
+fn print_stop<W: Write + Drop, E: Write>(
+    alloc: Global,
+    to: W,
+    complaints: &mut E,
+    stop: Stop,
+) -> io::Result<(W, ExitStatus)>
     ensures line { IfOk result (λ done. Appends (W.contents to) (W.contents done.0)
-        (ended (printed_stop stop))) }
+        (stop_text stop)) }
     ensures status { IfOk result (λ done. done.1 ≡ status_of_stop stop) }
 {
-    report::print(alloc, to, &Answer::Stopped(stop))
+    report::print(alloc, to, complaints, &Answer::Stopped(stop))
 }
 
 /// Writes the file at a path.

@@ -18,11 +18,15 @@
 #![tactic(auto)]
 
 mod beginning;
+mod brief;
 mod code_files;
+mod decoding;
 mod lived;
 mod living;
 mod looking;
 mod misuse;
+mod naming;
+mod objects;
 mod pages;
 mod paths;
 mod playing;
@@ -34,6 +38,7 @@ mod shell;
 mod shell_tools;
 mod telling;
 mod tools;
+mod unknown;
 mod wording;
 
 pub use beginning::{Beginning, KeptNote};

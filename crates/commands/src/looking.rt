@@ -5,6 +5,7 @@ use crate::pages::{Pages, read_pages};
 use crate::playing::start_watched;
 use crate::reading::Disk;
 use crate::serving::Unserved;
+use crate::unknown::write_unwatchable;
 use commandline::{LookOptions, PlayFiles};
 use exits::{ExitStatus, PlayStop};
 use picture::{Moment, Picture, write_svg, write_text};
@@ -15,7 +16,7 @@ use simbus::{Scenario, SimBus};
 use std::alloc::{AllocError, Global};
 use std::io;
 use std::io::{BufWriter, Write};
-use watching::{Watch, are_watchable, report_unwatchable};
+use watching::{Watch, are_watchable};
 
 /// The most events of a history that is looked at.
 const LIMIT: u32 = 100_000;
@@ -180,7 +181,7 @@ fn draw(
 /// What is reported of names that no variable has.
 fn unknown(alloc: Global, plant: &Plant, watches: &[&str]) -> io::Result<Vec<u8>> {
     let mut lines = Vec::new(alloc);
-    report_unwatchable(&mut lines, plant.setup().plan(), watches)?;
+    write_unwatchable(alloc, &mut lines, plant.setup().plan(), watches)?;
     Ok(lines)
 }
 

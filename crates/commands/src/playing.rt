@@ -6,19 +6,21 @@ ghost use Rattle.commands.specs.Plays.{IsPlayed, IsStarted, IsUnplayed, status_u
 ghost use Rattle.expectations.specs.Expected.{AreKnown};
 ghost use Rattle.watching.specs.Watched.{AreWatchable};
 
+use crate::brief::Brief;
 use crate::pages::{Pages, read_pages, scenario_of, setup_in};
 use crate::reading::Disk;
 use crate::serving::Unserved;
+use crate::unknown::{write_unknown, write_unwatchable};
 use commandline::{ExpectedWord, PlayFiles, PlayShows};
 use exits::{ExitStatus, PlayStop};
-use expectations::{are_known, are_met, report_unknown, report_unmet};
+use expectations::{are_known, are_met, report_unmet};
 use plantload::scans_are_as_meant;
 use plantplay::{FrameStyle, Installation, StartFault, open, play_watched, plays_are_by_scenario};
 use simbus::{Scenario, SimBus};
 use std::alloc::Global;
 use std::io;
 use std::io::{BufWriter, Write};
-use watching::{Watch, are_watchable, report_unwatchable};
+use watching::{Watch, are_watchable};
 
 /// What is asked of a play.
 #[derive(Clone, Copy)]
@@ -69,13 +71,32 @@ fn print<W: Write + Drop, E: Write>(
         IsPlayEnd pages.now limit shows.now.expects.items shows.now.watches.items done.1) }
 {
     let mut out = BufWriter::new(alloc, to)?;
+    let status = report_shown(alloc, &mut out, complaints, pages, limit, shows)?;
+    Ok((out.into_inner()?, status))
+}
+
+/// Writes what happens, in brief where that is asked for; how the program ends.
+fn report_shown<W: Write, E: Write>(
+    alloc: Global,
+    out: &mut W,
+    complaints: &mut E,
+    pages: &Pages,
+    limit: u32,
+    shows: &PlayShows,
+) -> io::Result<ExitStatus>
+    ensures { IfOk result
+        (IsPlayEnd pages.now limit shows.now.expects.items shows.now.watches.items) }
+{
     let style = style_of(shows);
     let asked = Asked {
         expected: shows.expects.as_slice(),
         watched: shows.watches.as_slice(),
     };
-    let status = report(alloc, &mut out, complaints, pages, limit, style, asked)?;
-    Ok((out.into_inner()?, status))
+    if !shows.is_brief {
+        return report(alloc, out, complaints, pages, limit, style, asked);
+    }
+    let mut brief = Brief::new(alloc, out);
+    report(alloc, &mut brief, complaints, pages, limit, style, asked)
 }
 
 /// How frames are written.
@@ -103,7 +124,7 @@ fn report<W: Write, E: Write>(
     match start_watched(alloc, pages, limit, asked.watched) {
         Ok((mut installation, scenario, watch)) => {
             if !knows(&installation, asked) {
-                report_names(complaints, &installation, asked);
+                report_names(alloc, complaints, &installation, asked);
                 return Ok(ExitStatus::Misused);
             }
             scans_are_as_meant();
@@ -144,10 +165,15 @@ fn has_watched(installation: &Installation<SimBus>, watched: &[&str]) -> bool
 }
 
 /// Reports the names that are asked for and that the text does not have.
-fn report_names<E: Write>(complaints: &mut E, installation: &Installation<SimBus>, asked: Asked) {
+fn report_names<E: Write>(
+    alloc: Global,
+    complaints: &mut E,
+    installation: &Installation<SimBus>,
+    asked: Asked,
+) {
     let plan = installation.plant().setup().plan();
-    let _told = report_unknown(complaints, plan, asked.expected);
-    let _told = report_unwatchable(complaints, plan, asked.watched);
+    let _told = write_unknown(alloc, complaints, plan, asked.expected);
+    let _told = write_unwatchable(alloc, complaints, plan, asked.watched);
 }
 
 /// How the program ends after a play that ended so by itself, by what is expected of what it left.

@@ -13,6 +13,9 @@ use std::rt::Files;
 /// long.
 const MOST_READ: u64 = limits::MOST_BYTES as u64 + 1;
 
+/// The path that standard input has as a file.
+const STANDARD_INPUT: &str = "/dev/stdin";
+
 /// Why a file wasn't read, or wasn't written.
 #[derive(Clone, Copy, PartialEq, Eq)]
 pub enum DiskFault {
@@ -69,8 +72,10 @@ impl<R: Files> Disk for HostDisk<'_, R> {
 
     ghost refuses = { λ _ _ _. ⊤ };
 
-    /// The first bytes of the file, at most one more than the greatest number.
+    /// The first bytes of the file, or with `-` of standard input, at most one more than the greatest
+    /// number.
     fn read(&self, alloc: Global, path: &str) -> Result<Vec<u8>, DiskFault> {
+        let path = if path == "-" { STANDARD_INPUT } else { path };
         match File::open(self.rt, path) {
             Ok(file) => bytes_of(alloc, file),
             Err(error) => Err(reason(error.kind())),
@@ -108,7 +113,7 @@ fn write_bytes<W: Write>(writer: &mut W, bytes: &[u8]) -> Result<(), DiskFault>
 }
 
 /// Why a file wasn't read or written, by the kind of the error.
-fn reason(kind: ErrorKind) -> DiskFault
+pub(crate) fn reason(kind: ErrorKind) -> DiskFault
     ensures memory { (result ≡ DiskFault.Memory) ↔ (kind ≡ ErrorKind.OutOfMemory) }
     ensures absent { (result ≡ DiskFault.Absent) ↔ (kind ≡ ErrorKind.NotFound) }
     ensures denied { (result ≡ DiskFault.Denied) ↔ (kind ≡ ErrorKind.PermissionDenied) }

@@ -3,9 +3,10 @@
 ghost use Rattle.std.specs.Prelude.{◌≡◌, ◌<◌, length, IfOk, OnOk};
 ghost use Rattle.std.specs.Io.KnownBytes.{Appends};
 ghost use Rattle.commands.specs.Reports.{first_lines, first_texts, requests_of_scan, status_of};
-ghost use Rattle.commands.specs.Reports.{printed_answer, scan_lines, task_line, variable_line};
+ghost use Rattle.commands.specs.Reports.{printed_answer, scan_lines, stop_text, task_line};
+ghost use Rattle.commands.specs.Reports.{variable_line};
 
-use answers::{Answer, Stepped, task_line};
+use answers::{Answer, Stepped, Stop, task_line};
 use exits::ExitStatus;
 use gearcmd::RequestLine;
 use ilcompile::Setup;
@@ -14,23 +15,32 @@ use std::io;
 use std::io::{BufWriter, Write};
 
 /// Prints the answer through a buffer, of which nothing is left behind; the writer, which then has
-/// every line, and how the program ends.
+/// every line, and how the program ends. `complaints` gets the line of a task that isn't there.
 ///
 /// # Errors
 ///
 /// The writer's, or that the allocator is out of memory.
-pub fn print<W: Write + Drop>(alloc: Global, to: W, answer: &Answer) -> io::Result<(W, ExitStatus)>
+pub fn print<W: Write + Drop, E: Write>(
+    alloc: Global,
+    to: W,
+    complaints: &mut E,
+    answer: &Answer,
+) -> io::Result<(W, ExitStatus)>
     ensures text { IfOk result
         (λ done. Appends (W.contents to) (W.contents done.0) (printed_answer answer.now)) }
     ensures status { IfOk result (λ done. done.1 ≡ status_of answer.now) }
 {
     let mut out = BufWriter::new(alloc, to)?;
-    let status = report(&mut out, answer)?;
+    let status = report(&mut out, complaints, answer)?;
     Ok((out.into_inner()?, status))
 }
 
 /// Writes the answer's lines; how the program ends.
-fn report<W: Write>(out: &mut W, answer: &Answer) -> io::Result<ExitStatus>
+fn report<W: Write, E: Write>(
+    out: &mut W,
+    complaints: &mut E,
+    answer: &Answer,
+) -> io::Result<ExitStatus>
     ensures text { OnOk result
         (Appends (W.contents out.old) (W.contents out.new) (printed_answer answer.now)) }
     ensures status { IfOk result (λ status. status ≡ status_of answer.now) }
@@ -46,8 +56,25 @@ fn report<W: Write>(out: &mut W, answer: &Answer) -> io::Result<ExitStatus>
             Ok(ExitStatus::Accepted)
         }
         Answer::Stopped(stop) => {
-            writeln!(out, "{stop}")?;
+            stopped(out, complaints, stop)?;
             Ok(ExitStatus::of_stop(stop))
+        }
+    }
+}
+
+/// Writes the line of what stands against a text; that of a task that isn't there goes to
+/// `complaints`.
+fn stopped<W: Write, E: Write>(out: &mut W, complaints: &mut E, stop: &Stop) -> io::Result<()>
+    ensures { OnOk result
+        (Appends (W.contents out.old) (W.contents out.new) (stop_text stop.now)) }
+{
+    match stop {
+        Stop::Memory => writeln!(out, "no memory"),
+        Stop::Binding(fault) => writeln!(out, "{fault}"),
+        Stop::Load(fault) => writeln!(out, "{fault}"),
+        Stop::NoTask(unknown) => {
+            let _told = writeln!(complaints, "{unknown}");
+            Ok(())
         }
     }
 }

@@ -36,15 +36,17 @@ impl From<io::Error> for Unserved<'_> {
 }
 
 /// Reads the files that the inquiry names, the binding before the text, and prints the answer;
-/// the writer, which then has every line, and how the program ends.
+/// the writer, which then has every line, and how the program ends. `complaints` gets the line of a
+/// task that isn't there.
 ///
 /// # Errors
 ///
 /// The first file that isn't read, or the writer's error.
-pub fn serve<'a, D: Disk, W: Write + Drop>(
+pub fn serve<'a, D: Disk, W: Write + Drop, E: Write>(
     alloc: Global,
     disk: &D,
     to: W,
+    complaints: &mut E,
     inquiry: Inquiry<'a>,
 ) -> Result<(W, ExitStatus), Unserved<'a>>
     ensures served { IfOk result (λ done. IsServed (D.gives disk.now) inquiry.entry
@@ -56,7 +58,7 @@ pub fn serve<'a, D: Disk, W: Write + Drop>(
     let binding = binding_at(alloc, disk, files.binding)?;
     let text = bytes_at(alloc, disk, files.text)?;
     let answer = respond(alloc, inquiry, binding.as_deref(), &text);
-    Ok(report::print(alloc, to, &answer)?)
+    Ok(report::print(alloc, to, complaints, &answer)?)
 }
 
 /// The bytes that the disk gives for the binding's path, where one is named.

@@ -72,7 +72,10 @@ where
                 Ok(()) => ExitStatus::Accepted,
                 Err(error) => not_printed(rt, &error),
             },
-            status => printed(rt, error.print(rt), status),
+            status => match commandline::said(rt.alloc(), &error) {
+                Ok(said) => printed(rt, eprint!(rt; "{said}"), status),
+                Err(_) => status,
+            },
         },
     }
 }
@@ -92,7 +95,7 @@ where
     let out = io::writer(rt);
     let mut complaints = Complaints { rt };
     let served = match invocation {
-        Invocation::Ask(inquiry) => serve(alloc, &disk, out, inquiry),
+        Invocation::Ask(inquiry) => serve(alloc, &disk, out, &mut complaints, inquiry),
         Invocation::Play {
             files,
             limit,
@@ -109,15 +112,19 @@ where
             options,
             watches,
         } => serve_look(alloc, &disk, out, rt, files, options, &watches),
-        Invocation::Tell { files, question } => serve_question(alloc, &disk, out, files, question),
-        Invocation::Code { files, task, to } => serve_code(alloc, &disk, out, files, task, to),
+        Invocation::Tell { files, question } => {
+            serve_question(alloc, &disk, out, &mut complaints, files, question)
+        }
+        Invocation::Code { files, task, to } => {
+            serve_code(alloc, &disk, out, &mut complaints, files, task, to)
+        }
         Invocation::CheckCode { path } => serve_check_code(alloc, &disk, out, path),
         Invocation::Live {
             files,
             lines,
             options,
         } => return run_building(rt, threads, site, files, &lines, &options),
-        Invocation::Frame { words } => serve_frames(alloc, out, &mut complaints, words),
+        Invocation::Frame { words } => serve_frames(rt, alloc, out, &mut complaints, words),
         Invocation::EventLine {
             binding,
             source,
@@ -311,7 +318,7 @@ pub(crate) fn not_printed<R: Print + Eprint>(rt: &R, error: &io::Error) -> ExitS
 }
 
 /// Reports that the allocator is out of memory.
-fn no_memory<R: Print + Eprint>(rt: &R) -> ExitStatus {
+pub(crate) fn no_memory<R: Print + Eprint>(rt: &R) -> ExitStatus {
     match println!(rt; "no memory") {
         Ok(()) => ExitStatus::Failed,
         Err(_) => no_output(rt),

@@ -1,16 +1,16 @@
 //! The commands at one line, over a runtime.
 
 use crate::living::{Halted, Notice};
+use crate::naming::request_in;
 use crate::reading::HostDisk;
 use crate::serving::Unserved;
-use crate::shell::{HostNotice, not_printed, not_served};
+use crate::shell::{HostNotice, no_memory, not_printed, not_served};
 use crate::tools::{ToolEnd, ToolLine, ask_once, blink, listen, probe, status_of_tool};
 use building::Site;
 use commandline::{GivenListenEnd, GivenRequest, LiveFiles};
 use commissioning::ListenEnd;
 use daliframe::ShortAddress;
 use exits::ExitStatus;
-use framewords::request_of;
 use liveclock::StopCondition;
 use observing::{Care, Storage};
 use std::io::Write;
@@ -188,15 +188,13 @@ where
     R: Files + Print + Eprint + AllocGlobal,
     S: Site,
 {
-    let GivenRequest {
-        request,
-        address,
-        value,
-        second_value,
-    } = words;
-    let Some(command) = request_of(request, address, value, second_value) else {
-        let _told = eprintln!(rt; "error: no block {request} takes these numbers");
-        return ExitStatus::Misused;
+    let command = match request_in(rt.alloc(), words) {
+        Ok(Ok(command)) => command,
+        Ok(Err(refusal)) => {
+            let _told = eprintln!(rt; "{refusal}");
+            return ExitStatus::Misused;
+        }
+        Err(_) => return no_memory(rt),
     };
     let mut out = io::writer(rt);
     let end = ask_once(rt.alloc(), site, &mut out, at, command);

@@ -1,15 +1,19 @@
 //! Telling what installers ask of a text: notes on it, its words, and what stands against it.
 
+use crate::objects::{write_explained, write_noted, write_sizes, write_stop, write_words};
 use crate::reading::Disk;
 use crate::serving::{Unserved, binding_at, bytes_at};
-use answers::{AskedName, Stop, binding_of, check};
+use answers::{Stop, UnknownTask, binding_of, check};
 use commandline::{Files, Question};
 use exits::{ExitStatus, PlayStop};
 use explaining::{AskedText, explain_binding, explain_load, explain_scenario};
 use ilcompile::Setup;
 use ilsource::Source;
-use listing::{Played, write_load, write_notes, write_played_notes, write_task};
+use listing::{
+    NOTE_NAMES, NotedFiles, NotesAsked, Played, is_note_name, write_load, write_notes, write_task,
+};
 use plantload::{LoadFault, source_and_plan};
+use simbus::Scenario;
 use std::alloc::Global;
 use std::io;
 use std::io::{BufWriter, Write};
@@ -17,72 +21,133 @@ use wordlines::Binding;
 
 /// What the files hold that a question is about.
 #[derive(Drop)]
-struct Sheets {
-    binding: Option<Vec<u8>>,
-    text: Vec<u8>,
-    scenario: Option<Vec<u8>>,
+pub(crate) struct Sheets {
+    pub(crate) binding: Option<Vec<u8>>,
+    pub(crate) text: Vec<u8>,
+    pub(crate) scenario: Option<Vec<u8>>,
+}
+
+/// What is asked of which files.
+#[derive(Clone, Copy)]
+pub(crate) struct AskedFiles<'a> {
+    pub(crate) files: Files<'a>,
+    pub(crate) question: Question<'a>,
+}
+
+impl<'a> AskedFiles<'a> {
+    /// The path of the scenario that is asked about.
+    pub(crate) fn scenario(self) -> Option<&'a str> {
+        match self.question {
+            Question::Faults { scenario, .. } => scenario,
+            _ => None,
+        }
+    }
+
+    /// How notes are written.
+    pub(crate) fn notes(self) -> NotesAsked<'a> {
+        let (denied, is_json) = match self.question {
+            Question::Notes { denied, is_json } => (denied, is_json),
+            Question::Faults { is_json, .. } => (None, is_json),
+            _ => (None, false),
+        };
+        let files = NotedFiles {
+            text: self.files.text,
+            scenario: self.scenario(),
+        };
+        NotesAsked {
+            files,
+            is_json,
+            denied,
+        }
+    }
 }
 
 /// Reads the files that are named, the binding before the text and that before a scenario, and
 /// prints what is asked of them; the writer, which then has all of it, and how the program ends.
-/// What is printed is by rows alone.
+/// `complaints` gets the line of a task or of notes that aren't there. What is printed is by rows
+/// alone.
 ///
 /// # Errors
 ///
 /// The first file that isn't read, or the writer's error.
-pub fn serve_question<'a, D: Disk, W: Write + Drop>(
+pub fn serve_question<'a, D: Disk, W: Write + Drop, E: Write>(
     alloc: Global,
     disk: &D,
     to: W,
+    complaints: &mut E,
     files: Files<'a>,
     question: Question<'a>,
 ) -> Result<(W, ExitStatus), Unserved<'a>> {
+    let asked = AskedFiles { files, question };
+    if let Some(name) = asked.notes().denied {
+        if !is_note_name(name) {
+            let _told = tell_unknown_notes(complaints, name);
+            return Ok((to, ExitStatus::Misused));
+        }
+    }
     let sheets = Sheets {
         binding: binding_at(alloc, disk, files.binding)?,
         text: bytes_at(alloc, disk, files.text)?,
-        scenario: binding_at(alloc, disk, scenario_of(question))?,
+        scenario: binding_at(alloc, disk, asked.scenario())?,
     };
-    Ok(print(alloc, to, files, &sheets, question)?)
+    Ok(print(alloc, to, complaints, asked, &sheets)?)
 }
 
-/// The path of the scenario that is asked about.
-fn scenario_of(question: Question<'_>) -> Option<&str> {
-    match question {
-        Question::Faults { scenario } => scenario,
-        _ => None,
+/// Writes that no notes have a name.
+fn tell_unknown_notes<E: Write>(complaints: &mut E, name: &str) -> io::Result<()> {
+    write!(complaints, "error: no note {name}: there are all")?;
+    for known in &NOTE_NAMES {
+        write!(complaints, ", {known}")?;
     }
+    writeln!(complaints)
 }
 
 /// Prints through a buffer, of which nothing is left behind.
-fn print<W: Write + Drop>(
+fn print<W: Write + Drop, E: Write>(
     alloc: Global,
     to: W,
-    files: Files,
+    complaints: &mut E,
+    asked: AskedFiles,
     sheets: &Sheets,
-    question: Question,
 ) -> io::Result<(W, ExitStatus)> {
     let mut out = BufWriter::new(alloc, to)?;
-    let status = report(alloc, &mut out, files, sheets, question)?;
+    let status = report(alloc, &mut out, complaints, asked, sheets)?;
     Ok((out.into_inner()?, status))
 }
 
 /// Writes what is asked for; how the program ends.
-fn report<W: Write>(
+fn report<W: Write, E: Write>(
     alloc: Global,
     out: &mut W,
-    files: Files,
+    complaints: &mut E,
+    asked: AskedFiles,
     sheets: &Sheets,
-    question: Question,
 ) -> io::Result<ExitStatus> {
-    match question {
-        Question::Faults { scenario } => explain(alloc, out, files, scenario, sheets),
-        Question::Notes => match noted_of(alloc, sheets) {
-            Ok((setup, source)) => tell_notes(alloc, out, &setup, &source),
-            Err(stop) => tell_stop(out, &stop),
+    match asked.question {
+        Question::Faults { is_json, .. } => {
+            if is_json {
+                write_explained(alloc, out, asked, sheets)
+            } else {
+                explain(alloc, out, asked, sheets)
+            }
+        }
+        Question::Notes { is_json, .. } => match noted_of(alloc, sheets) {
+            Ok((setup, source)) => {
+                if is_json {
+                    write_noted(alloc, out, &setup, &source, asked.notes())
+                } else {
+                    tell_notes(alloc, out, &setup, &source, asked.notes())
+                }
+            }
+            Err(stop) => tell_stop(out, &stop, is_json),
         },
-        Question::Words { task } => match setup_of(alloc, sheets) {
-            Ok(setup) => list(alloc, out, &setup, task),
-            Err(stop) => tell_stop(out, &stop),
+        Question::Words { task, is_json } => match setup_of(alloc, sheets) {
+            Ok(setup) => list(alloc, out, complaints, &setup, task, is_json),
+            Err(stop) => tell_stop(out, &stop, is_json),
+        },
+        Question::Sizes => match setup_of(alloc, sheets) {
+            Ok(setup) => write_sizes(out, &setup),
+            Err(stop) => tell_stop(out, &stop, true),
         },
     }
 }
@@ -123,9 +188,13 @@ fn load_with_source(
     Ok((setup, source))
 }
 
-/// Writes what stands against the text, as `check` does.
-fn tell_stop<W: Write>(out: &mut W, stop: &Stop) -> io::Result<ExitStatus> {
-    writeln!(out, "{stop}")?;
+/// Writes what stands against the text, as `check` does, or as JSON.
+fn tell_stop<W: Write>(out: &mut W, stop: &Stop, is_json: bool) -> io::Result<ExitStatus> {
+    if is_json {
+        write_stop(out, stop)?;
+    } else {
+        writeln!(out, "{stop}")?;
+    }
     Ok(ExitStatus::of_stop(stop))
 }
 
@@ -135,151 +204,203 @@ fn tell_notes<W: Write>(
     out: &mut W,
     setup: &Setup,
     source: &Source,
+    asked: NotesAsked,
 ) -> io::Result<ExitStatus> {
-    write_notes(alloc, out, setup, source)?;
-    Ok(ExitStatus::Accepted)
+    let is_denied = write_notes(alloc, out, setup, source, None, asked)?;
+    Ok(status_of_notes(is_denied))
+}
+
+/// How the program ends by whether a note is denied.
+pub(crate) fn status_of_notes(is_denied: bool) -> ExitStatus {
+    if is_denied {
+        ExitStatus::Refused
+    } else {
+        ExitStatus::Accepted
+    }
 }
 
 /// Writes the words of a task, or of all and what they ask of the buses.
-fn list<W: Write>(
+fn list<W: Write, E: Write>(
     alloc: Global,
     out: &mut W,
+    complaints: &mut E,
     setup: &Setup,
     task: Option<&str>,
+    is_json: bool,
 ) -> io::Result<ExitStatus> {
-    match task {
-        Some(name) => list_named(alloc, out, setup, name),
+    let one = match task {
+        Some(name) => match task_of(setup, name) {
+            Some(number) => Some(number),
+            None => {
+                let unknown = UnknownTask::of(alloc, setup.plan(), task)?;
+                let _told = writeln!(complaints, "{unknown}");
+                return Ok(ExitStatus::Misused);
+            }
+        },
+        None => None,
+    };
+    if is_json {
+        write_words(alloc, out, setup, one)?;
+        return Ok(ExitStatus::Accepted);
+    }
+    match one {
+        Some(number) => {
+            if number < setup.plan().tasks() {
+                write_task(alloc, out, setup, number)?;
+            }
+        }
         None => {
             for number in 0..setup.plan().tasks() {
                 write_task(alloc, out, setup, number)?;
             }
             write_load(alloc, out, setup)?;
+        }
+    }
+    Ok(ExitStatus::Accepted)
+}
+
+/// The number of the task of a name, in any letter case.
+fn task_of(setup: &Setup, name: &str) -> Option<usize> {
+    for number in 0..setup.plan().tasks() {
+        if setup.plan().task_name(number).eq_ignore_ascii_case(name) {
+            return Some(number);
+        }
+    }
+    None
+}
+
+/// Explains the first thing that stands against the files, or says that there is none and writes
+/// notes.
+fn explain<W: Write>(
+    alloc: Global,
+    out: &mut W,
+    asked: AskedFiles,
+    sheets: &Sheets,
+) -> io::Result<ExitStatus> {
+    let mut explanation = Vec::new(alloc);
+    match explain_files(alloc, &mut explanation, asked, sheets)? {
+        Explained::Refused(status) => {
+            out.write_all(&explanation)?;
+            Ok(status)
+        }
+        Explained::Accepted(accepted) => {
+            writeln!(out, "nothing stands against it")?;
+            let played = played_of(sheets, &accepted.scenario);
+            write_notes(
+                alloc,
+                out,
+                &accepted.setup,
+                &accepted.source,
+                played,
+                asked.notes(),
+            )?;
             Ok(ExitStatus::Accepted)
         }
     }
 }
 
-/// Writes the words of the task of a name.
-fn list_named<W: Write>(
-    alloc: Global,
-    out: &mut W,
-    setup: &Setup,
-    name: &str,
-) -> io::Result<ExitStatus> {
-    for number in 0..setup.plan().tasks() {
-        if setup.plan().task_name(number).eq_ignore_ascii_case(name) {
-            write_task(alloc, out, setup, number)?;
-            return Ok(ExitStatus::Accepted);
-        }
+/// The scenario with its bytes, where there is one.
+pub(crate) fn played_of<'a>(
+    sheets: &'a Sheets,
+    scenario: &'a Option<Scenario>,
+) -> Option<Played<'a>> {
+    match (&sheets.scenario, scenario) {
+        (Some(bytes), Some(scenario)) => Some(Played {
+            bytes: bytes.as_slice(),
+            scenario,
+        }),
+        _ => None,
     }
-    tell_stop(out, &Stop::NoTask(AskedName::of(alloc, name)?))
 }
 
-/// Explains the first thing that stands against the files, or says that there is none.
-fn explain<W: Write>(
+/// What is written of a text and a scenario against which nothing stands.
+#[derive(Drop)]
+pub(crate) struct AcceptedText {
+    pub(crate) setup: Setup,
+    pub(crate) source: Source,
+    pub(crate) scenario: Option<Scenario>,
+}
+
+/// Whether something stands against the files.
+#[derive(Drop)]
+pub(crate) enum Explained {
+    /// Something does, which was explained; the program ends so.
+    Refused(ExitStatus),
+    /// Nothing does.
+    Accepted(AcceptedText),
+}
+
+/// Explains the first thing that stands against the files, where there is one.
+pub(crate) fn explain_files<W: Write>(
     alloc: Global,
     out: &mut W,
-    files: Files,
-    scenario: Option<&str>,
+    asked: AskedFiles,
     sheets: &Sheets,
-) -> io::Result<ExitStatus> {
-    let (Some(bytes), Some(path)) = (&sheets.binding, files.binding) else {
+) -> io::Result<Explained> {
+    let (Some(bytes), Some(path)) = (&sheets.binding, asked.files.binding) else {
         let binding = Binding::one_bus(alloc);
-        let asked = asked(files, sheets, &binding, false);
-        return explain_text(alloc, out, &asked, scenario, sheets);
+        return explained_text(alloc, out, asked, sheets, &binding, false);
     };
     match Binding::parse(alloc, bytes) {
-        Ok(binding) => {
-            let asked = asked(files, sheets, &binding, true);
-            explain_text(alloc, out, &asked, scenario, sheets)
-        }
+        Ok(binding) => explained_text(alloc, out, asked, sheets, &binding, true),
         Err(fault) => {
             explain_binding(alloc, out, path, bytes, &fault)?;
-            Ok(ExitStatus::of_stop(&Stop::from(fault)))
+            Ok(Explained::Refused(ExitStatus::of_stop(&Stop::from(fault))))
         }
-    }
-}
-
-/// What is asked about.
-fn asked<'a>(
-    files: Files<'a>,
-    sheets: &'a Sheets,
-    binding: &'a Binding,
-    is_bound: bool,
-) -> AskedText<'a> {
-    AskedText {
-        path: files.text,
-        text: &sheets.text,
-        binding,
-        is_bound,
     }
 }
 
 /// Explains what stands against the text and the scenario.
-fn explain_text<W: Write>(
+fn explained_text<W: Write>(
     alloc: Global,
     out: &mut W,
-    asked: &AskedText,
-    scenario: Option<&str>,
+    asked: AskedFiles,
     sheets: &Sheets,
-) -> io::Result<ExitStatus> {
-    match load_with_source(alloc, asked.text, asked.binding) {
-        Ok((setup, source)) => match (&sheets.scenario, scenario) {
-            (Some(bytes), Some(path)) => explain_played(alloc, out, &setup, &source, path, bytes),
-            _ => explain_nothing(alloc, out, &setup, &source),
-        },
+    binding: &Binding,
+    is_bound: bool,
+) -> io::Result<Explained> {
+    match load_with_source(alloc, &sheets.text, binding) {
+        Ok((setup, source)) => explained_scenario(alloc, out, asked, sheets, setup, source),
         Err(fault) => {
-            explain_load(alloc, out, asked, &fault)?;
-            Ok(ExitStatus::of_stop(&Stop::from(fault)))
+            let text = AskedText {
+                path: asked.files.text,
+                text: &sheets.text,
+                binding,
+                is_bound,
+            };
+            explain_load(alloc, out, &text, &fault)?;
+            Ok(Explained::Refused(ExitStatus::of_stop(&Stop::from(fault))))
         }
     }
 }
 
-/// Explains what stands against the scenario of an accepted text.
-fn explain_played<W: Write>(
+/// Explains what stands against the scenario of an accepted text, where there is one.
+fn explained_scenario<W: Write>(
     alloc: Global,
     out: &mut W,
-    setup: &Setup,
-    source: &Source,
-    path: &str,
-    bytes: &[u8],
-) -> io::Result<ExitStatus> {
+    asked: AskedFiles,
+    sheets: &Sheets,
+    setup: Setup,
+    source: Source,
+) -> io::Result<Explained> {
+    let (Some(bytes), Some(path)) = (&sheets.scenario, asked.scenario()) else {
+        let scenario = None;
+        return Ok(Explained::Accepted(AcceptedText {
+            setup,
+            source,
+            scenario,
+        }));
+    };
     match simbus::parse(alloc, bytes) {
-        Ok(scenario) => {
-            let played = Played {
-                bytes,
-                scenario: &scenario,
-            };
-            explain_playable(alloc, out, setup, source, played)
-        }
+        Ok(scenario) => Ok(Explained::Accepted(AcceptedText {
+            setup,
+            source,
+            scenario: Some(scenario),
+        })),
         Err(fault) => {
             explain_scenario(alloc, out, path, bytes, &fault)?;
             let stop = PlayStop::from(fault);
-            Ok(stop.status())
+            Ok(Explained::Refused(stop.status()))
         }
     }
-}
-
-/// Says that nothing stands against the files, and writes the notes.
-fn explain_nothing<W: Write>(
-    alloc: Global,
-    out: &mut W,
-    setup: &Setup,
-    source: &Source,
-) -> io::Result<ExitStatus> {
-    writeln!(out, "nothing stands against it")?;
-    tell_notes(alloc, out, setup, source)
-}
-
-/// Says that nothing stands against the files, and writes the notes, also those on the scenario.
-fn explain_playable<W: Write>(
-    alloc: Global,
-    out: &mut W,
-    setup: &Setup,
-    source: &Source,
-    played: Played,
-) -> io::Result<ExitStatus> {
-    writeln!(out, "nothing stands against it")?;
-    write_played_notes(alloc, out, setup, source, played)?;
-    Ok(ExitStatus::Accepted)
 }

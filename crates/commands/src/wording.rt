@@ -1,5 +1,6 @@
 //! Frames in words, and the line of a scenario for an event.
 
+use crate::decoding::{STANDARD_INPUT, serve_log};
 use crate::reading::Disk;
 use crate::serving::{Unserved, bytes_at};
 use answers::{Stop, binding_of};
@@ -9,22 +10,29 @@ use exits::ExitStatus;
 use framewords::frame_of_event;
 use std::alloc::{AllocError, Global};
 use std::io::{BufWriter, Write};
+use std::rt::Files;
 use std::{fmt, io};
 use wordlines::{Binding, BoundSource, hex_of, number_of, parts_around_dot};
 
-/// Prints what frames say, a line each; the writer, which then has every line, and how the program
-/// ends. Where a word is no frame nothing is printed, and `complaints` gets a line for each such
-/// word. What is printed is by rows alone.
+/// Prints what frames say, a line each, or with `-` alone the lines of standard input with what their
+/// frames say; the writer, which then has every line, and how the program ends. Where a word is no
+/// frame nothing is printed, and `complaints` gets a line for each such word. What is printed is by
+/// rows alone.
 ///
 /// # Errors
 ///
-/// The writer's.
-pub(crate) fn serve_frames<'a, W: Write + Drop, E: Write>(
+/// Standard input isn't read, or the writer's error.
+pub(crate) fn serve_frames<'a, R: Files, W: Write + Drop, E: Write>(
+    rt: &R,
     alloc: Global,
     to: W,
     complaints: &mut E,
     given: GivenFrames<'a>,
 ) -> Result<(W, ExitStatus), Unserved<'a>> {
+    let second = given.others[0];
+    if given.first == STANDARD_INPUT && second.is_none() {
+        return serve_log(rt, alloc, to);
+    }
     Ok(print_frames(alloc, to, complaints, given)?)
 }
 
@@ -82,7 +90,7 @@ fn write_frames<W: Write>(to: &mut W, words: &[&str]) -> io::Result<()> {
 }
 
 /// The frame that four or six hexadecimal digits spell.
-fn frame_of(word: &str) -> Option<Frame> {
+pub(crate) fn frame_of(word: &str) -> Option<Frame> {
     match word.as_bytes() {
         [a, b, c, d] => {
             let number = hex_of(&[b'0', b'0', *a, *b, *c, *d])?;

@@ -1,5 +1,4 @@
 -- What is left of a survey that is broken off: silence at the questions that were not asked yet.
-use Rattle.std.specs.Prelude.{Result, Ok, Err, IfOk, IfErr}
 use Rattle.std.proofs.Common.{◌≡◌, ℕ, suc, ◌≤◌, ◌<◌, List, [], ◌++◌, Bool, true, false, MatchBool, refl, sym, subst}
 use Rattle.std.proofs.Common.{append-nil, append_assoc, eq-or-lt_of_le, inl, inr, ⊎_elim, arith}
 use Rattle.gearcmd.specs.declared.requests.Command.{Command}
@@ -13,7 +12,7 @@ use Rattle.commissioning.specs.declared.asking.Asked.{Asked}
 use Rattle.commissioning.specs.Asking.{AreAnswered, Begins, IsBrokenOff}
 use Rattle.commissioning.specs.Blinking.{Asks}
 use Rattle.commissioning.specs.Surveys.{AreParts, AreQueries, IsQuestion, IsSomeQuestion, IsQueryPart, IsGearPart}
-use Rattle.commissioning.specs.Surveys.{IsInstancePart, IsSomeInstancePart, IsDevicePart, IsSurvey, HasProbed}
+use Rattle.commissioning.specs.Surveys.{IsInstancePart, IsSomeInstancePart, IsDevicePart, IsSurvey}
 use Rattle.commissioning.specs.Surveys.{is_answer, is_surveyed}
 use Rattle.commissioning.proofs.Breaking.{EachHas, begins_whole, broken_as, broken_then, parts_begin}
 use Rattle.commissioning.proofs.Breaking.{silent, silent_question}
@@ -226,9 +225,3 @@ devices_of_survey_cut fault old middle new =
       all_gear = gear;
       all_devices = devices;
     }))
-
-pub has_probed : (r : Result (List Asked) AskFault) (old new : BusLog)
-    → IfOk r (λ survey. IsSurvey survey × AreAnswered survey old new)
-    → IfErr r (λ fault. IsBrokenOff IsSurvey fault old new) → HasProbed r old new
-has_probed (Ok survey) old new whole broken = whole
-has_probed (Err fault) old new whole broken = broken

@@ -1,5 +1,4 @@
 -- What gear is asked that blinks, one command after another.
-use Rattle.std.specs.Prelude.{Result, Ok, Err, IfOk, IfErr}
 use Rattle.std.proofs.Common.{◌≡◌, ℕ, suc, ◌+◌, ◌≤◌, ◌<◌, List, [], ◌∷◌, ◌++◌, refl, sym, ap}
 use Rattle.std.proofs.Common.{append_assoc, subst, arith}
 use Rattle.daliframe.specs.declared.addressing.Address.TheVariants.{Short}
@@ -15,7 +14,7 @@ use Rattle.commissioning.specs.declared.asking.Asked.{Asked}
 use Rattle.commissioning.specs.declared.blinking.Blinked.{Blinked}
 use Rattle.commissioning.specs.declared.blinking.Blinked.TheVariants.{Back, NoLevel}
 use Rattle.commissioning.specs.Asking.{IsBrokenOff, IsUnanswered}
-use Rattle.commissioning.specs.Blinking.{Asks, HasBlinked, IsBlink, IsFlash, IsLevel, IsOne, IsSomeBlink}
+use Rattle.commissioning.specs.Blinking.{Asks, IsBlink, IsFlash, IsLevel, IsOne, IsSomeBlink}
 use Rattle.commissioning.specs.Surveys.{AreParts, IsSomeQuestion}
 use Rattle.commissioning.proofs.Answering.{answered_append, answered_none, whole_none}
 use Rattle.commissioning.proofs.Breaking.{EachHas, begins_whole, broken_as, broken_one, broken_part, broken_then}
@@ -203,9 +202,3 @@ not_sent_back address level query answered fault old first second new is known a
       some.outcome,
       record { flashes = xs; last = ys; are = refl; three = three; sent_back = some.question.is },
     )) flashes (broken_one (GearLevel (Short address) level) fault second new unanswered))
-
-pub has_blinked : (address : ℕ) (r : Result Blinked AskFault) (old new : BusLog)
-    → IfOk r (λ blinked. Asks (IsBlink address blinked) old new)
-    → IfErr r (λ fault. IsBrokenOff (IsSomeBlink address) fault old new) → HasBlinked address r old new
-has_blinked address (Ok blinked) old new whole broken = whole
-has_blinked address (Err fault) old new whole broken = broken

@@ -4,3 +4,6 @@ mod Surveying
 mod Completing
 mod Flashing
 mod Hearing
+mod Finding
+mod Retrying
+mod Showing

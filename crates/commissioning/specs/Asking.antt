@@ -17,12 +17,16 @@ use Rattle.commissioning.specs.declared.asking.Asked.{Asked}
 abbrev pub transaction_of : Command → FrameList
 transaction_of command = record { frames = frames_of command; first_priority = class_of command Event }
 
--- the command was sent on the bus, with this report, and nothing else was sent or heard
-pub record IsAsked (command : Command) (report : ReportParts) (old new : BusLog) : Type 0 where
-  pub transaction : report.transaction ≡ transaction_of command
+-- these frames were sent on the bus as one transaction, with this report, and nothing else was sent or heard
+pub record IsSent (list : FrameList) (report : ReportParts) (old new : BusLog) : Type 0 where
+  pub transaction : report.transaction ≡ list
   pub tries : report.tries ≡ usual_tries
   pub legal : IsReportParts report
   pub bus : new ≡ after_report report new.spare old
+
+-- the command was sent on the bus, with this report, and nothing else was sent or heard
+abbrev pub IsAsked : Command → ReportParts → BusLog → BusLog → Type 0
+IsAsked command = IsSent (transaction_of command)
 
 -- .. and the interface didn't fail
 pub record IsAnswered (command : Command) (report : ReportParts) (old new : BusLog) : Type 0 where

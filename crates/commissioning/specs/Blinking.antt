@@ -11,6 +11,7 @@ use Rattle.commissioning.specs.declared.asking.AskFault.{AskFault}
 use Rattle.commissioning.specs.declared.asking.Asked.{Asked}
 use Rattle.commissioning.specs.declared.blinking.Blinked.{Blinked}
 use Rattle.commissioning.specs.declared.blinking.Blinked.TheVariants.{Back, NoLevel}
+use Rattle.commissioning.specs.declared.blinking.Shown.{Shown}
 use Rattle.commissioning.specs.Asking.{AreAnswered, IsBrokenOff}
 use Rattle.commissioning.specs.Surveys.{AreParts}
 
@@ -54,7 +55,19 @@ IsBlink address (NoLevel outcome) asked =
 abbrev pub IsSomeBlink : ℕ → List Asked → Type 0
 IsSomeBlink address asked = (blinked : Blinked) × IsBlink address blinked asked
 
+-- gear was asked for its status, and then it blinked or gave no level
+pub record IsShown (address : ℕ) (shown : Shown) (asked : List Asked) : Type 0 where
+  pub first : List Asked
+  pub rest : List Asked
+  pub is : asked ≡ first ++ rest
+  pub status_asked : IsOne (GearAsk address 0) shown.status first
+  pub blinked : IsBlink address shown.blinked rest
+
+-- .. whatever became of it
+abbrev pub IsSomeShown : ℕ → List Asked → Type 0
+IsSomeShown address asked = (shown : Shown) × IsShown address shown asked
+
 -- what letting gear blink has done that had this result
-abbrev pub HasBlinked : ℕ → Result Blinked AskFault → BusLog → BusLog → Type 0
-HasBlinked address (Ok blinked) old new = Asks (IsBlink address blinked) old new
-HasBlinked address (Err fault) old new = IsBrokenOff (IsSomeBlink address) fault old new
+abbrev pub HasBlinked : ℕ → Result Shown AskFault → BusLog → BusLog → Type 0
+HasBlinked address (Ok shown) old new = Asks (IsShown address shown) old new
+HasBlinked address (Err fault) old new = IsBrokenOff (IsSomeShown address) fault old new

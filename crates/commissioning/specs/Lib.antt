@@ -1,5 +1,8 @@
 pub mod Asking
 pub mod Blinking
 pub mod Listening
+pub mod Probing
 pub mod Serving
 pub mod Surveys
+pub mod Unaddressed
+pub mod UnaddressedSteps

@@ -21,9 +21,12 @@ is_answer (Done Lost) = false
 is_answer GaveUp = false
 is_answer Failed = false
 
--- of the queries of GEAR_ASK: the status, the actual, greatest and least level, the levels of the scenes, and the groups
+-- of the queries of GEAR_ASK: the status, the device type, the actual, greatest, least and power on level, the fade time,
+-- the levels of the scenes, and the groups
 abbrev pub is_surveyed : ℕ → Bool
-is_surveyed query = query == 0 || (nat_le 16 query && nat_le query 18) || (nat_le 25 query && nat_le query 42)
+is_surveyed query =
+    query == 0 || query == 9 || (nat_le 16 query && nat_le query 19) || query == 21
+    || (nat_le 25 query && nat_le query 42)
 
 -- one question, with its answer
 pub record IsQuestion (command : Command) (outcome : Outcome) (part : List Asked) : Type 0 where
@@ -95,11 +98,6 @@ pub record IsSurvey (asked : List Asked) : Type 0 where
   pub is : asked ≡ gear ++ devices
   pub all_gear : AreParts IsGearPart 64 gear
   pub all_devices : AreParts IsDevicePart 64 devices
-
--- what probing has done that had this result: all of a survey was asked and answered, or a beginning of one
-abbrev pub HasProbed : Result (List Asked) AskFault → BusLog → BusLog → Type 0
-HasProbed (Ok survey) old new = IsSurvey survey × AreAnswered survey old new
-HasProbed (Err fault) old new = IsBrokenOff IsSurvey fault old new
 
 -- behind what was asked before came what P says, and nothing else was sent
 pub record AsksMore (P : List Asked → Type 0) (before after : List Asked) (old new : BusLog) : Type 0 where

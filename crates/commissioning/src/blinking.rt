@@ -2,11 +2,13 @@
 
 ghost use Rattle.std.specs.Prelude.{◌≡◌, ◌<◌, ℕ, IfErr, IfOk, OnOk, MatchOption};
 ghost use Rattle.commissioning.specs.Asking.{IsBrokenOff, IsUnanswered};
-ghost use Rattle.commissioning.specs.Blinking.{Asks, IsBlink, IsFlash, IsLevel, IsOne, IsSomeBlink};
+ghost use Rattle.commissioning.specs.Blinking.{Asks, IsBlink, IsFlash, IsLevel, IsOne, IsShown};
+ghost use Rattle.commissioning.specs.Blinking.{IsSomeBlink, IsSomeShown};
 ghost use Rattle.commissioning.specs.Surveys.{AreParts};
 
 use crate::asking::{AskFault, ask};
 use crate::surveys::query;
+use crate::tables::STATUS;
 use buslink::Bus;
 use daliframe::{Address, ShortAddress};
 use gearcmd::{Command, GearDoCommand};
@@ -38,14 +40,40 @@ pub enum Blinked {
     NoLevel(Outcome),
 }
 
-/// Sends gear three times to its greatest level and off, with half a second at each, and then back to
-/// the level that it had before. Gear that doesn't give its level is sent nothing.
+/// What gear said and did that was to show where it is.
+#[derive(Clone, Copy, PartialEq, Eq)]
+pub struct Shown {
+    /// How the query for its status ended.
+    pub status: Outcome,
+    /// What became of its blinking.
+    pub blinked: Blinked,
+}
+
+/// Asks gear for its status, sends it three times to its greatest level and off, with half a second
+/// at each, and then back to the level that it had before. Gear that doesn't give its level is sent
+/// nothing more.
 ///
 /// # Errors
 ///
 /// The allocator is out of memory, or the interface failed at the last command; what was sent then
-/// is the beginning of a blink, and the gear may not be back at its level.
+/// is the beginning of this, and the gear may not be back at its level.
 pub fn blink<B: Bus, R: Timer>(
+    bus: &mut B,
+    address: ShortAddress,
+    timer: &R,
+) -> Result<Shown, AskFault>
+    ensures shown { IfOk result
+        (λ shown. Asks (IsShown address shown) (B.log bus.old) (B.log bus.new)) }
+    ensures fault { IfErr result
+        (λ fault. IsBrokenOff (IsSomeShown address) fault (B.log bus.old) (B.log bus.new)) }
+{
+    let status = outcome_of(bus, query(address, STATUS))?;
+    let blinked = flash_and_return(bus, address, timer)?;
+    Ok(Shown { status, blinked })
+}
+
+/// Lets gear blink and go back to the level that it had before.
+fn flash_and_return<B: Bus, R: Timer>(
     bus: &mut B,
     address: ShortAddress,
     timer: &R,

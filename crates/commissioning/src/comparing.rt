@@ -1,25 +1,18 @@
 //! What is there on a bus, beside what a text declares there.
 
+ghost use Rattle.std.specs.Prelude.{◌<◌};
+
 use crate::blinking::ACTUAL_LEVEL;
+use crate::declared::DeclaredBus;
 use crate::surveys::{Survey, instance_query, is_answer, query};
-use crate::tables::{INSTANCE_TYPE, PRESENT, answer_in};
-use daliframe::{EventScheme, InstanceNumber, ShortAddress};
+use crate::tables::{INSTANCE_TYPE, PRESENT, answer_in, groups_of};
+use daliframe::{InstanceNumber, ShortAddress};
 use gearcmd::Command;
-use ilplan::{Location, Plan};
-use iltypes::Value;
 use std::io;
 use std::io::Write;
 
-/// A bus of the plan of a text.
-#[derive(Clone, Copy)]
-pub struct DeclaredBus<'a> {
-    pub plan: &'a Plan,
-    /// The number of the bus.
-    pub bus: u8,
-}
-
-/// Writes what of a text is silent, what is there and isn't in the text, and each level that is
-/// another than the text first sends, a line each.
+/// Writes what of a text is silent, what is there and isn't in the text, each level that is another
+/// than the text first sends, and each group of the text in which no gear is, a line each.
 ///
 /// # Errors
 ///
@@ -33,6 +26,9 @@ pub fn write_differences<W: Write>(
         if let Some(address) = ShortAddress::new(number) {
             compare_gear(to, survey, declared, address)?;
         }
+    }
+    for group in 0..16 {
+        compare_group(to, survey, declared, group)?;
     }
     for number in 0..64 {
         if let Some(address) = ShortAddress::new(number) {
@@ -55,10 +51,51 @@ fn compare_gear<W: Write>(
         is_there(survey, query(address, PRESENT)),
     ) {
         (true, false) => writeln!(to, "gear {number} is declared and silent"),
+        (false, true) if is_in_declared_group(survey, declared, address) => Ok(()),
         (false, true) => writeln!(to, "gear {number} is there and not declared"),
         (true, true) => compare_level(to, survey, declared, address),
         (false, false) => Ok(()),
     }
+}
+
+/// Writes that a group of the text has no gear, where it has none.
+fn compare_group<W: Write>(
+    to: &mut W,
+    survey: &Survey,
+    declared: DeclaredBus,
+    group: u8,
+) -> io::Result<()>
+    requires { group < 16 }
+{
+    if declared.has_group(group) && !has_gear_in(survey, group) {
+        return writeln!(to, "group {group} is declared and empty");
+    }
+    Ok(())
+}
+
+/// Whether gear is in a group of the text.
+fn is_in_declared_group(survey: &Survey, declared: DeclaredBus, address: ShortAddress) -> bool {
+    let groups = groups_of(survey.asked(), address);
+    for group in 0..16 {
+        if groups >> group & 1 == 1 && declared.has_group(group) {
+            return true;
+        }
+    }
+    false
+}
+
+/// Whether there is gear in a group.
+fn has_gear_in(survey: &Survey, group: u8) -> bool
+    requires { group < 16 }
+{
+    for number in 0..64 {
+        if let Some(address) = ShortAddress::new(number) {
+            if groups_of(survey.asked(), address) >> group & 1 == 1 {
+                return true;
+            }
+        }
+    }
+    false
 }
 
 /// Writes where gear is at another level than the text first sends.
@@ -128,69 +165,4 @@ fn has_instance(survey: &Survey, address: ShortAddress, instance: u8) -> bool {
         Some(instance) => is_there(survey, instance_query(address, instance, INSTANCE_TYPE)),
         None => false,
     }
-}
-
-impl DeclaredBus<'_> {
-    /// Whether a variable is located at the level or the answer of this gear.
-    fn has_gear(self, address: u8) -> bool {
-        for number in 0..self.plan.globals() {
-            match self.plan.global(number).location {
-                Some(Location::Level { bus, address: at }) if bus == self.bus && at == address => {
-                    return true;
-                }
-                Some(Location::GearAnswer { bus, short }) if bus == self.bus && short == address =>
-                    {
-                        return true;
-                    }
-                _ => {}
-            }
-        }
-        false
-    }
-
-    /// The level that the text sends first to this gear, where it sends one.
-    fn first_level(self, address: u8) -> Option<u8> {
-        for number in 0..self.plan.globals() {
-            let global = self.plan.global(number);
-            match (global.location, global.initial) {
-                (Some(Location::Level { bus, address: at }), Value::Int(level))
-                    if bus == self.bus && at == address && level != 255 => {
-                    return u8::try_from(level).ok();
-                }
-                _ => {}
-            }
-        }
-        None
-    }
-
-    /// Whether a variable is located at the answer of this device, or the binding listens to it.
-    fn has_device(self, address: u8) -> bool {
-        for number in 0..self.plan.globals() {
-            match self.plan.global(number).location {
-                Some(Location::DeviceAnswer { bus, short })
-                    if bus == self.bus && short == address => {
-                    return true;
-                }
-                _ => {}
-            }
-        }
-        self.plan.sources().iter().any(|bound| {
-            bound.bus == self.bus && bound.source.a == address && is_of_device(bound.source.scheme)
-        })
-    }
-
-    /// Whether the binding listens to this instance of a device.
-    fn has_instance(self, address: u8, instance: u8) -> bool {
-        self.plan.sources().iter().any(|bound| {
-            bound.bus == self.bus
-                && bound.source.scheme == EventScheme::DeviceInstance
-                && bound.source.a == address
-                && bound.source.b == instance
-        })
-    }
-}
-
-/// Whether a source of this scheme names the short address of a device.
-fn is_of_device(scheme: EventScheme) -> bool {
-    matches!(scheme, EventScheme::Device | EventScheme::DeviceInstance)
 }

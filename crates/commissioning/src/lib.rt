@@ -2,9 +2,9 @@
 //! hear what comes, to let one lamp blink, and to ask one command.
 //!
 //! What crosses the boundary: a [`Bus`](buslink::Bus) and writers go in. What is sent are
-//! transactions, legal by their type: [`ask`] sends one, and all else asks by it. [`probe`] gives a
-//! [`Survey`], which is printed as a table, and [`write_differences`] compares it with the plan of a
-//! text. [`listen`] only hears. Each command has a function `serve_..` that writes what is to be
+//! transactions, legal by their type: [`ask`] sends one, and all else asks by it, but for
+//! [`ask_unaddressed`], which sends the one query to all gear. [`probe`] gives a [`Survey`], which goes
+//! to a [`Table`] as it comes, and [`write_differences`] compares it with the plan of a text. [`listen`] only hears. Each command has a function `serve_..` that writes what is to be
 //! read and tells how it was [`Served`]. The definition to read first is `IsAsked`
 //! (specs/Asking.antt), and then `IsSurvey` (specs/Surveys.antt), which questions a survey has.
 //!
@@ -17,15 +17,22 @@
 mod asking;
 mod blinking;
 mod comparing;
+mod declared;
 mod listening;
 mod places;
+mod probing;
 mod serving;
 mod surveys;
 mod tables;
+mod unaddressed;
 
 pub use asking::{AskFault, Asked, ask};
-pub use blinking::{Blinked, blink};
-pub use comparing::{DeclaredBus, write_differences};
+pub use blinking::{Blinked, Shown, blink};
+pub use comparing::write_differences;
+pub use declared::DeclaredBus;
 pub use listening::{ListenEnd, Silenced, listen};
+pub use probing::{Probed, probe};
 pub use serving::{Served, serve_ask, serve_blink, serve_listen, serve_probe};
-pub use surveys::{Survey, probe};
+pub use surveys::{Survey, make_survey};
+pub use tables::Table;
+pub use unaddressed::ask_unaddressed;

@@ -5,14 +5,17 @@ ghost use Rattle.transact.specs.Attempts.{most_sent};
 ghost use Rattle.commissioning.specs.Asking.{HasAsked};
 ghost use Rattle.commissioning.specs.Blinking.{HasBlinked};
 ghost use Rattle.commissioning.specs.Listening.{SendsNothing};
+ghost use Rattle.commissioning.specs.Probing.{HasProbed};
 ghost use Rattle.commissioning.specs.Serving.{IsServed, served_as, served_of};
-ghost use Rattle.commissioning.specs.Surveys.{HasProbed};
 
 use crate::asking::{AskFault, ask};
-use crate::blinking::{Blinked, blink};
-use crate::comparing::{DeclaredBus, write_differences};
+use crate::blinking::{Blinked, Shown, blink};
+use crate::comparing::write_differences;
+use crate::declared::DeclaredBus;
 use crate::listening::{ListenEnd, Silenced, listen};
-use crate::surveys::{Survey, probe};
+use crate::probing::{Probed, probe};
+use crate::surveys::is_answer;
+use crate::tables::{Table, answer_in};
 use bitflags::Flags;
 use buslink::Bus;
 use daliframe::{BusNumber, Frame, ShortAddress};
@@ -49,12 +52,12 @@ impl Served {
     }
 }
 
-/// Probes a bus, and writes which gear and which instances are there, as a table; and where a text
-/// is given, how they differ from what it declares.
+/// Probes a bus, and writes which gear and which instances are there, as rows of a table that are
+/// written as they come; and where a text is given, how they differ from what it declares.
 ///
 /// # Errors
 ///
-/// The writer failed.
+/// The writer failed. All of the bus was asked nevertheless.
 pub fn serve_probe<B: Bus, W: Write, P: Write>(
     alloc: Global,
     bus: &mut B,
@@ -64,28 +67,47 @@ pub fn serve_probe<B: Bus, W: Write, P: Write>(
 ) -> io::Result<Served>
     ensures { IsServed (λ probed. HasProbed probed (B.log bus.old) (B.log bus.new)) result }
 {
-    let surveyed = probe(alloc, bus, progress);
-    write_survey(to, &surveyed, declared)
+    let mut table = Table::new(to);
+    let probed = probe(alloc, bus, &mut table, progress);
+    let written = table.finish();
+    write_probed(to, &probed, written, declared)
 }
 
-/// Writes a survey, and how it differs from what a text declares.
-fn write_survey<W: Write>(
+/// Writes what is behind the rows of what was found: whether there is gear without a short address,
+/// and how it differs from what a text declares.
+fn write_probed<W: Write>(
     to: &mut W,
-    surveyed: &Result<Survey, AskFault>,
+    probed: &Result<Probed, AskFault>,
+    written: io::Result<()>,
     declared: Option<DeclaredBus>,
 ) -> io::Result<Served>
-    ensures { IfOk result (λ served. served ≡ served_as surveyed.now) }
+    ensures { IfOk result (λ served. served ≡ served_as probed.now) }
 {
-    match surveyed {
-        Ok(survey) => {
-            write!(to, "{survey}")?;
+    written?;
+    match probed {
+        Ok(probed) => {
+            write_unaddressed(to, probed.unaddressed)?;
             if let Some(declared) = declared {
-                write_differences(to, survey, declared)?;
+                write_differences(to, &probed.survey, declared)?;
             }
             Ok(Served::Done)
         }
         Err(fault) => write_fault(to, *fault),
     }
+}
+
+/// Writes that there is gear without a short address, or that this isn't known.
+fn write_unaddressed<W: Write>(to: &mut W, outcome: Outcome) -> io::Result<()> {
+    if is_answer(outcome) {
+        return writeln!(to, "there is gear without a short address");
+    }
+    if outcome == Outcome::GaveUp {
+        return writeln!(
+            to,
+            "whether there is gear without a short address is not known, since each frame was lost"
+        );
+    }
+    Ok(())
 }
 
 /// Writes why a command wasn't done.
@@ -142,36 +164,55 @@ pub fn serve_blink<B: Bus, W: Write, R: Timer>(
     ensures { IsServed
         (λ blinked. HasBlinked address blinked (B.log bus.old) (B.log bus.new)) result }
 {
-    let blinked = blink(bus, address, timer);
-    write_blinked(to, address, blinked)
+    let shown = blink(bus, address, timer);
+    write_shown(to, address, shown)
 }
 
 /// Writes what became of gear that was to blink.
-fn write_blinked<W: Write>(
+fn write_shown<W: Write>(
     to: &mut W,
     address: ShortAddress,
-    blinked: Result<Blinked, AskFault>,
+    shown: Result<Shown, AskFault>,
 ) -> io::Result<Served>
-    ensures { IfOk result (λ served. served ≡ served_as blinked) }
+    ensures { IfOk result (λ served. served ≡ served_as shown) }
 {
-    let gear = address.number();
-    match blinked {
-        Ok(Blinked::Back(level, Outcome::GaveUp)) => {
-            writeln!(to, "gear {gear} blinked, and its level {level} was lost")?;
-            Ok(Served::Done)
-        }
-        Ok(Blinked::Back(level, _)) => {
-            writeln!(
-                to,
-                "gear {gear} blinked, and was sent back to level {level}"
-            )?;
-            Ok(Served::Done)
-        }
-        Ok(Blinked::NoLevel(outcome)) => {
-            writeln!(to, "gear {gear} gives no level: {outcome}")?;
+    match shown {
+        Ok(Shown { status, blinked }) => {
+            write_lamp_failure(to, address, status)?;
+            write_blinked(to, address, blinked)?;
             Ok(Served::Done)
         }
         Err(fault) => write_fault(to, fault),
+    }
+}
+
+/// Writes that gear says that its lamp has failed, where it says so.
+fn write_lamp_failure<W: Write>(
+    to: &mut W,
+    address: ShortAddress,
+    status: Outcome,
+) -> io::Result<()> {
+    let gear = address.number();
+    match answer_in(Some(status)) {
+        Some(byte) if Status::from_bits_retain(byte).contains(Status::LAMP_FAILURE) => {
+            writeln!(to, "gear {gear} says lamp failure, and may stay dark")
+        }
+        _ => Ok(()),
+    }
+}
+
+/// Writes whether gear blinked, and to which level it was sent back.
+fn write_blinked<W: Write>(to: &mut W, address: ShortAddress, blinked: Blinked) -> io::Result<()> {
+    let gear = address.number();
+    match blinked {
+        Blinked::Back(level, Outcome::GaveUp) => {
+            writeln!(to, "gear {gear} blinked, and its level {level} was lost")
+        }
+        Blinked::Back(level, _) => writeln!(
+            to,
+            "gear {gear} blinked, and was sent back to level {level}"
+        ),
+        Blinked::NoLevel(outcome) => writeln!(to, "gear {gear} gives no level: {outcome}"),
     }
 }
 

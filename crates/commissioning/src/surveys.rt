@@ -10,6 +10,7 @@ ghost use Rattle.commissioning.specs.Surveys.{IsSomeInstancePart, IsSomeQuestion
 ghost use Rattle.commissioning.specs.Surveys.{is_answer, is_surveyed};
 
 use crate::asking::{AskFault, Asked, ask};
+use crate::tables::Table;
 use buslink::Bus;
 use daliframe::{InstanceNumber, ShortAddress};
 use gearcmd::{Command, DevAskCommand, GearAskCommand};
@@ -39,9 +40,24 @@ impl Survey {
         ensures { MatchOption result (All (λ a. ¬ (a.command ≡ command)) self.now)
             (λ outcome. Contains self.now (record { command = command; outcome = outcome })) }
     {
-        let found = asked_of(&self.asked, command)?;
-        Some(found.outcome)
+        outcome_in(&self.asked, command)
     }
+
+    /// What was asked, in order, and how each question ended.
+    pub(crate) fn asked(&self) -> &[Asked]
+        ensures { result.now ≡ self.now }
+    {
+        self.asked.as_slice()
+    }
+}
+
+/// How a command ended that was asked: the first of its kind.
+pub(crate) fn outcome_in(asked: &[Asked], command: Command) -> Option<Outcome>
+    ensures { MatchOption result (All (λ a. ¬ (a.command ≡ command)) asked.now)
+        (λ outcome. Contains asked.now (record { command = command; outcome = outcome })) }
+{
+    let found = asked_of(asked, command)?;
+    Some(found.outcome)
 }
 
 /// The first of these that asked this command.
@@ -53,16 +69,18 @@ fn asked_of(asked: &[Asked], command: Command) -> Option<&Asked>
 }
 
 /// Asks each short address of a bus whether gear is there, and gear that is there for its status,
-/// its levels, its groups and its scenes; and then each device for the type and the scheme of its
-/// instances, from 0 on until one is silent. How far it is goes to `progress`.
+/// its device type, its levels, its fade time, its groups and its scenes; and then each device for
+/// the type and the scheme of its instances, from 0 on until one is silent. What is there goes to
+/// the table at once, and how far it is to `progress`; whether they take it changes nothing.
 ///
 /// # Errors
 ///
 /// The allocator is out of memory, or the interface failed at the last question. What was asked
 /// then is the beginning of a survey.
-pub fn probe<B: Bus, P: Write>(
+pub fn make_survey<B: Bus, W: Write, P: Write>(
     alloc: Global,
     bus: &mut B,
+    table: &mut Table<W>,
     progress: &mut P,
 ) -> Result<Survey, AskFault>
     ensures survey { IfOk result (λ survey. IsSurvey survey
@@ -71,15 +89,16 @@ pub fn probe<B: Bus, P: Write>(
         (λ fault. IsBrokenOff IsSurvey fault (B.log bus.old) (B.log bus.new)) }
 {
     let mut asked = Vec::new(alloc);
-    ask_all_gear(bus, &mut asked, progress)?;
-    ask_all_devices(bus, &mut asked, progress)?;
+    ask_all_gear(bus, &mut asked, table, progress)?;
+    ask_all_devices(bus, &mut asked, table, progress)?;
     Ok(Survey { asked })
 }
 
 /// Asks the gear of each short address.
-fn ask_all_gear<B: Bus, P: Write>(
+fn ask_all_gear<B: Bus, W: Write, P: Write>(
     bus: &mut B,
     asked: &mut Vec<Asked>,
+    table: &mut Table<W>,
     progress: &mut P,
 ) -> Result<(), AskFault>
     ensures more { OnOk result (AsksMore (AreParts IsGearPart 64) asked.old.items asked.new.items
@@ -87,20 +106,23 @@ fn ask_all_gear<B: Bus, P: Write>(
     ensures fault { IfErr result
         (λ fault. IsBrokenOff (AreParts IsGearPart 64) fault (B.log bus.old) (B.log bus.new)) }
 {
+    table.begin_gear();
     for number in 0..64 {
         let Some(address) = ShortAddress::new(number) else {
             unreachable!()
         };
         tell_progress(progress, "gear", number);
         ask_gear(bus, address, asked)?;
+        table.add_gear(asked.as_slice(), address);
     }
     Ok(())
 }
 
 /// Asks the device of each short address.
-fn ask_all_devices<B: Bus, P: Write>(
+fn ask_all_devices<B: Bus, W: Write, P: Write>(
     bus: &mut B,
     asked: &mut Vec<Asked>,
+    table: &mut Table<W>,
     progress: &mut P,
 ) -> Result<(), AskFault>
     ensures more { OnOk result (AsksMore (AreParts IsDevicePart 64) asked.old.items asked.new.items
@@ -108,12 +130,14 @@ fn ask_all_devices<B: Bus, P: Write>(
     ensures fault { IfErr result
         (λ fault. IsBrokenOff (AreParts IsDevicePart 64) fault (B.log bus.old) (B.log bus.new)) }
 {
+    table.begin_devices();
     for number in 0..64 {
         let Some(address) = ShortAddress::new(number) else {
             unreachable!()
         };
         tell_progress(progress, "device", number);
         ask_device(bus, address, asked)?;
+        table.add_device(asked.as_slice(), address);
     }
     Ok(())
 }
@@ -144,7 +168,7 @@ fn ask_gear<B: Bus>(
     Ok(())
 }
 
-/// Asks gear for its status, its levels, its scenes and its groups.
+/// Asks gear for its status, its device type, its levels, its fade time, its scenes and its groups.
 fn ask_queries<B: Bus>(
     bus: &mut B,
     address: ShortAddress,
@@ -232,11 +256,12 @@ pub(crate) fn is_answer(outcome: Outcome) -> bool
     matches!(outcome, Outcome::Done(Reply::Answer(_) | Reply::Damaged))
 }
 
-/// Whether gear is asked this query: for its status, its levels, its scenes and its groups.
+/// Whether gear is asked this query: for its status, its device type, its levels, its fade time, its
+/// scenes and its groups.
 fn is_surveyed(number: u8) -> bool
     ensures { result ≡ is_surveyed number }
 {
-    matches!(number, 0 | 16..=18 | 25..=42)
+    matches!(number, 0 | 9 | 16..=19 | 21 | 25..=42)
 }
 
 /// A query to gear, 0 to 42 as GEAR_ASK has them.

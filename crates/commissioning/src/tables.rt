@@ -1,22 +1,31 @@
 //! A survey as a table: a row for each gear and each instance that is there.
 
+use crate::asking::Asked;
 use crate::blinking::ACTUAL_LEVEL;
-use crate::surveys::{Survey, instance_query, is_answer, query};
+use crate::surveys::{instance_query, is_answer, outcome_in, query};
 use bitflags::Flags;
 use daliframe::{EventScheme, InstanceNumber, ShortAddress};
 use framewords::{SchemeWords, StatusWords};
 use gearcmd::Status;
-use std::fmt;
+use std::io::Write;
+use std::{fmt, io};
 use transact::{Outcome, Reply};
 
 // The queries of GEAR_ASK.
-const STATUS: u8 = 0;
+pub(crate) const STATUS: u8 = 0;
 
 pub(crate) const PRESENT: u8 = 1;
+
+const DEVICE_TYPE: u8 = 9;
 
 const MAX_LEVEL: u8 = 17;
 
 const MIN_LEVEL: u8 = 18;
+
+const POWER_ON_LEVEL: u8 = 19;
+
+/// FADE TIME AND FADE RATE.
+const FADE_TIME: u8 = 21;
 
 const SCENE_0_LEVEL: u8 = 25;
 
@@ -32,45 +41,153 @@ const EVENT_SCHEME: u8 = 1;
 /// The level of a scene that gear is not in.
 const NO_SCENE: u8 = 255;
 
-impl fmt::Display for Survey {
+/// The level at power on of gear that goes back to the level that it had.
+const LEVEL_NAMES: &[(u8, &str)] = &[(255, "  last")];
+
+/// The device types of gear that has none, and of gear that has several.
+const TYPE_NAMES: &[(u8, &str)] = &[(254, "  none"), (255, "  many")];
+
+/// The fade times by their numbers, in seconds: each is the root of 2 times the one before it (IEC
+/// 62386-102, clause 9).
+const FADE_TIMES: &[&str] = &[
+    "  none", " 0.7 s", " 1.0 s", " 1.4 s", " 2.0 s", " 2.8 s", " 4.0 s", " 5.7 s", " 8.0 s",
+    "11.3 s", "16.0 s", "22.6 s", "32.0 s", "45.3 s", "64.0 s", "90.5 s",
+];
+
+/// The table of a survey, whose rows are written as they come. The writer's first failure is kept, and
+/// nothing is written behind it.
+#[derive(Drop)]
+pub struct Table<'a, W> {
+    to: &'a mut W,
+    written: io::Result<()>,
+}
+
+impl<'a, W: Write> Table<'a, W> {
+    /// A table of which nothing is written yet.
+    pub fn new(to: &'a mut W) -> Self {
+        let written = Ok(());
+        Table { to, written }
+    }
+
+    /// The end of the table.
+    ///
+    /// # Errors
+    ///
+    /// The writer's first failure.
+    pub fn finish(self) -> io::Result<()> {
+        let Table { to: _, written } = self;
+        written
+    }
+
+    /// Writes the head of the gear's rows.
+    pub(crate) fn begin_gear(&mut self) {
+        self.add_head(
+            "gear  level    min    max  power on   type   fade  status, groups and scenes",
+        );
+    }
+
+    /// Writes the head of the instances' rows.
+    pub(crate) fn begin_devices(&mut self) {
+        self.add_head("device  instance   type  scheme");
+    }
+
+    /// Writes the row of gear, where it is there.
+    pub(crate) fn add_gear(&mut self, asked: &[Asked], address: ShortAddress) {
+        self.add(&GearRow { asked, address });
+    }
+
+    /// Writes the rows of a device's instances that are there.
+    pub(crate) fn add_device(&mut self, asked: &[Asked], address: ShortAddress) {
+        self.add(&DeviceRows { asked, address });
+    }
+
+    /// Writes the head of rows.
+    fn add_head(&mut self, head: &str) {
+        if self.written.is_ok() {
+            self.written = writeln!(self.to, "{head}");
+        }
+    }
+
+    /// Writes rows, each with its line feed.
+    fn add<D: fmt::Display>(&mut self, rows: &D) {
+        if self.written.is_ok() {
+            self.written = write_rows(self.to, rows);
+        }
+    }
+}
+
+/// Writes rows, of which nothing is left in a buffer.
+fn write_rows<W: Write, D: fmt::Display>(to: &mut W, rows: &D) -> io::Result<()> {
+    write!(to, "{rows}")?;
+    to.flush()
+}
+
+/// The row of gear, or nothing where it is not there.
+#[derive(Clone, Copy)]
+struct GearRow<'a> {
+    asked: &'a [Asked],
+    address: ShortAddress,
+}
+
+impl fmt::Display for GearRow<'_> {
     fn fmt<W: fmt::Write>(&self, f: &mut fmt::Formatter<W>) -> fmt::Result {
-        writeln!(f, "gear  level    min    max  status, groups and scenes")?;
-        for number in 0..64 {
-            if let Some(address) = ShortAddress::new(number) {
-                write_gear(f, self, address)?;
-            }
-        }
-        writeln!(f, "device  instance   type  scheme")?;
-        for number in 0..64 {
-            if let Some(address) = ShortAddress::new(number) {
-                write_device(f, self, address)?;
-            }
-        }
-        Ok(())
+        write_gear(f, self.asked, self.address)
+    }
+}
+
+/// The rows of a device's instances that are there.
+#[derive(Clone, Copy)]
+struct DeviceRows<'a> {
+    asked: &'a [Asked],
+    address: ShortAddress,
+}
+
+impl fmt::Display for DeviceRows<'_> {
+    fn fmt<W: fmt::Write>(&self, f: &mut fmt::Formatter<W>) -> fmt::Result {
+        write_device(f, self.asked, self.address)
     }
 }
 
 /// Writes the row of gear, where it is there or each attempt to ask it was lost.
 fn write_gear<W: fmt::Write>(
     f: &mut fmt::Formatter<W>,
-    survey: &Survey,
+    asked: &[Asked],
     address: ShortAddress,
 ) -> fmt::Result {
     let number = address.number();
-    match survey.outcome(query(address, PRESENT)) {
+    match outcome_in(asked, query(address, PRESENT)) {
         Some(Outcome::GaveUp) => writeln!(f, "{number:>4}  not known, since each frame was lost"),
         Some(outcome) if is_answer(outcome) => {
-            let level = Cell(survey.outcome(query(address, ACTUAL_LEVEL)));
-            let min = Cell(survey.outcome(query(address, MIN_LEVEL)));
-            let max = Cell(survey.outcome(query(address, MAX_LEVEL)));
-            write!(f, "{number:>4} {level} {min} {max}  ")?;
-            write_status(f, survey.outcome(query(address, STATUS)))?;
-            write_groups(f, survey, address)?;
-            write_scenes(f, survey, address)?;
+            let level = Cell(outcome_in(asked, query(address, ACTUAL_LEVEL)));
+            let min = Cell(outcome_in(asked, query(address, MIN_LEVEL)));
+            let max = Cell(outcome_in(asked, query(address, MAX_LEVEL)));
+            write!(f, "{number:>4} {level} {min} {max}")?;
+            write_settings(f, asked, address)?;
+            write_status(f, outcome_in(asked, query(address, STATUS)))?;
+            write_groups(f, asked, address)?;
+            write_scenes(f, asked, address)?;
             writeln!(f)
         }
         _ => Ok(()),
     }
+}
+
+/// Writes the level at power on, the device type and the fade time of gear.
+fn write_settings<W: fmt::Write>(
+    f: &mut fmt::Formatter<W>,
+    asked: &[Asked],
+    address: ShortAddress,
+) -> fmt::Result {
+    let power_on = Named {
+        names: LEVEL_NAMES,
+        outcome: outcome_in(asked, query(address, POWER_ON_LEVEL)),
+    };
+    let kind = Named {
+        names: TYPE_NAMES,
+        outcome: outcome_in(asked, query(address, DEVICE_TYPE)),
+    };
+    let fade = FadeCell(outcome_in(asked, query(address, FADE_TIME)));
+    write!(f, "    {power_on} {kind} {fade}  ")
 }
 
 /// Writes what gear says of its status.
@@ -84,12 +201,10 @@ fn write_status<W: fmt::Write>(f: &mut fmt::Formatter<W>, outcome: Option<Outcom
 /// Writes the groups that gear is in, where there are some.
 fn write_groups<W: fmt::Write>(
     f: &mut fmt::Formatter<W>,
-    survey: &Survey,
+    asked: &[Asked],
     address: ShortAddress,
 ) -> fmt::Result {
-    let low = answer_in(survey.outcome(query(address, GROUPS_0_TO_7))).unwrap_or(0);
-    let high = answer_in(survey.outcome(query(address, GROUPS_8_TO_15))).unwrap_or(0);
-    let groups = u16::from_le_bytes([low, high]);
+    let groups = groups_of(asked, address);
     if groups == 0 {
         return Ok(());
     }
@@ -102,14 +217,21 @@ fn write_groups<W: fmt::Write>(
     Ok(())
 }
 
+/// The groups that gear is in, a bit each, group 0 first.
+pub(crate) fn groups_of(asked: &[Asked], address: ShortAddress) -> u16 {
+    let low = answer_in(outcome_in(asked, query(address, GROUPS_0_TO_7))).unwrap_or(0);
+    let high = answer_in(outcome_in(asked, query(address, GROUPS_8_TO_15))).unwrap_or(0);
+    u16::from_le_bytes([low, high])
+}
+
 /// Writes the scenes that gear is in, each with its level.
 fn write_scenes<W: fmt::Write>(
     f: &mut fmt::Formatter<W>,
-    survey: &Survey,
+    asked: &[Asked],
     address: ShortAddress,
 ) -> fmt::Result {
     for scene in 0..16u8 {
-        match answer_in(survey.outcome(query(address, SCENE_0_LEVEL + scene))) {
+        match answer_in(outcome_in(asked, query(address, SCENE_0_LEVEL + scene))) {
             None | Some(NO_SCENE) => {}
             Some(level) => write!(f, "; scene {scene} at {level}")?,
         }
@@ -120,12 +242,12 @@ fn write_scenes<W: fmt::Write>(
 /// Writes a row for each instance of a device that is there.
 fn write_device<W: fmt::Write>(
     f: &mut fmt::Formatter<W>,
-    survey: &Survey,
+    asked: &[Asked],
     address: ShortAddress,
 ) -> fmt::Result {
     for number in 0..32 {
         if let Some(instance) = InstanceNumber::new(number) {
-            write_instance(f, survey, address, instance)?;
+            write_instance(f, asked, address, instance)?;
         }
     }
     Ok(())
@@ -134,11 +256,11 @@ fn write_device<W: fmt::Write>(
 /// Writes the row of an instance, where it is there.
 fn write_instance<W: fmt::Write>(
     f: &mut fmt::Formatter<W>,
-    survey: &Survey,
+    asked: &[Asked],
     address: ShortAddress,
     instance: InstanceNumber,
 ) -> fmt::Result {
-    let kind = survey.outcome(instance_query(address, instance, INSTANCE_TYPE));
+    let kind = outcome_in(asked, instance_query(address, instance, INSTANCE_TYPE));
     if !kind.is_some_and(is_answer) {
         return Ok(());
     }
@@ -146,7 +268,7 @@ fn write_instance<W: fmt::Write>(
     let number = instance.number();
     let kind = Cell(kind);
     write!(f, "{device:>6}  {number:>8} {kind}  ")?;
-    let scheme = answer_in(survey.outcome(instance_query(address, instance, EVENT_SCHEME)));
+    let scheme = answer_in(outcome_in(asked, instance_query(address, instance, EVENT_SCHEME)));
     match scheme.and_then(EventScheme::new) {
         Some(scheme) => writeln!(f, "{}", SchemeWords(scheme)),
         None => writeln!(f, "not known"),
@@ -171,6 +293,42 @@ impl fmt::Display for Cell {
             Some(Outcome::Done(Reply::Answer(byte))) => write!(f, "{byte:>6}"),
             Some(Outcome::Done(Reply::Damaged)) => write!(f, "     ?"),
             _ => write!(f, "     -"),
+        }
+    }
+}
+
+/// An answer in a column of six, or its name where it has one.
+#[derive(Clone, Copy)]
+struct Named {
+    names: &'static [(u8, &'static str)],
+    outcome: Option<Outcome>,
+}
+
+impl fmt::Display for Named {
+    fn fmt<W: fmt::Write>(&self, f: &mut fmt::Formatter<W>) -> fmt::Result {
+        if let Some(byte) = answer_in(self.outcome) {
+            for &(named, name) in self.names {
+                if named == byte {
+                    return f.write_str(name);
+                }
+            }
+        }
+        write!(f, "{}", Cell(self.outcome))
+    }
+}
+
+/// The fade time in a column of six, of an answer that has it in its upper four bits.
+#[derive(Clone, Copy)]
+struct FadeCell(Option<Outcome>);
+
+impl fmt::Display for FadeCell {
+    fn fmt<W: fmt::Write>(&self, f: &mut fmt::Formatter<W>) -> fmt::Result {
+        match answer_in(self.0) {
+            Some(byte) => match FADE_TIMES.get(usize::from(byte >> 4)) {
+                Some(time) => f.write_str(time),
+                None => Ok(()),
+            },
+            None => write!(f, "{}", Cell(self.0)),
         }
     }
 }

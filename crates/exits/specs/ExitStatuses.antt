@@ -42,9 +42,10 @@ abbrev pub status_of_run : Ended → Bool → ExitStatus
 status_of_run Asked false = Accepted
 status_of_run ended is_down = Failed
 
--- of what stands against a text: out of memory, or something is at fault
+-- of what stands against a text: out of memory, or a task that isn't there, or something is at fault
 abbrev pub status_of_stop : Stop → ExitStatus
 status_of_stop stops.Memory = Failed
+status_of_stop (stops.NoTask asked) = Misused
 status_of_stop _ = Refused
 
 -- of what is answered to a code file: its code is accepted; or it is refused, or there is none; or out of memory

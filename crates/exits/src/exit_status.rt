@@ -73,7 +73,8 @@ impl ExitStatus {
     {
         match stop {
             Stop::Memory => ExitStatus::Failed,
-            _ => ExitStatus::Refused,
+            Stop::NoTask(_) => ExitStatus::Misused,
+            Stop::Binding(_) | Stop::Load(_) => ExitStatus::Refused,
         }
     }
 

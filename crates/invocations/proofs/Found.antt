@@ -8,7 +8,8 @@ use Rattle.clap.specs.Words.{ReadsOne, Text, all_of, first_of, first_value, matc
 use Rattle.clap.specs.Words.{raw_values, rows_of}
 use Rattle.clap.specs.declared.parser.matches.Found.{Found}
 use Rattle.clap.proofs.WalkLemmas.{first_value-rows, one_text-rows, raw_values-rows}
-use Rattle.invocations.specs.Invocations.{IsByte, IsFlag, IsGivenNumber, IsNumber, given}
+use Rattle.invocations.specs.Invocations.{IsByte, IsFlag, IsGivenNumber, IsNumber}
+use Rattle.invocations.specs.TextWords.{given}
 
 -- the text of an id
 pub text_found : (f : Found) (id : Text) (text : Option (Bor Text)) → option_map (λ s. s.now) text ≡ first_value f id

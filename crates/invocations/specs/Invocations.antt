@@ -6,6 +6,7 @@ use Rattle.std.specs.Str.Parse.{IsNumeral, digits_value, without_leading_plus}
 use Rattle.clap.specs.Words.{Row, Text, all_of, first_of, one_of}
 use Rattle.invocations.specs.ExpectedWords.{AreExpected, IsFirstUnexpected}
 use Rattle.invocations.specs.LineWords.{AreLines, ArePaths, IsFirstFault, IsNoPath}
+use Rattle.invocations.specs.TextWords.{AreCodeWords, AreTaskWords, IsBound, given, scenario_by}
 use Rattle.invocations.specs.WatchedNames.{AreWatched, IsSeventeenth}
 use Rattle.invocations.specs.declared.files.Files.{Files}
 use Rattle.invocations.specs.declared.files.LiveFiles.{LiveFiles}
@@ -26,17 +27,13 @@ use Rattle.invocations.specs.declared.expected_words.ExpectedWord.{ExpectedWord}
 use Rattle.invocations.specs.declared.line_words.LineWord.{LineWord}
 use Rattle.invocations.specs.declared.line_words.LineWordFault.{LineWordFault}
 use Rattle.invocations.specs.declared.questions.Question.{Question}
-use Rattle.invocations.specs.declared.questions.Question.TheVariants.{Faults, Notes, Words}
+use Rattle.invocations.specs.declared.questions.Question.TheVariants.{Faults, Notes, Sizes, Words}
 use Rattle.invocations.specs.declared.tools.GivenListenEnd.{GivenListenEnd}
 use Rattle.invocations.specs.declared.tools.GivenRequest.{GivenRequest}
 use Rattle.invocations.specs.declared.tools.Tool.{Tool}
 use Rattle.invocations.specs.declared.tools.Tool.TheVariants.{Blink, Listen, Probe, Request}
 use Rattle.invocations.specs.declared.word_fault.WordFault.{WordFault}
 use Rattle.invocations.specs.declared.word_fault.WordFault.TheVariants.{Expected, Line, Watched}
-
--- the text that was given, or none
-abbrev pub given : Option Text → Text
-given text = unwrap_or text []
 
 -- the path that was given, where one was
 abbrev pub IsGivenPath : Option Text → Option (Bor Text) → Type 0
@@ -69,31 +66,35 @@ abbrev pub IsFlag : Option Text → Bool → Type 0
 IsFlag None is = is ≡ false
 IsFlag (Some text) is = ((text ≡ codes "true") → is ≡ true) × ((text ≡ codes "false") → is ≡ false)
 
--- the files that are named
-pub record AreFiles (found : List Row) (files : Files) : Type 0 where
-  pub text : files.text.now ≡ given (first_of (codes "FILE") found)
-  pub binding : option_map (λ path. path.now) files.binding ≡ first_of (codes "bind") found
-
 -- the scans that are asked for: one, and 100 milliseconds from scan to scan, where nothing else is said
-pub record AreScans (found : List Row) (task : Bor Text) (scans every : ℕ) : Type 0 where
-  pub of_task : task.now ≡ given (first_of (codes "TASK") found)
+pub record AreScans (found : List Row) (scans every : ℕ) : Type 0 where
   pub many : IsNumber 1 (one_of (codes "scans") found) scans
   pub apart : IsNumber 100 (one_of (codes "every") found) every
 
 -- what was found under a command's name is the inquiry
 abbrev pub IsOfInquiry : Text → List Row → Inquiry → Type 0
 IsOfInquiry name found (Check files) =
-    (name ≡ codes "check") × IsFlag (one_of (codes "code") found) false × AreFiles found files
+    (name ≡ codes "check") × IsFlag (one_of (codes "code") found) false × IsFlag (one_of (codes "json") found) false
+    × IsBound found files
 IsOfInquiry name found (Step files task scans every) =
-    ¬ (name ≡ codes "check") × AreFiles found files × AreScans found task scans every
+    ¬ (name ≡ codes "check") × AreTaskWords found files task × AreScans found scans every
 
--- what was found under a command's name is the question
-abbrev pub IsQuestion : Text → List Row → Question → Type 0
-IsQuestion name found Notes = name ≡ codes "notes"
-IsQuestion name found (Words task) =
-    (name ≡ codes "list") × (option_map (λ t. t.now) task ≡ first_of (codes "TASK") found)
-IsQuestion name found (Faults scenario) =
-    (name ≡ codes "explain") × (option_map (λ s. s.now) scenario ≡ first_of (codes "SCENARIO") found)
+-- what was found under a command's name is the question about these files
+abbrev pub IsQuestion : Text → List Row → Files → Question → Type 0
+IsQuestion name found files (Notes denied is_json) =
+    (name ≡ codes "notes") × IsBound found files
+    × (option_map (λ note. note.now) denied ≡ first_of (codes "deny") found)
+    × IsFlag (one_of (codes "json") found) is_json
+IsQuestion name found files (Words task is_json) =
+    (name ≡ codes "list") × AreTaskWords found files task × IsFlag (one_of (codes "json") found) is_json
+IsQuestion name found files (Faults scenario is_json) =
+    (name ≡ codes "explain") × IsBound found files
+    × (option_map (λ path. path.now) scenario
+    ≡ scenario_by (first_of (codes "bind") found) (first_of (codes "BIND") found) (first_of (codes "SCENARIO") found))
+    × IsFlag (one_of (codes "json") found) is_json
+IsQuestion name found files Sizes =
+    (name ≡ codes "check") × IsFlag (one_of (codes "code") found) false × IsFlag (one_of (codes "json") found) true
+    × IsBound found files
 
 -- no question is asked under this name
 abbrev pub IsNoQuestion : Text → Type 0
@@ -113,10 +114,11 @@ expected_words found = unwrap_or (all_of (codes "expect") found) []
 abbrev pub watched_words : List Row → List Text
 watched_words found = unwrap_or (all_of (codes "watch") found) []
 
--- what a play shows beside what happens: whether frames are in words too, what is expected at its end, and the variables
--- whose changes are shown
+-- what a play shows beside what happens: whether frames are in words too, whether quiet moments are left out, what is
+-- expected at its end, and the variables whose changes are shown
 pub record AreShows (found : List Row) (shows : PlayShows) : Type 0 where
   pub names : IsFlag (one_of (codes "names") found) shows.names
+  pub is_brief : IsFlag (one_of (codes "brief") found) shows.is_brief
   pub expects : AreExpected (expected_words found) shows.expects.items
   pub watches : AreWatched (watched_words found) shows.watches.items
 
@@ -221,11 +223,6 @@ pub record AreRequestWords (found : List Row) (words : GivenRequest) : Type 0 wh
   pub value : IsGivenNumber (one_of (codes "VALUE") found) words.value
   pub second : IsGivenNumber (one_of (codes "VALUE2") found) words.second_value
 
--- the task whose code is asked for, and the path to which its code file goes
-pub record AreCodeWords (found : List Row) (task to : Bor Text) : Type 0 where
-  pub of_task : task.now ≡ given (first_of (codes "TASK") found)
-  pub out : to.now ≡ given (first_of (codes "OUT") found)
-
 -- the words for frames, one that is always given and up to three more
 pub record AreFrameWords (found : List Row) (words : GivenFrames) : Type 0 where
   pub first : words.first.now ≡ given (first_of (codes "HEX") found)
@@ -274,17 +271,15 @@ IsOfCommand name found (invocations.Tool tool) = IsOfTool name found tool
 IsOfCommand name found (Look files options watches) =
     (name ≡ codes "look") × AreLookFiles found files × AreLookOptions found options
     × AreWatched (watched_words found) watches.items
-IsOfCommand name found (Code files task to) =
-    (name ≡ codes "code") × AreFiles found files × AreCodeWords found task to
+IsOfCommand name found (Code files task to) = (name ≡ codes "code") × AreCodeWords found files task to
 IsOfCommand name found (CheckCode path) =
     (name ≡ codes "check") × IsFlag (one_of (codes "code") found) true
-    × (path.now ≡ given (first_of (codes "FILE") found))
+    × (path.now ≡ given (first_of (codes "TEXT") found))
 IsOfCommand name found (Frame words) = (name ≡ codes "frame") × AreFrameWords found words
 IsOfCommand name found (EventLine binding source information) =
     (name ≡ codes "event") × IsEventWords found binding source information
 IsOfCommand name found (Ask inquiry) = IsInquiryName name × IsOfInquiry name found inquiry
-IsOfCommand name found (Tell files question) =
-    IsTextName name × AreFiles found files × IsQuestion name found question
+IsOfCommand name found (Tell files question) = IsTextName name × IsQuestion name found files question
 
 -- what was found under the name of a command at one line has a word for the line that is at fault
 abbrev pub IsOfLineFault : Text → List Row → LineWordFault → Type 0

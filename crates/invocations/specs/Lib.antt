@@ -2,4 +2,5 @@ pub mod ExpectedWords
 pub mod Inquiries
 pub mod Invocations
 pub mod LineWords
+pub mod TextWords
 pub mod WatchedNames

@@ -5,14 +5,15 @@ use crate::files::Files;
 /// What the user asks of a text.
 #[derive(Clone, Copy)]
 pub enum Inquiry<'a> {
-    /// `check FILE [--bind FILE]`
+    /// `check TEXT [BIND]`
     Check {
         files: Files<'a>,
     },
-    /// `step FILE TASK [--bind FILE] [--scans N] [--every MS]`
+    /// `step TEXT [BIND] [TASK] [--scans N] [--every MS]`
     Step {
         files: Files<'a>,
-        task: &'a str,
+        /// The task's name; without one, the text has one task.
+        task: Option<&'a str>,
         scans: u32,
         every: u32,
     },

@@ -13,7 +13,8 @@ use crate::watched_names::WatchedNames;
 pub enum Invocation<'a> {
     /// An answer to a text.
     Ask(Inquiry<'a>),
-    /// `play TEXT BIND SCENARIO [--limit N] [--names] [--expect NAME=VALUE].. [--watch NAME]..`
+    /// `play TEXT BIND SCENARIO [--limit N] [--names] [--brief] [--expect NAME=VALUE]..
+    /// [--watch NAME]..`
     Play {
         files: PlayFiles<'a>,
         limit: u32,
@@ -47,13 +48,14 @@ pub enum Invocation<'a> {
         files: Files<'a>,
         question: Question<'a>,
     },
-    /// `code FILE TASK OUT [--bind FILE]`: the code file of the task of this name goes to this path.
+    /// `code TEXT [BIND] [TASK] OUT`: the code file of the task goes to this path.
     Code {
         files: Files<'a>,
-        task: &'a str,
+        /// The task's name; without one, the text has one task.
+        task: Option<&'a str>,
         to: &'a str,
     },
-    /// `check --code FILE`: whether the code of the code file at this path is accepted.
+    /// `check --code TEXT`: whether the code of the code file at this path is accepted.
     CheckCode {
         path: &'a str,
     },
@@ -129,6 +131,8 @@ impl Beside<'_> {
 pub struct PlayShows<'a> {
     /// Whether frames are in words too.
     pub names: bool,
+    /// Whether moments are left out at which nothing was heard, handed or changed, nor went wrong.
+    pub is_brief: bool,
     /// What is expected at the end.
     pub expects: ExpectedWords<'a>,
     /// The variables whose changes are shown.

@@ -25,6 +25,7 @@ mod line_words;
 mod questions;
 mod readers;
 mod shows;
+mod text_words;
 mod tools;
 mod watched_names;
 mod word_fault;
@@ -38,6 +39,7 @@ pub use invocations::{
 pub use line_words::{LineWord, LineWordFault, LineWords};
 pub use questions::{Question, word_in};
 pub use readers::invocation_of;
+pub use text_words::{CodeWords, code_words_in};
 pub use tools::{GivenListenEnd, GivenRequest, Tool};
 pub use watched_names::{MOST_WATCHED, WatchedFault, WatchedNames};
 pub use word_fault::WordFault;

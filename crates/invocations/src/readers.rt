@@ -2,19 +2,21 @@
 
 ghost use Rattle.std.specs.Prelude.{◌≡◌, MatchResult, codes};
 ghost use Rattle.clap.specs.Words.{first_of, found_of, one_of, rows_of};
-ghost use Rattle.invocations.specs.Invocations.{AreFiles, AreLiveFiles, AreLiveOptions};
+ghost use Rattle.invocations.specs.Invocations.{AreLiveFiles, AreLiveOptions};
 ghost use Rattle.invocations.specs.Invocations.{ArePlayFiles, IsBeside, IsFlag, IsGivenNumber};
 ghost use Rattle.invocations.specs.Invocations.{IsInquiryName, IsLineName, IsNumber, IsOfCommand};
-ghost use Rattle.invocations.specs.Invocations.{IsOfFault, IsPatience, IsRunSize, given, line_words};
+ghost use Rattle.invocations.specs.Invocations.{IsOfFault, IsPatience, IsRunSize, line_words};
+ghost use Rattle.invocations.specs.TextWords.{given};
 ghost use Rattle.invocations.specs.LineWords.{AreLines, IsFirstFault};
 
 use crate::at_line::at_line;
-use crate::files::{Files, LiveFiles, PlayFiles};
+use crate::files::{LiveFiles, PlayFiles};
 use crate::inquiries::Inquiry;
 use crate::invocations::{Beside, Invocation, LiveOptions, RunSize};
 use crate::line_words::{LineWordFault, LineWords, lines_of};
-use crate::questions::{question_of, word_in};
+use crate::questions::{Question, question_of, word_in};
 use crate::shows::{event_in, frame_words_in, look_in, play_in};
+use crate::text_words::{code_words_in, files_in, task_words_in};
 use crate::word_fault::WordFault;
 use arrayvec::ArrayVec;
 use clap::ArgMatches;
@@ -63,10 +65,11 @@ fn without_lists<'a>(name: &str, found: &ArgMatches<'a>) -> Invocation<'a>
         };
     }
     if name == "code" {
+        let words = code_words_in(found);
         return Invocation::Code {
-            files: files_in(found),
-            task: text_in(found, "TASK"),
-            to: text_in(found, "OUT"),
+            files: words.files,
+            task: words.task,
+            to: words.to,
         };
     }
     if name == "frame" {
@@ -78,10 +81,7 @@ fn without_lists<'a>(name: &str, found: &ArgMatches<'a>) -> Invocation<'a>
         return event_in(found);
     }
     match question_of(name, found) {
-        Some(question) => Invocation::Tell {
-            files: files_in(found),
-            question,
-        },
+        Some((files, question)) => Invocation::Tell { files, question },
         None => inquiry_of(name, found),
     }
 }
@@ -94,9 +94,10 @@ fn inquiry_of<'a>(name: &str, found: &ArgMatches<'a>) -> Invocation<'a>
     if name == "check" {
         return check_in(found);
     }
+    let words = task_words_in(found);
     Invocation::Ask(Inquiry::Step {
-        files: files_in(found),
-        task: text_in(found, "TASK"),
+        files: words.files,
+        task: words.task,
         scans: number_in(found, "scans", 1),
         every: number_in(found, "every", 100),
     })
@@ -108,12 +109,17 @@ fn check_in<'a>(found: &ArgMatches<'a>) -> Invocation<'a>
 {
     if flag_in(found, "code") {
         return Invocation::CheckCode {
-            path: text_in(found, "FILE"),
+            path: text_in(found, "TEXT"),
         };
     }
-    Invocation::Ask(Inquiry::Check {
-        files: files_in(found),
-    })
+    let files = files_in(found);
+    if flag_in(found, "json") {
+        return Invocation::Tell {
+            files,
+            question: Question::Sizes,
+        };
+    }
+    Invocation::Ask(Inquiry::Check { files })
 }
 
 /// What is asked by what was found under `live`.
@@ -184,16 +190,6 @@ fn beside_in<'a>(found: &ArgMatches<'a>) -> Beside<'a>
         status: word_in(found, "status"),
         is_json: flag_in(found, "json"),
         keep: word_in(found, "keep"),
-    }
-}
-
-/// The files that are named.
-fn files_in<'a>(found: &ArgMatches<'a>) -> Files<'a>
-    ensures { AreFiles (rows_of (found_of found.now)) result }
-{
-    Files {
-        text: text_in(found, "FILE"),
-        binding: found.get_str("bind"),
     }
 }
 

@@ -31,6 +31,7 @@ pub(crate) fn play_in<'a>(found: &ArgMatches<'a>) -> Result<Invocation<'a>, Word
         limit: number_in(found, "limit", 100_000),
         shows: PlayShows {
             names: flag_in(found, "names"),
+            is_brief: flag_in(found, "brief"),
             expects,
             watches,
         },

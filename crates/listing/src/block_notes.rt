@@ -4,12 +4,11 @@
 use crate::contents::Content;
 use crate::facts::{BlockUse, TaskFacts};
 use crate::names::{At, LineStarts, shown};
+use crate::note_lines::{NoteName, NotePlace, Notes};
 use ilblocks::BlockKind;
 use ilplan::{Activation, FunctionBlock, Plan};
 use indexmap::IndexMap;
-use std::alloc::Global;
-use std::io;
-use std::io::Write;
+use std::alloc::{AllocError, Global};
 
 /// The number of REQ among the ports of a block that sends.
 const REQUEST: usize = 0;
@@ -30,31 +29,31 @@ struct Instance<'a> {
     event_task: Option<&'a str>,
 }
 
-/// Writes the notes on block instances, once for each that is declared, whichever program instances
+/// Adds the notes on block instances, once for each that is declared, whichever program instances
 /// have it.
-pub(crate) fn write_block_notes<W: Write>(
+pub(crate) fn add_block_notes(
     alloc: Global,
-    out: &mut W,
+    notes: &mut Notes,
     plan: &Plan,
     lines: &LineStarts,
     facts: &[TaskFacts],
-) -> io::Result<()> {
+) -> Result<(), AllocError> {
     let mut told = IndexMap::new(alloc);
     for (task, of_task) in facts.iter().enumerate() {
-        write_notes_of(out, &mut told, plan, lines, task, of_task)?;
+        add_notes_of(notes, &mut told, plan, lines, task, of_task)?;
     }
     Ok(())
 }
 
-/// Writes the notes on the block instances of a task that were not told of.
-fn write_notes_of<W: Write>(
-    out: &mut W,
+/// Adds the notes on the block instances of a task that were not told of.
+fn add_notes_of(
+    notes: &mut Notes,
     told: &mut IndexMap<usize, bool>,
     plan: &Plan,
     lines: &LineStarts,
     task: usize,
     facts: &TaskFacts,
-) -> io::Result<()> {
+) -> Result<(), AllocError> {
     if task >= plan.tasks() {
         return Ok(());
     }
@@ -72,7 +71,7 @@ fn write_notes_of<W: Write>(
                 event_task,
             };
             if told.get(&block.name.from).is_none() {
-                let is_told = write_note(out, plan, lines, &instance)?;
+                let is_told = add_note(notes, plan, lines, &instance)?;
                 if is_told {
                     told.insert(block.name.from, true)?;
                 }
@@ -82,87 +81,102 @@ fn write_notes_of<W: Write>(
     Ok(())
 }
 
-/// Writes the note on a block instance, where there is one; whether there is.
-fn write_note<W: Write>(
-    out: &mut W,
+/// Adds the note on a block instance, where there is one; whether there is.
+fn add_note(
+    notes: &mut Notes,
     plan: &Plan,
     lines: &LineStarts,
     instance: &Instance,
-) -> io::Result<bool> {
+) -> Result<bool, AllocError> {
     let at = lines.at(instance.block.name);
     let name = shown(plan.text(), instance.block.name);
     if !instance.use_here.is_called {
-        write_uncalled(out, at, name, instance.use_here)?;
+        add_uncalled(notes, at, name, instance.use_here)?;
         return Ok(true);
     }
     match instance.block.kind {
-        BlockKind::Ton => write_timer(out, at, name, instance),
+        BlockKind::Ton => add_timer(notes, at, name, instance),
         BlockKind::RTrig | BlockKind::Ctu => Ok(false),
-        _ => write_once(out, at, name, instance),
+        _ => add_once(notes, at, name, instance),
     }
 }
 
-/// Writes the note on a block instance that is not called.
-fn write_uncalled<W: Write>(
-    out: &mut W,
+/// Adds the note on a block instance that is not called.
+fn add_uncalled(
+    notes: &mut Notes,
     at: At,
     name: ilplan::DeclaredName,
     use_here: BlockUse,
-) -> io::Result<()> {
+) -> Result<(), AllocError> {
     match (use_here.is_stored, use_here.is_read) {
-        (true, _) => writeln!(
-            out,
-            "note at {at}: {name} is never called: what is stored to it does nothing"
+        (true, _) => notes.add(
+            NoteName::NeverCalled,
+            NotePlace::At(at),
+            format!(in notes.alloc; "{name} is never called: what is stored to it does nothing")?,
         ),
-        (false, true) => writeln!(
-            out,
-            "note at {at}: {name} is never called: its outputs stay as they are at first"
+        (false, true) => notes.add(
+            NoteName::NeverCalled,
+            NotePlace::At(at),
+            format!(in notes.alloc;
+                "{name} is never called: its outputs stay as they are at first"
+            )?,
         ),
-        (false, false) => writeln!(out, "note at {at}: {name} is not used"),
+        (false, false) => notes.add(
+            NoteName::Unused,
+            NotePlace::At(at),
+            format!(in notes.alloc; "{name} is not used")?,
+        ),
     }
 }
 
-/// Writes the note on a timer, where there is one; whether there is.
-fn write_timer<W: Write>(
-    out: &mut W,
+/// Adds the note on a timer, where there is one; whether there is.
+fn add_timer(
+    notes: &mut Notes,
     at: At,
     name: ilplan::DeclaredName,
     instance: &Instance,
-) -> io::Result<bool> {
+) -> Result<bool, AllocError> {
     if let Some(task) = instance.event_task {
-        writeln!(
-            out,
-            "note at {at}: the timer {name} is in the event task {task}: no scan sees that its time \
+        notes.add(
+            NoteName::TimerInEventTask,
+            NotePlace::At(at),
+            format!(in notes.alloc;
+                "the timer {name} is in the event task {task}: no scan sees that its time \
              is over until the next event comes"
+            )?,
         )?;
         return Ok(true);
     }
     if instance.time == Content::Nothing {
-        writeln!(
-            out,
-            "note at {at}: the timer {name} is given no PT: its time is over at once"
+        notes.add(
+            NoteName::TimerWithoutTime,
+            NotePlace::At(at),
+            format!(in notes.alloc; "the timer {name} is given no PT: its time is over at once")?,
         )?;
         return Ok(true);
     }
     Ok(false)
 }
 
-/// Writes the note on a block whose REQ becomes TRUE once, where there is one; whether there is. A
+/// Adds the note on a block whose REQ becomes TRUE once, where there is one; whether there is. A
 /// setting that a cyclic task makes in its first scan is meant so.
-fn write_once<W: Write>(
-    out: &mut W,
+fn add_once(
+    notes: &mut Notes,
     at: At,
     name: ilplan::DeclaredName,
     instance: &Instance,
-) -> io::Result<bool> {
+) -> Result<bool, AllocError> {
     let is_first_scan = instance.event_task.is_none() && is_setting(instance.block.kind);
     if instance.request != Content::Only(1) || is_first_scan {
         return Ok(false);
     }
-    writeln!(
-        out,
-        "note at {at}: REQ of {name} is never FALSE again: it makes its request once, and then no \
+    notes.add(
+        NoteName::RequestOnce,
+        NotePlace::At(at),
+        format!(in notes.alloc;
+            "REQ of {name} is never FALSE again: it makes its request once, and then no \
          more"
+        )?,
     )?;
     Ok(true)
 }

@@ -5,8 +5,8 @@ use crate::stars::Share;
 use crate::task_names::TaskNames;
 use ilcode::{Code, Word};
 use ilverify::LongestWays;
-use std::io;
 use std::io::Write;
+use std::{fmt, io};
 
 /// Writes, where the code has functions, what makes the bound: how many words of a longest path are
 /// of the programs, and of each function that it goes through, and how often it does.
@@ -37,20 +37,25 @@ fn write_share<W: Write>(out: &mut W, names: &TaskNames, share: Share) -> io::Re
     }
     write!(out, " {words} in ")?;
     match body.checked_sub(1) {
-        Some(function) => write_function(out, names, function),
+        Some(function) => write!(out, "{}", FunctionName { names, function }),
         None => write!(out, "programs"),
     }
 }
 
-/// Writes the name of a function, or its number where it has none.
-pub(crate) fn write_function<W: Write>(
-    out: &mut W,
-    names: &TaskNames,
-    function: usize,
-) -> io::Result<()> {
-    match names.function(function) {
-        Some(name) => write!(out, "{name}"),
-        None => write!(out, "{function}"),
+/// The name of a function of a code, or its number where it has none.
+#[derive(Clone, Copy)]
+pub(crate) struct FunctionName<'a, 'n> {
+    pub names: &'a TaskNames<'n>,
+    pub function: usize,
+}
+
+impl fmt::Display for FunctionName<'_, '_> {
+    fn fmt<W: fmt::Write>(&self, f: &mut fmt::Formatter<W>) -> fmt::Result {
+        let function = self.function;
+        match self.names.function(function) {
+            Some(name) => write!(f, "{name}"),
+            None => write!(f, "{function}"),
+        }
     }
 }
 
@@ -69,9 +74,11 @@ pub(crate) fn write_functions_at<W: Write>(
             let end = names.code.end_of(number.saturating_add(1));
             let words = end.saturating_sub(start);
             let bound = words_in(names.code, ways, number);
-            write!(out, "function ")?;
-            write_function(out, names, number)?;
-            write!(out, " words {words} bound {bound}")?;
+            let name = FunctionName {
+                names,
+                function: number,
+            };
+            write!(out, "function {name} words {words} bound {bound}")?;
             write_callers(out, names, number)?;
             writeln!(out)?;
         }
@@ -100,7 +107,7 @@ impl Caller {
     /// Writes its name.
     pub fn write<W: Write>(self, out: &mut W, names: &TaskNames) -> io::Result<()> {
         match self {
-            Caller::Function(function) => write_function(out, names, function),
+            Caller::Function(function) => write!(out, "{}", FunctionName { names, function }),
             Caller::Instance(instance) => match names.instance(instance) {
                 Some(name) => write!(out, "{name}"),
                 None => write!(out, "program {instance}"),

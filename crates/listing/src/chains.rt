@@ -1,6 +1,6 @@
 //! Chains of calls: the one that makes a path long, and the deepest one.
 
-use crate::bodies::{Caller, write_function};
+use crate::bodies::{Caller, FunctionName};
 use crate::paths::{start_of, words_in};
 use crate::stars::{calls_on_longest, count_at};
 use crate::task_names::TaskNames;
@@ -95,8 +95,8 @@ fn write_call<W: Write>(
     let line = line_at(names.code, place);
     write!(out, "{line:>6} | ")?;
     Caller::at(names.code, place).write(out, names)?;
-    write!(out, " calls ")?;
-    write_function(out, names, function)
+    let called = FunctionName { names, function };
+    write!(out, " calls {called}")
 }
 
 /// Writes the longest chain of calls that begins with the call at a place, a line for each. It goes

@@ -4,35 +4,34 @@ ghost use Rattle.std.specs.Prelude.{◌<◌, length};
 
 use crate::facts::TaskFacts;
 use crate::names::{At, LineStarts, shown};
+use crate::note_lines::{NoteName, NotePlace, Notes};
 use crate::stars::count_at;
 use crate::uses::{Use, naming_tasks};
 use ilplan::{Activation, Location, Plan, SlotOwner};
 use iltypes::{IlType, Range};
-use std::alloc::Global;
-use std::io;
-use std::io::Write;
+use std::alloc::{AllocError, Global};
 
-/// Writes a note for each trigger that a task reads though another event starts it, or the clock.
-pub(crate) fn write_trigger_notes<W: Write>(
-    out: &mut W,
+/// Adds a note for each trigger that a task reads though another event starts it, or the clock.
+pub(crate) fn add_trigger_notes(
+    notes: &mut Notes,
     plan: &Plan,
     facts: &[TaskFacts],
-) -> io::Result<()> {
+) -> Result<(), AllocError> {
     for (task, of_task) in facts.iter().enumerate() {
         if task < plan.tasks() {
-            write_triggers_of(out, plan, task, &of_task.uses)?;
+            add_triggers_of(notes, plan, task, &of_task.uses)?;
         }
     }
     Ok(())
 }
 
-/// Writes a note for each trigger that this task reads and that does not start it.
-fn write_triggers_of<W: Write>(
-    out: &mut W,
+/// Adds a note for each trigger that this task reads and that does not start it.
+fn add_triggers_of(
+    notes: &mut Notes,
     plan: &Plan,
     task: usize,
     uses: &[Use],
-) -> io::Result<()>
+) -> Result<(), AllocError>
     requires { task < length plan.now.tasks }
 {
     let own = match plan.task(task).activation() {
@@ -46,7 +45,7 @@ fn write_triggers_of<W: Write>(
             uses.get(place),
         ) {
             if use_here.read > 0 && own != Some(number) && is_trigger(plan, number) {
-                write_trigger(out, plan, plan.task_name(task), number, use_here.read)?;
+                add_trigger(notes, plan, plan.task_name(task), number, use_here.read)?;
             }
         }
     }
@@ -59,40 +58,43 @@ fn is_trigger(plan: &Plan, number: usize) -> bool {
         && matches!(plan.global(number).location, Some(Location::Trigger { .. }))
 }
 
-/// Writes that a task reads a trigger that does not start it.
-fn write_trigger<W: Write>(
-    out: &mut W,
+/// Adds that a task reads a trigger that does not start it.
+fn add_trigger(
+    notes: &mut Notes,
     plan: &Plan,
     task: &str,
     number: usize,
     line: usize,
-) -> io::Result<()> {
+) -> Result<(), AllocError> {
     if number >= plan.globals() {
         return Ok(());
     }
     let name = plan.global_name(number);
-    writeln!(
-        out,
-        "note at {line}: {name} is always FALSE in the task {task}, which it does not start"
+    notes.add(
+        NoteName::ForeignTrigger,
+        NotePlace::Line(line),
+        format!(in notes.alloc;
+            "{name} is always FALSE in the task {task}, which it does not start"
+        )?,
     )
 }
 
-/// Writes a note for each global variable that is used to no end, for each level that no task
+/// Adds a note for each global variable that is used to no end, for each level that no task
 /// stores, and for each variable that is likely meant as a level.
-pub(crate) fn write_global_notes<W: Write>(
+pub(crate) fn add_global_notes(
     alloc: Global,
-    out: &mut W,
+    notes: &mut Notes,
     plan: &Plan,
     lines: &LineStarts,
     uses: &[Use],
-) -> io::Result<()> {
+) -> Result<(), AllocError> {
     let naming = naming_tasks(alloc, plan)?;
     for number in 0..plan.globals() {
         if let Some(use_here) = uses.get(number) {
             if is_unlocated_level(plan, number, *use_here, count_at(&naming, number)) {
-                write_unlocated(out, plan, lines, number)?;
+                add_unlocated(notes, plan, lines, number)?;
             } else {
-                write_global_note(out, plan, lines, number, *use_here)?;
+                add_global_note(notes, plan, lines, number, *use_here)?;
             }
         }
     }
@@ -111,32 +113,35 @@ fn is_unlocated_level(plan: &Plan, number: usize, use_here: Use, tasks: u32) -> 
     global.location.is_none() && global.value_type == LEVELS && use_here.stored && tasks == 1
 }
 
-/// Writes that a variable that is likely meant as a level has no address.
-fn write_unlocated<W: Write>(
-    out: &mut W,
+/// Adds that a variable that is likely meant as a level has no address.
+fn add_unlocated(
+    notes: &mut Notes,
     plan: &Plan,
     lines: &LineStarts,
     number: usize,
-) -> io::Result<()>
+) -> Result<(), AllocError>
     requires { number < length plan.now.globals }
 {
     let at = lines.at(plan.global(number).name);
     let name = plan.global_name(number);
-    writeln!(
-        out,
-        "note at {at}: {name} has the numbers of a level and no address: it is sent to no gear; a \
+    notes.add(
+        NoteName::LevelWithoutAddress,
+        NotePlace::At(at),
+        format!(in notes.alloc;
+            "{name} has the numbers of a level and no address: it is sent to no gear; a \
          level is declared as {name} AT %QB0.5"
+        )?,
     )
 }
 
-/// Writes the note on a global variable that is used so, where there is one.
-fn write_global_note<W: Write>(
-    out: &mut W,
+/// Adds the note on a global variable that is used so, where there is one.
+fn add_global_note(
+    notes: &mut Notes,
     plan: &Plan,
     lines: &LineStarts,
     number: usize,
     use_here: Use,
-) -> io::Result<()>
+) -> Result<(), AllocError>
     requires { number < length plan.now.globals }
 {
     let global = plan.global(number);
@@ -144,34 +149,48 @@ fn write_global_note<W: Write>(
     let name = shown(plan.text(), global.name);
     let first = global.initial;
     match (global.location, use_here.stored, use_here.read > 0) {
-        (Some(Location::Level { .. }), false, _) => writeln!(
-            out,
-            "note at {at}: no task stores the level {name}, which stays {first}"
+        (Some(Location::Level { .. }), false, _) => notes.add(
+            NoteName::LevelNeverStored,
+            NotePlace::At(at),
+            format!(in notes.alloc; "no task stores the level {name}, which stays {first}")?,
         ),
         (Some(Location::Trigger { .. }), _, _) => Ok(()),
         (Some(Location::Level { .. }), true, _) => Ok(()),
-        (Some(_), _, false) => writeln!(out, "note at {at}: {name} is never read"),
-        (None, stored, read) => write_use(out, at, name, (stored, read), first),
+        (Some(_), _, false) => notes.add(
+            NoteName::NeverRead,
+            NotePlace::At(at),
+            format!(in notes.alloc; "{name} is never read")?,
+        ),
+        (None, stored, read) => add_use_note(notes, at, name, (stored, read), first),
         _ => Ok(()),
     }
 }
 
-/// Writes the note on a variable without an address, by whether it is stored and whether it is
+/// Adds the note on a variable without an address, by whether it is stored and whether it is
 /// read, where there is one.
-pub(crate) fn write_use<W: Write>(
-    out: &mut W,
+pub(crate) fn add_use_note(
+    notes: &mut Notes,
     at: At,
     name: ilplan::DeclaredName,
     is: (bool, bool),
     first: iltypes::Value,
-) -> io::Result<()> {
+) -> Result<(), AllocError> {
     match is {
         (true, true) => Ok(()),
-        (true, false) => writeln!(out, "note at {at}: {name} is stored and never read"),
-        (false, true) => writeln!(
-            out,
-            "note at {at}: {name} is read and never stored, and stays {first}"
+        (true, false) => notes.add(
+            NoteName::NeverRead,
+            NotePlace::At(at),
+            format!(in notes.alloc; "{name} is stored and never read")?,
         ),
-        (false, false) => writeln!(out, "note at {at}: {name} is not used"),
+        (false, true) => notes.add(
+            NoteName::NeverStored,
+            NotePlace::At(at),
+            format!(in notes.alloc; "{name} is read and never stored, and stays {first}")?,
+        ),
+        (false, false) => notes.add(
+            NoteName::Unused,
+            NotePlace::At(at),
+            format!(in notes.alloc; "{name} is not used")?,
+        ),
     }
 }

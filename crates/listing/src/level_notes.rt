@@ -3,12 +3,12 @@
 use crate::facts::{BlockCall, TaskFacts};
 use crate::levels::{BROADCAST, Driven, FIRST_GROUP, Level, Levels};
 use crate::names::LineStarts;
+use crate::note_lines::{NoteName, NotePlace, Notes};
 use crate::stars::{all_unmarked, is_marked, mark};
 use ilblocks::BlockKind;
 use ilplan::{DeclaredName, Plan};
-use std::alloc::Global;
-use std::io;
-use std::io::Write;
+use std::alloc::{AllocError, Global};
+use std::fmt;
 
 /// What the notes on levels look at.
 #[derive(Clone, Copy)]
@@ -62,17 +62,17 @@ impl<'a> Driving<'a> {
     }
 }
 
-/// Writes a note for each line with a command to gear whose level a task stores.
-pub(crate) fn write_command_notes<W: Write>(
+/// Adds a note for each line with a command to gear whose level a task stores.
+pub(crate) fn add_command_notes(
     alloc: Global,
-    out: &mut W,
+    notes: &mut Notes,
     driving: &Driving,
     facts: &[TaskFacts],
-) -> io::Result<()> {
+) -> Result<(), AllocError> {
     let mut told = all_unmarked(alloc, driving.lines.count().saturating_add(1))?;
     for (task, of_task) in facts.iter().enumerate() {
         for call in &of_task.calls {
-            if !is_marked(&told, call.line) && write_command(out, driving, task, call)? {
+            if !is_marked(&told, call.line) && add_command(notes, driving, task, call)? {
                 mark(&mut told, call.line);
             }
         }
@@ -80,13 +80,13 @@ pub(crate) fn write_command_notes<W: Write>(
     Ok(())
 }
 
-/// Writes the note on a command, where there is one; whether there is.
-fn write_command<W: Write>(
-    out: &mut W,
+/// Adds the note on a command, where there is one; whether there is.
+fn add_command(
+    notes: &mut Notes,
     driving: &Driving,
     task: usize,
     call: &BlockCall,
-) -> io::Result<bool> {
+) -> Result<bool, AllocError> {
     let driven = match commanded(call) {
         Some(driven) => driven,
         None => return Ok(false),
@@ -95,7 +95,7 @@ fn write_command<W: Write>(
         if level.is_moved {
             return Ok(false);
         }
-        write_overruled(out, driving, task, call, driven, level, "whose level is")?;
+        add_overruled(notes, driving, task, call, driven, level, "whose level is")?;
         return Ok(true);
     }
     let other = match driving.covered(driven) {
@@ -104,7 +104,7 @@ fn write_command<W: Write>(
     };
     match other {
         Some(level) if !level.is_moved => {
-            write_overruled(out, driving, task, call, driven, level, "also that of")?;
+            add_overruled(notes, driving, task, call, driven, level, "also that of")?;
             Ok(true)
         }
         _ => Ok(false),
@@ -120,60 +120,68 @@ fn commanded(call: &BlockCall) -> Option<Driven> {
     }
 }
 
-/// Writes that a command goes to gear whose level is a variable.
-fn write_overruled<W: Write>(
-    out: &mut W,
+/// Adds that a command goes to gear whose level is a variable.
+fn add_overruled(
+    notes: &mut Notes,
     driving: &Driving,
     task: usize,
     call: &BlockCall,
     driven: Driven,
     level: Level,
     how: &str,
-) -> io::Result<()> {
+) -> Result<(), AllocError> {
     let line = call.line;
     let name = driving.name(level);
-    write!(out, "note at {line}: ")?;
-    write_block(out, driving.plan, task, call.block)?;
-    writeln!(
-        out,
-        " commands {driven}, {how} {name}; {name} keeps its value, and is sent again only once that \
-         changes"
-    )
+    let block = BlockName {
+        plan: driving.plan,
+        task,
+        block: call.block,
+    };
+    let message = format!(in notes.alloc;
+        "{block} commands {driven}, {how} {name}; {name} keeps its value, and is sent again only \
+         once that changes"
+    )?;
+    notes.add(NoteName::CommandBesideLevel, NotePlace::Line(line), message)
 }
 
-/// Writes the name of a block instance.
-pub(crate) fn write_block<W: Write>(
-    out: &mut W,
-    plan: &Plan,
-    task: usize,
-    block: usize,
-) -> io::Result<()> {
-    if task >= plan.tasks() {
-        return Ok(());
-    }
-    match plan.task(task).blocks().get(block) {
-        Some(found) => {
-            let bytes = found.name.text(plan.text());
-            write!(out, "{}", DeclaredName { bytes })
+/// The name of a block instance of a task.
+#[derive(Clone, Copy)]
+pub(crate) struct BlockName<'a> {
+    pub plan: &'a Plan,
+    pub task: usize,
+    pub block: usize,
+}
+
+impl fmt::Display for BlockName<'_> {
+    fn fmt<W: fmt::Write>(&self, f: &mut fmt::Formatter<W>) -> fmt::Result {
+        if self.task >= self.plan.tasks() {
+            return Ok(());
         }
-        None => Ok(()),
+        match self.plan.task(self.task).blocks().get(self.block) {
+            Some(found) => {
+                let bytes = found.name.text(self.plan.text());
+                let name = DeclaredName { bytes };
+                write!(f, "{name}")
+            }
+            None => Ok(()),
+        }
     }
 }
 
-/// Writes a note for each level whose gear a level of more gear drives as well.
-pub(crate) fn write_covered_levels<W: Write>(out: &mut W, driving: &Driving) -> io::Result<()> {
+/// Adds a note for each level whose gear a level of more gear drives as well.
+pub(crate) fn add_covered_levels(notes: &mut Notes, driving: &Driving) -> Result<(), AllocError> {
     for bus in 0..driving.plan.buses() {
         for address in 0..BROADCAST {
             if let Some(level) = driving.levels.get(Driven { bus, address }) {
-                write_covered(out, driving, level)?;
+                add_covered(notes, driving, level)?;
             }
         }
     }
     Ok(())
 }
 
-/// Writes the note on a level whose gear another level drives as well, where there is one.
-fn write_covered<W: Write>(out: &mut W, driving: &Driving, level: Level) -> io::Result<()> {
+/// Adds the note on a level whose gear another level drives as well, where there is one.
+fn add_covered(notes: &mut Notes, driving: &Driving, level: Level) -> Result<(), AllocError> {
     let other = match driving.covering(level.driven) {
         Some(other) => other,
         None => return Ok(()),
@@ -185,9 +193,12 @@ fn write_covered<W: Write>(out: &mut W, driving: &Driving, level: Level) -> io::
     let name = driving.name(level);
     let by = driving.name(other);
     let driven = other.driven;
-    writeln!(
-        out,
-        "note at {at}: {name} is also driven by {by}, the level of {driven}; neither follows the \
+    notes.add(
+        NoteName::LevelsOverlap,
+        NotePlace::At(at),
+        format!(in notes.alloc;
+            "{name} is also driven by {by}, the level of {driven}; neither follows the \
          other, and the gear has what was sent last"
+        )?,
     )
 }

@@ -11,7 +11,7 @@
 //!
 //! ```text
 //! write_task(alloc, &mut out, &setup, 0)?;
-//! write_notes(alloc, &mut out, &setup, &source)?;
+//! write_notes(alloc, &mut out, &setup, &source, None, asked)?;
 //! ```
 #![tactic(auto)]
 
@@ -27,6 +27,7 @@ mod level_notes;
 mod levels;
 mod load;
 mod names;
+mod note_lines;
 mod noted;
 mod notes;
 mod number_notes;
@@ -34,6 +35,7 @@ mod pace_notes;
 mod paths;
 mod programs;
 mod question_notes;
+mod quoted;
 mod scenario_notes;
 mod source_notes;
 mod spelling;
@@ -47,7 +49,9 @@ mod words;
 pub use chains::{write_deepest_calls, write_longest_calls};
 pub use knowing::KnownText;
 pub use load::write_load;
-pub use notes::{write_notes, write_played_notes};
+pub use note_lines::{NOTE_NAMES, NoteName, NotedFiles, is_note_name};
+pub use notes::{NotesAsked, write_notes};
+pub use quoted::Quoted;
 pub use scenario_notes::Played;
 pub use table::write_task;
 pub use task_names::{TaskNames, functions_in};

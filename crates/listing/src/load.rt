@@ -4,6 +4,7 @@
 use crate::contents::Content;
 use crate::facts::{BlockCall, TaskFacts, facts_of};
 use crate::levels::level_of;
+use crate::note_lines::{NoteName, NotePlace, Notes};
 use crate::paths::most_on_paths;
 use crate::stars::all_unused;
 use ilblocks::BlockKind;
@@ -46,21 +47,24 @@ pub fn write_load<W: Write>(alloc: Global, out: &mut W, setup: &Setup) -> io::Re
     Ok(())
 }
 
-/// Writes a note for each bus that the cyclic tasks may ask for more frames than it carries.
-pub(crate) fn write_load_notes<W: Write>(
+/// Adds a note for each bus that the cyclic tasks may ask for more frames than it carries.
+pub(crate) fn add_load_notes(
     alloc: Global,
-    out: &mut W,
+    notes: &mut Notes,
     setup: &Setup,
     facts: &[TaskFacts],
-) -> io::Result<()> {
+) -> Result<(), AllocError> {
     for bus in 0..setup.plan().buses() {
         let frames = frames_on(alloc, setup, facts, bus)?;
         let rate = rate_of(setup.plan(), &frames);
         if rate.tenths > FRAMES_A_SECOND.saturating_mul(10) {
-            writeln!(
-                out,
-                "note: the cyclic tasks may ask bus {bus} for {rate} frames a second; it carries some \
+            notes.add(
+                NoteName::BusLoad,
+                NotePlace::Whole,
+                format!(in notes.alloc;
+                    "the cyclic tasks may ask bus {bus} for {rate} frames a second; it carries some \
                  {FRAMES_A_SECOND}"
+                )?,
             )?;
         }
     }

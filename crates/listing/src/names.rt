@@ -60,6 +60,18 @@ impl LineStarts {
     }
 }
 
+impl At {
+    /// The line, counted from 1.
+    pub fn line(self) -> usize {
+        self.place.line
+    }
+
+    /// The column, counted from 1.
+    pub fn column(self) -> usize {
+        self.place.col
+    }
+}
+
 impl fmt::Display for At {
     fn fmt<W: fmt::Write>(&self, f: &mut fmt::Formatter<W>) -> fmt::Result {
         let line = self.place.line;

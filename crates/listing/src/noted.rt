@@ -3,8 +3,9 @@
 ghost use Rattle.std.specs.Prelude.{◌<◌, length};
 
 use crate::facts::TaskFacts;
-use crate::globals::write_use;
+use crate::globals::add_use_note;
 use crate::names::{LineStarts, shown};
+use crate::note_lines::{NoteName, NotePlace, Notes};
 use crate::stars::is_marked;
 use crate::task_names::name_in;
 use crate::uses::Use;
@@ -13,8 +14,6 @@ use ilsource::{Line, Name, Operand, Purpose};
 use iltypes::Value;
 use indexmap::IndexMap;
 use std::alloc::{AllocError, Global};
-use std::io;
-use std::io::Write;
 
 /// What a variable is, with its first value where it has one.
 #[derive(Clone, Copy)]
@@ -54,16 +53,16 @@ impl Noted {
     }
 }
 
-/// Writes a note for each variable that is used to no end, once where several instances have it:
+/// Adds a note for each variable that is used to no end, once where several instances have it:
 /// first those of the functions that a task uses, in declared order, then those of programs.
-pub(crate) fn write_own_notes<W: Write>(
+pub(crate) fn add_own_notes(
     alloc: Global,
-    out: &mut W,
+    notes: &mut Notes,
     plan: &Plan,
     lines: &LineStarts,
     facts: &[TaskFacts],
     used: &[bool],
-) -> io::Result<()> {
+) -> Result<(), AllocError> {
     let mut noted = IndexMap::new(alloc);
     note_functions(alloc, &mut noted, plan, used)?;
     for (task, of_task) in facts.iter().enumerate() {
@@ -72,7 +71,7 @@ pub(crate) fn write_own_notes<W: Write>(
         }
     }
     for (_, variable) in &noted {
-        write_note(out, plan.text(), lines, variable)?;
+        add_note(notes, plan.text(), lines, variable)?;
     }
     Ok(())
 }
@@ -173,13 +172,13 @@ fn note_line(
     Ok(())
 }
 
-/// Writes the note on a variable, where there is one.
-fn write_note<W: Write>(
-    out: &mut W,
+/// Adds the note on a variable, where there is one.
+fn add_note(
+    notes: &mut Notes,
     text: &[u8],
     lines: &LineStarts,
     noted: &Noted,
-) -> io::Result<()> {
+) -> Result<(), AllocError> {
     let at = lines.at(noted.name);
     let name = shown(text, noted.name);
     match noted.kind {
@@ -188,23 +187,25 @@ fn write_note<W: Write>(
                 return Ok(());
             }
             let function = shown(text, function);
-            writeln!(
-                out,
-                "note at {at}: the input {name} of {function} is never read"
+            notes.add(
+                NoteName::NeverRead,
+                NotePlace::At(at),
+                format!(in notes.alloc; "the input {name} of {function} is never read")?,
             )
         }
         Kind::Result { first } => {
             if noted.is_stored {
                 return Ok(());
             }
-            writeln!(
-                out,
-                "note at {at}: the result of {name} is never stored, and stays {first}"
+            notes.add(
+                NoteName::NeverStored,
+                NotePlace::At(at),
+                format!(in notes.alloc; "the result of {name} is never stored, and stays {first}")?,
             )
         }
         Kind::Own { first } => {
             let is = (noted.is_stored, noted.is_read);
-            write_use(out, at, name, is, first)
+            add_use_note(notes, at, name, is, first)
         }
     }
 }

@@ -3,15 +3,14 @@
 
 use crate::contents::constant_of;
 use crate::names::LineStarts;
+use crate::note_lines::{NoteName, NotePlace, Notes};
 use crate::stars::{all_unmarked, is_marked, mark};
 use crate::uses::line_at;
 use ilblocks::BlockKind;
 use ilcode::{Code, Word};
 use ilcompile::Setup;
 use iltypes::Operator;
-use std::alloc::Global;
-use std::io;
-use std::io::Write;
+use std::alloc::{AllocError, Global};
 
 /// The number of PT among the ports of a timer.
 const TIME: u8 = 1;
@@ -19,20 +18,20 @@ const TIME: u8 = 1;
 /// A time below this many milliseconds is short for a plain number.
 const SHORT: i64 = 1000;
 
-/// Writes the notes on numbers, once for each line of the text.
-pub(crate) fn write_number_notes<W: Write>(
+/// Adds the notes on numbers, once for each line of the text.
+pub(crate) fn add_number_notes(
     alloc: Global,
-    out: &mut W,
+    notes: &mut Notes,
     setup: &Setup,
     lines: &LineStarts,
-) -> io::Result<()> {
+) -> Result<(), AllocError> {
     let mut told = all_unmarked(alloc, lines.count().saturating_add(1))?;
     for task in 0..setup.plan().tasks() {
         let code = setup.code(task).code();
         for place in 0..code.len() {
             let line = line_at(code, place);
             if !is_marked(&told, line)
-                && write_note(out, setup.plan().text(), lines, code, place, line)?
+                && add_note(notes, setup.plan().text(), lines, code, place, line)?
             {
                 mark(&mut told, line);
             }
@@ -41,30 +40,34 @@ pub(crate) fn write_number_notes<W: Write>(
     Ok(())
 }
 
-/// Writes the note on the word at a place, where there is one; whether there is.
-fn write_note<W: Write>(
-    out: &mut W,
+/// Adds the note on the word at a place, where there is one; whether there is.
+fn add_note(
+    notes: &mut Notes,
     text: &[u8],
     lines: &LineStarts,
     code: &Code,
     place: usize,
     line: usize,
-) -> io::Result<bool> {
+) -> Result<bool, AllocError> {
     if let Some((low, high)) = limits_at(code, place, line) {
         if low > high {
-            writeln!(
-                out,
-                "note at {line}: LIMIT {low}, {high} gives {high} whatever comes: the lower limit \
+            notes.add(
+                NoteName::LimitsSwapped,
+                NotePlace::Line(line),
+                format!(in notes.alloc;
+                    "LIMIT {low}, {high} gives {high} whatever comes: the lower limit \
                  stands first"
+                )?,
             )?;
             return Ok(true);
         }
     }
     match time_at(code, place) {
         Some(time) if time < SHORT && is_plain(text, lines.start_of(line)) => {
-            writeln!(
-                out,
-                "note at {line}: PT := {time} is {time} ms; {time} seconds are T#{time}s"
+            notes.add(
+                NoteName::TimeWithoutUnit,
+                NotePlace::Line(line),
+                format!(in notes.alloc; "PT := {time} is {time} ms; {time} seconds are T#{time}s")?,
             )?;
             Ok(true)
         }

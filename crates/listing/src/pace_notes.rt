@@ -5,28 +5,28 @@ use crate::contents::Content;
 use crate::facts::TaskFacts;
 use crate::levels::level_of;
 use crate::names::LineStarts;
+use crate::note_lines::{NoteName, NotePlace, Notes};
 use ilplan::{Activation, Location, Plan, SlotOwner};
-use std::io;
-use std::io::Write;
+use std::alloc::AllocError;
 
 /// How many milliseconds a level takes on a bus, with the pause before it.
 const FRAME_TIME: u32 = 30;
 
-/// Writes the notes on how often tasks change levels.
-pub(crate) fn write_pace_notes<W: Write>(
-    out: &mut W,
+/// Adds the notes on how often tasks change levels.
+pub(crate) fn add_pace_notes(
+    notes: &mut Notes,
     plan: &Plan,
     lines: &LineStarts,
     facts: &[TaskFacts],
-) -> io::Result<()> {
+) -> Result<(), AllocError> {
     for (task, of_task) in facts.iter().enumerate() {
         if task < plan.tasks() {
             match plan.task(task).activation() {
                 Activation::Cyclic { interval } => {
-                    write_fast(out, plan, lines, task, of_task, interval)?;
+                    add_fast(notes, plan, lines, task, of_task, interval)?;
                 }
                 Activation::Event { trigger } => {
-                    write_blind(out, plan, task, of_task, trigger)?;
+                    add_blind(notes, plan, task, of_task, trigger)?;
                 }
             }
         }
@@ -34,16 +34,16 @@ pub(crate) fn write_pace_notes<W: Write>(
     Ok(())
 }
 
-/// Writes a note for each level that a task with this interval may change faster than a bus can
+/// Adds a note for each level that a task with this interval may change faster than a bus can
 /// carry it.
-fn write_fast<W: Write>(
-    out: &mut W,
+fn add_fast(
+    notes: &mut Notes,
     plan: &Plan,
     lines: &LineStarts,
     task: usize,
     facts: &TaskFacts,
     interval: u32,
-) -> io::Result<()> {
+) -> Result<(), AllocError> {
     if interval >= FRAME_TIME || task >= plan.tasks() {
         return Ok(());
     }
@@ -56,10 +56,13 @@ fn write_fast<W: Write>(
             if global < plan.globals() {
                 let at = lines.at(plan.global(global).name);
                 let level = plan.global_name(global);
-                writeln!(
-                    out,
-                    "note at {at}: the task {name} may change the level {level} at each scan, every \
+                notes.add(
+                    NoteName::LevelAtEachScan,
+                    NotePlace::At(at),
+                    format!(in notes.alloc;
+                        "the task {name} may change the level {level} at each scan, every \
                      {interval} ms; a bus takes some {FRAME_TIME} ms for a level"
+                    )?,
                 )?;
             }
         }
@@ -67,15 +70,15 @@ fn write_fast<W: Write>(
     Ok(())
 }
 
-/// Writes a note where an event task changes a level by what it was, and does not look at what the
+/// Adds a note where an event task changes a level by what it was, and does not look at what the
 /// event says.
-fn write_blind<W: Write>(
-    out: &mut W,
+fn add_blind(
+    notes: &mut Notes,
     plan: &Plan,
     task: usize,
     facts: &TaskFacts,
     trigger: usize,
-) -> io::Result<()> {
+) -> Result<(), AllocError> {
     let (bus, source) = match source_of(plan, trigger) {
         Some(found) => found,
         None => return Ok(()),
@@ -93,11 +96,14 @@ fn write_blind<W: Write>(
                 let line = use_here.read;
                 let name = plan.task_name(task);
                 let level = plan.global_name(global);
-                return writeln!(
-                    out,
-                    "note at {line}: the task {name} changes {level} at each event of source \
+                return notes.add(
+                    NoteName::UnreadInformation,
+                    NotePlace::Line(line),
+                    format!(in notes.alloc;
+                        "the task {name} changes {level} at each event of source \
                      {bus}.{source} and reads no information; a button that sends 1, 0 and 2 for a \
                      press changes it three times"
+                    )?,
                 );
             }
         }

@@ -1,12 +1,11 @@
 //! Notes on functions and programs that no task has.
 
 use crate::names::{LineStarts, shown};
+use crate::note_lines::{NoteName, NotePlace, Notes};
 use crate::stars::{is_marked, mark};
 use ilplan::Plan;
 use ilsource::{Configuration, Element, Name, Source};
 use std::alloc::{AllocError, Global};
-use std::io;
-use std::io::Write;
 
 /// For each function of a plan whether a task uses it.
 pub(crate) fn functions_of_tasks(alloc: Global, plan: &Plan) -> Result<Vec<bool>, AllocError> {
@@ -25,37 +24,41 @@ pub(crate) fn functions_of_tasks(alloc: Global, plan: &Plan) -> Result<Vec<bool>
     Ok(all)
 }
 
-/// Writes a note for each function that no task uses.
-pub(crate) fn write_function_notes<W: Write>(
-    out: &mut W,
+/// Adds a note for each function that no task uses.
+pub(crate) fn add_function_notes(
+    notes: &mut Notes,
     plan: &Plan,
     lines: &LineStarts,
     used: &[bool],
-) -> io::Result<()> {
+) -> Result<(), AllocError> {
     for (number, function) in plan.functions().iter().enumerate() {
         if !is_marked(used, number) {
             let at = lines.at(function.name());
             let name = shown(plan.text(), function.name());
-            writeln!(out, "note at {at}: no task uses the function {name}")?;
+            notes.add(
+                NoteName::UnusedFunction,
+                NotePlace::At(at),
+                format!(in notes.alloc; "no task uses the function {name}")?,
+            )?;
         }
     }
     Ok(())
 }
 
-/// Writes a note for each program that no task runs, where the text has a configuration; without
+/// Adds a note for each program that no task runs, where the text has a configuration; without
 /// one the task `main` runs all.
-pub(crate) fn write_program_notes<W: Write>(
-    out: &mut W,
+pub(crate) fn add_program_notes(
+    notes: &mut Notes,
     source: &Source,
     lines: &LineStarts,
-) -> io::Result<()> {
+) -> Result<(), AllocError> {
     let Some(configuration) = source.configuration() else {
         return Ok(());
     };
     for element in source.elements() {
         if let Element::Program(program) = element {
             if !is_run(configuration, program.name(), source.text()) {
-                write_not_run(out, source.text(), lines, program.name())?;
+                add_not_run(notes, source.text(), lines, program.name())?;
             }
         }
     }
@@ -70,29 +73,41 @@ fn is_run(configuration: &Configuration, program: Name, text: &[u8]) -> bool {
         .any(|instance| instance.program.is_same(program, text))
 }
 
-/// Writes that no task runs a program.
-fn write_not_run<W: Write>(
-    out: &mut W,
+/// Adds that no task runs a program.
+fn add_not_run(
+    notes: &mut Notes,
     text: &[u8],
     lines: &LineStarts,
     program: Name,
-) -> io::Result<()> {
+) -> Result<(), AllocError> {
     let at = lines.at(program);
     let name = shown(text, program);
-    writeln!(out, "note at {at}: no task runs the program {name}")
+    notes.add(
+        NoteName::UnusedProgram,
+        NotePlace::At(at),
+        format!(in notes.alloc; "no task runs the program {name}")?,
+    )
 }
 
-/// Writes a note where nothing runs: no task is there, or no program.
-pub(crate) fn write_idle_notes<W: Write>(
-    out: &mut W,
+/// Adds a note where nothing runs: no task is there, or no program.
+pub(crate) fn add_idle_notes(
+    notes: &mut Notes,
     plan: &Plan,
     source: &Source,
-) -> io::Result<()> {
+) -> Result<(), AllocError> {
     if plan.tasks() == 0 {
-        return writeln!(out, "note: the configuration has no task: nothing runs");
+        return notes.add(
+            NoteName::NothingRuns,
+            NotePlace::Whole,
+            format!(in notes.alloc; "the configuration has no task: nothing runs")?,
+        );
     }
     if source.configuration().is_none() && !has_program(source) {
-        return writeln!(out, "note: the text has no program: nothing runs");
+        return notes.add(
+            NoteName::NothingRuns,
+            NotePlace::Whole,
+            format!(in notes.alloc; "the text has no program: nothing runs")?,
+        );
     }
     Ok(())
 }

@@ -1,12 +1,11 @@
 //! Notes on questions of which the answers come to one variable.
 
 use crate::facts::{BlockCall, TaskFacts};
-use crate::level_notes::write_block;
+use crate::level_notes::BlockName;
+use crate::note_lines::{NoteName, NotePlace, Notes};
 use ilblocks::BlockKind;
 use ilplan::{Location, Plan};
 use std::alloc::{AllocError, Global};
-use std::io;
-use std::io::Write;
 
 /// How many short addresses of each kind a bus has.
 const SHORT_ADDRESSES: usize = 64;
@@ -46,19 +45,19 @@ struct Answerer {
     is_told: bool,
 }
 
-/// Writes a note for each gear and each device of which one variable has the answers to several
+/// Adds a note for each gear and each device of which one variable has the answers to several
 /// questions.
-pub(crate) fn write_question_notes<W: Write>(
+pub(crate) fn add_question_notes(
     alloc: Global,
-    out: &mut W,
+    notes: &mut Notes,
     plan: &Plan,
     facts: &[TaskFacts],
-) -> io::Result<()> {
+) -> Result<(), AllocError> {
     let mut answerers = answerers(alloc, plan)?;
     for (task, of_task) in facts.iter().enumerate() {
         for call in &of_task.calls {
             if let Some(note) = ask(&mut answerers, call) {
-                write_second(out, plan, task, call, note)?;
+                add_second(notes, plan, task, call, note)?;
             }
         }
     }
@@ -171,14 +170,14 @@ fn place(number: i64) -> Option<usize> {
     }
 }
 
-/// Writes the note on a second question.
-fn write_second<W: Write>(
-    out: &mut W,
+/// Adds the note on a second question.
+fn add_second(
+    notes: &mut Notes,
     plan: &Plan,
     task: usize,
     call: &BlockCall,
     second: Second,
-) -> io::Result<()> {
+) -> Result<(), AllocError> {
     if second.global >= plan.globals() {
         return Ok(());
     }
@@ -191,11 +190,14 @@ fn write_second<W: Write>(
         is_device,
     } = second.asked;
     let whom = if is_device { "device" } else { "gear" };
-    write!(out, "note at {line}: ")?;
-    write_block(out, plan, task, call.block)?;
-    writeln!(
-        out,
-        " asks {whom} {short} of bus {bus} another question than line {first} does; {name} has the \
-         answer that came last, whichever question it is to"
-    )
+    let block = BlockName {
+        plan,
+        task,
+        block: call.block,
+    };
+    let message = format!(in notes.alloc;
+        "{block} asks {whom} {short} of bus {bus} another question than line {first} does; {name} \
+         has the answer that came last, whichever question it is to"
+    )?;
+    notes.add(NoteName::SharedAnswer, NotePlace::Line(line), message)
 }

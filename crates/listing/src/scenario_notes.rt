@@ -3,14 +3,13 @@
 
 use crate::facts::TaskFacts;
 use crate::levels::{Driven, FIRST_GROUP, Levels};
+use crate::note_lines::{NoteName, NotePlace, Notes};
 use crate::stars::{all_unmarked, is_marked, mark};
 use dalievent::EventSource;
 use daliframe::Frame24;
 use ilplan::Plan;
 use indexmap::IndexMap;
 use std::alloc::{AllocError, Global};
-use std::io;
-use std::io::Write;
 use wordlines::{Scenario, Statement, first_line, is_skipped};
 
 /// A scenario and the bytes that it was read from.
@@ -40,14 +39,14 @@ struct Comparison {
     told_events: IndexMap<u64, bool>,
 }
 
-/// Writes the notes on a scenario.
-pub(crate) fn write_scenario_notes<W: Write>(
+/// Adds the notes on a scenario.
+pub(crate) fn add_scenario_notes(
     alloc: Global,
-    out: &mut W,
+    notes: &mut Notes,
     plan: &Plan,
     facts: &[TaskFacts],
     played: Played,
-) -> io::Result<()> {
+) -> Result<(), AllocError> {
     let mut comparison = Comparison::with(alloc, plan)?;
     let mut rest = played.bytes;
     let mut number: usize = 0;
@@ -55,10 +54,10 @@ pub(crate) fn write_scenario_notes<W: Write>(
         let (line, after) = next_statement(rest);
         number = number.saturating_add(line);
         rest = after;
-        comparison.write_note(out, number, statement)?;
+        comparison.add_note(notes, number, statement)?;
     }
     let levels = Levels::of(alloc, plan, facts)?;
-    comparison.write_lacking_gear(out, plan, &levels)
+    comparison.add_lacking_gear(notes, plan, &levels)
 }
 
 /// How many lines the next statement and what is skipped before it are, and what stands after it.
@@ -107,50 +106,56 @@ impl Comparison {
         })
     }
 
-    /// Writes the note on the statement of a line, where there is one.
-    fn write_note<W: Write>(
+    /// Adds the note on the statement of a line, where there is one.
+    fn add_note(
         &mut self,
-        out: &mut W,
+        notes: &mut Notes,
         line: usize,
         statement: &Statement,
-    ) -> io::Result<()> {
+    ) -> Result<(), AllocError> {
         let bus = match bus_of(statement) {
             Some(bus) => bus,
             None => return Ok(()),
         };
         if bus >= self.buses {
-            return self.write_missing_bus(out, line, bus);
+            return self.add_missing_bus(notes, line, bus);
         }
         match *statement {
             Statement::Gear { short, .. } => {
                 mark(&mut self.gear, gear_place(bus, short.number()));
                 Ok(())
             }
-            Statement::Event { frame, .. } => self.write_event(out, line, bus, frame),
+            Statement::Event { frame, .. } => self.add_event(notes, line, bus, frame),
             _ => Ok(()),
         }
     }
 
-    /// Writes that a bus is not there, once for each.
-    fn write_missing_bus<W: Write>(&mut self, out: &mut W, line: usize, bus: u8) -> io::Result<()> {
+    /// Adds that a bus is not there, once for each.
+    fn add_missing_bus(
+        &mut self,
+        notes: &mut Notes,
+        line: usize,
+        bus: u8,
+    ) -> Result<(), AllocError> {
         if is_marked(&self.told_buses, usize::from(bus)) {
             return Ok(());
         }
         mark(&mut self.told_buses, usize::from(bus));
-        writeln!(
-            out,
-            "note at {line} of the scenario: the binding has no bus {bus}; nothing comes of the line"
+        notes.add(
+            NoteName::ScenarioBus,
+            NotePlace::Scenario(line),
+            format!(in notes.alloc; "the binding has no bus {bus}; nothing comes of the line")?,
         )
     }
 
-    /// Writes that an event is of no source, once for each, whatever its information.
-    fn write_event<W: Write>(
+    /// Adds that an event is of no source, once for each, whatever its information.
+    fn add_event(
         &mut self,
-        out: &mut W,
+        notes: &mut Notes,
         line: usize,
         bus: u8,
         frame: Frame24,
-    ) -> io::Result<()> {
+    ) -> Result<(), AllocError> {
         let number = frame.number();
         let key = u64::from(bus)
             .saturating_mul(65_536)
@@ -159,10 +164,13 @@ impl Comparison {
             return Ok(());
         }
         self.told_events.insert(key, true)?;
-        writeln!(
-            out,
-            "note at {line} of the scenario: the event {number:06X} is of no source of the binding; \
+        notes.add(
+            NoteName::ScenarioSource,
+            NotePlace::Scenario(line),
+            format!(in notes.alloc;
+                "the event {number:06X} is of no source of the binding; \
              nothing comes of it"
+            )?,
         )
     }
 
@@ -176,17 +184,17 @@ impl Comparison {
         }
     }
 
-    /// Writes a note for each level of a gear that the scenario does not have.
-    fn write_lacking_gear<W: Write>(
+    /// Adds a note for each level of a gear that the scenario does not have.
+    fn add_lacking_gear(
         &self,
-        out: &mut W,
+        notes: &mut Notes,
         plan: &Plan,
         levels: &Levels,
-    ) -> io::Result<()> {
+    ) -> Result<(), AllocError> {
         for bus in 0..self.buses {
             for address in 0..FIRST_GROUP {
                 if !is_marked(&self.gear, gear_place(bus, address)) {
-                    write_lacking(out, plan, levels, Driven { bus, address })?;
+                    add_lacking(notes, plan, levels, Driven { bus, address })?;
                 }
             }
         }
@@ -209,19 +217,22 @@ fn bus_of(statement: &Statement) -> Option<u8> {
     }
 }
 
-/// Writes the note on a gear that the scenario does not have, where a level drives it.
-fn write_lacking<W: Write>(
-    out: &mut W,
+/// Adds the note on a gear that the scenario does not have, where a level drives it.
+fn add_lacking(
+    notes: &mut Notes,
     plan: &Plan,
     levels: &Levels,
     driven: Driven,
-) -> io::Result<()> {
+) -> Result<(), AllocError> {
     match levels.get(driven) {
         Some(level) if level.global < plan.globals() => {
             let name = plan.global_name(level.global);
-            writeln!(
-                out,
-                "note: {name} is the level of {driven}, and the scenario has no such gear"
+            notes.add(
+                NoteName::ScenarioGear,
+                NotePlace::Whole,
+                format!(in notes.alloc;
+                    "{name} is the level of {driven}, and the scenario has no such gear"
+                )?,
             )
         }
         _ => Ok(()),

@@ -1,37 +1,39 @@
 //! Notes on the sources of events that a binding has.
 
+use crate::note_lines::{NoteName, NotePlace, Notes};
 use crate::stars::{all_unmarked, is_marked, mark};
 use ilplan::{Location, Plan};
 use indexmap::IndexMap;
 use std::alloc::{AllocError, Global};
-use std::io;
-use std::io::Write;
 use wordlines::BoundSource;
 
 /// The sources of one bus.
 const SOURCES: usize = limits::MOST_SOURCES as usize;
 
-/// Writes a note for each source of the binding that the text does not use, and for each that is
+/// Adds a note for each source of the binding that the text does not use, and for each that is
 /// bound at two places.
-pub(crate) fn write_source_notes<W: Write>(
+pub(crate) fn add_source_notes(
     alloc: Global,
-    out: &mut W,
+    notes: &mut Notes,
     plan: &Plan,
-) -> io::Result<()> {
-    write_unused(alloc, out, plan)?;
-    write_doubled(alloc, out, plan)
+) -> Result<(), AllocError> {
+    add_unused(alloc, notes, plan)?;
+    add_doubled(alloc, notes, plan)
 }
 
-/// Writes a note for each source of the binding that the text does not use.
-fn write_unused<W: Write>(alloc: Global, out: &mut W, plan: &Plan) -> io::Result<()> {
+/// Adds a note for each source of the binding that the text does not use.
+fn add_unused(alloc: Global, notes: &mut Notes, plan: &Plan) -> Result<(), AllocError> {
     let used = sources_of(alloc, plan)?;
     for bound in plan.sources() {
         let bus = bound.bus;
         let number = bound.number;
         if !is_marked(&used, number_of(bus, number)) {
-            writeln!(
-                out,
-                "note: the text does not use the source {bus}.{number} of the binding"
+            notes.add(
+                NoteName::UnusedSource,
+                NotePlace::Whole,
+                format!(in notes.alloc;
+                    "the text does not use the source {bus}.{number} of the binding"
+                )?,
             )?;
         }
     }
@@ -61,8 +63,8 @@ fn sources_of(alloc: Global, plan: &Plan) -> Result<Vec<bool>, AllocError> {
     Ok(used)
 }
 
-/// Writes a note for each source that is bound at a place before as well.
-fn write_doubled<W: Write>(alloc: Global, out: &mut W, plan: &Plan) -> io::Result<()> {
+/// Adds a note for each source that is bound at a place before as well.
+fn add_doubled(alloc: Global, notes: &mut Notes, plan: &Plan) -> Result<(), AllocError> {
     let mut first_places = IndexMap::new(alloc);
     for bound in plan.sources() {
         let key = key_of(bound);
@@ -74,10 +76,13 @@ fn write_doubled<W: Write>(alloc: Global, out: &mut W, plan: &Plan) -> io::Resul
         match first {
             Some(first) => {
                 let bus = bound.bus;
-                writeln!(
-                    out,
-                    "note: the sources {bus}.{first} and {bus}.{number} of the binding are one; each of \
+                notes.add(
+                    NoteName::DoubleSource,
+                    NotePlace::Whole,
+                    format!(in notes.alloc;
+                        "the sources {bus}.{first} and {bus}.{number} of the binding are one; each of \
                      its events is one of both"
+                    )?,
                 )?;
             }
             None => {

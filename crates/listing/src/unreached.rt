@@ -1,25 +1,24 @@
 //! Notes on words: those that no scan reaches, and those that make requests.
 
-use crate::bodies::write_function;
+use crate::bodies::FunctionName;
+use crate::note_lines::{NoteName, NotePlace, Notes};
 use crate::stars::{is_marked, mark};
 use crate::task_names::{TaskNames, functions_in};
 use crate::uses::line_at;
 use ilcompile::Setup;
 use ilverify::{Pass, Passed, most_requests};
-use std::alloc::Global;
-use std::io;
-use std::io::Write;
+use std::alloc::{AllocError, Global};
 
 /// How many requests of one class wait for a bus at most.
 const MOST_WAITING: u32 = limits::MOST_WAITING as u32;
 
-/// Writes a note for each line of which no scan reaches a word, the first of several one after
+/// Adds a note for each line of which no scan reaches a word, the first of several one after
 /// another; for a line of a function once, where several tasks use it.
-pub(crate) fn write_unreached<W: Write>(
+pub(crate) fn add_unreached(
     alloc: Global,
-    out: &mut W,
+    notes: &mut Notes,
     setup: &Setup,
-) -> io::Result<()> {
+) -> Result<(), AllocError> {
     let mut told = Vec::new(alloc);
     for _ in setup.plan().functions() {
         told.push(false)?;
@@ -32,7 +31,7 @@ pub(crate) fn write_unreached<W: Write>(
             code: setup.code(task).code(),
             functions: &functions,
         };
-        write_unreached_of(alloc, out, &names, &told)?;
+        add_unreached_of(alloc, notes, &names, &told)?;
         for number in &functions {
             mark(&mut told, *number);
         }
@@ -40,19 +39,19 @@ pub(crate) fn write_unreached<W: Write>(
     Ok(())
 }
 
-/// Writes the notes on words of a task, without those of functions that were told of.
-fn write_unreached_of<W: Write>(
+/// Adds the notes on words of a task, without those of functions that were told of.
+fn add_unreached_of(
     alloc: Global,
-    out: &mut W,
+    notes: &mut Notes,
     names: &TaskNames,
     told: &[bool],
-) -> io::Result<()> {
+) -> Result<(), AllocError> {
     let mut pass = Pass::begin(alloc, names.code)?;
     let mut was_reached = true;
     for place in 0..names.code.len() {
         let is_reached = pass.entry().is_some();
         if was_reached && !is_reached {
-            write_line(out, names, told, place)?;
+            add_line(notes, names, told, place)?;
         }
         was_reached = is_reached;
         let Passed::On(next) = pass.advance()? else {
@@ -63,17 +62,17 @@ fn write_unreached_of<W: Write>(
     Ok(())
 }
 
-/// Writes that no scan comes to the word at a place, or no call of its function, which was not told
+/// Adds that no scan comes to the word at a place, or no call of its function, which was not told
 /// of.
-fn write_line<W: Write>(
-    out: &mut W,
+fn add_line(
+    notes: &mut Notes,
     names: &TaskNames,
     told: &[bool],
     place: usize,
-) -> io::Result<()> {
+) -> Result<(), AllocError> {
     let line = line_at(names.code, place);
     match names.code.body_at(place).checked_sub(1) {
-        None => write_task_line(out, names, line),
+        None => add_task_line(notes, names, line),
         Some(function) => {
             let is_told = match names.functions.get(function) {
                 Some(number) => is_marked(told, *number),
@@ -82,39 +81,46 @@ fn write_line<W: Write>(
             if is_told {
                 return Ok(());
             }
-            write!(out, "note at {line}: no call of ")?;
-            write_function(out, names, function)?;
-            writeln!(out, " comes here")
+            let function = FunctionName { names, function };
+            let message = format!(in notes.alloc; "no call of {function} comes here")?;
+            notes.add(NoteName::Unreached, NotePlace::Line(line), message)
         }
     }
 }
 
-/// Writes that no scan of the task comes to a line.
-fn write_task_line<W: Write>(out: &mut W, names: &TaskNames, line: usize) -> io::Result<()> {
+/// Adds that no scan of the task comes to a line.
+fn add_task_line(notes: &mut Notes, names: &TaskNames, line: usize) -> Result<(), AllocError> {
     if names.task >= names.plan.tasks() {
         return Ok(());
     }
     let task = names.plan.task_name(names.task);
-    writeln!(out, "note at {line}: no scan of the task {task} comes here")
+    notes.add(
+        NoteName::Unreached,
+        NotePlace::Line(line),
+        format!(in notes.alloc; "no scan of the task {task} comes here")?,
+    )
 }
 
-/// Writes a note where the tasks together may make more requests than a class of a bus has room
+/// Adds a note where the tasks together may make more requests than a class of a bus has room
 /// for.
-pub(crate) fn write_request_notes<W: Write>(
+pub(crate) fn add_request_notes(
     alloc: Global,
-    out: &mut W,
+    notes: &mut Notes,
     setup: &Setup,
-) -> io::Result<()> {
+) -> Result<(), AllocError> {
     let mut all: u32 = 0;
     for task in 0..setup.plan().tasks() {
         let requests = most_requests(alloc, setup.code(task).code())?;
         all = all.saturating_add(requests.unwrap_or(0));
     }
     if all > MOST_WAITING {
-        writeln!(
-            out,
-            "note: one scan of each task may make {all} requests; a bus keeps {MOST_WAITING} \
+        notes.add(
+            NoteName::ManyRequests,
+            NotePlace::Whole,
+            format!(in notes.alloc;
+                "one scan of each task may make {all} requests; a bus keeps {MOST_WAITING} \
              of a class"
+            )?,
         )?;
     }
     Ok(())

@@ -5,8 +5,7 @@ let current_compiler = 'dalictl'
 let s:text = shellescape(expand('%'), 1)
 let s:bind = expand('%:r') . '.bind'
 let s:words = filereadable(s:bind) ? ' --bind ' . shellescape(s:bind, 1) : ''
-" Notes do not name the file, so its name is printed before them.
-let &l:makeprg = '(echo ' . s:text . '; dalictl explain ' . s:text . s:words . ')'
+let &l:makeprg = 'dalictl explain ' . s:text . s:words
 
-" A fault with its file; a note; the name of the file; all other lines say more of what stands above them.
-let &l:errorformat = '%f:%l:%c: %m,%Wnote at %l:%c: %m,%Wnote at %l: %m,%-P%f,%-G%.%#'
+" A note, or a fault; all other lines say more of what stands above them.
+let &l:errorformat = '%W%f:%l:%c: note %m,%f:%l:%c: %m,%-G%.%#'

@@ -1,6 +1,7 @@
 use Rattle.std.proofs.Common.{subst, sym}
+use Rattle.std.specs.Prelude.{option_map}
 use Rattle.ilplan.specs.Plans.{Planned}
-use Rattle.answers.specs.Answered.{IsFirstCalled}
+use Rattle.answers.specs.Answered.{IsMeantTask}
 use Rattle.answers.proofs.MeantScans.{setup_is}
 use Rattle.answers.proofs.answers.find_task.Goals as goal
 
@@ -13,5 +14,6 @@ returns-clause-found c =
           setup_is c.args.binding.now c.args.text.now c.in_ok-plan.plan setup c.in_ok-plan.ensures.plan loaded.plan
           loaded.codes;
       called =
-          subst (λ (p : Planned). IsFirstCalled p c.args.task.now c.in-Some.number) (sym loaded.plan) c.in-Some.ensures;
+          subst (λ (p : Planned). IsMeantTask p (option_map (λ name. name.now) c.args.task) c.in-Some.number) (sym loaded.plan)
+          c.in-Some.ensures;
     }

@@ -1,7 +1,7 @@
-use Rattle.commandline.specs.CommandLine.{look_line}
+use Rattle.commandline.specs.CommandLine.{tool_line}
 use Rattle.commandline.specs.Tables.{with_commands, with_words}
 use Rattle.commandline.proofs.options.command.Goals as goal
 
 pub returns : goal.returns
 unfolding with_commands with_words
-returns c = c.extended.ensures.shape look_line c.in_ok-line.ensures.shape
+returns c = c.extended.ensures.shape tool_line c.in_ok-line.ensures.shape

@@ -3,7 +3,7 @@ use Rattle.std.proofs.lemmas.Result.{err_from_is_err_and}
 use Rattle.commissioning.specs.Surveys.{AreParts, AsksMore, IsGearPart}
 use Rattle.commissioning.proofs.Surveying.{asks_of_more, surveyed}
 use Rattle.commissioning.proofs.Completing.{devices_of_survey_cut, gear_of_survey_cut}
-use Rattle.commissioning.proofs.surveys.probe.Goals as goal
+use Rattle.commissioning.proofs.surveys.make_survey.Goals as goal
 
 pub returns-in_err-ask_all_gear-clause-fault : goal.returns-in_err-ask_all_gear-clause-fault
 returns-in_err-ask_all_gear-clause-fault g c =

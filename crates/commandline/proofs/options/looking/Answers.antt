@@ -1,7 +1,0 @@
-use Rattle.commandline.specs.CommandLine.{live_line}
-use Rattle.commandline.specs.Tables.{with_commands, with_words}
-use Rattle.commandline.proofs.options.looking.Goals as goal
-
-pub returns-clause-shape : goal.returns-clause-shape
-unfolding with_commands with_words
-returns-clause-shape c = c.extended.ensures.shape live_line c.in_ok-line.ensures.shape

@@ -1,0 +1,7 @@
+use Rattle.commandline.specs.CommandLine.{desk_line}
+use Rattle.commandline.specs.Tables.{with_commands, with_words}
+use Rattle.commandline.proofs.options.trying.Goals as goal
+
+pub returns-clause-shape : goal.returns-clause-shape
+unfolding with_commands with_words
+returns-clause-shape c = c.extended.ensures.shape desk_line c.in_ok-line.ensures.shape
