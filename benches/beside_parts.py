@@ -1,0 +1,56 @@
+"""What benches/beside and benches/kept are made of: the simulated interface in a process of its own, and a bench that runs the
+program, compares and counts what is otherwise."""
+import os, subprocess, time
+
+HERE = os.path.dirname(os.path.dirname(os.path.abspath(__file__)))
+TEXT, BIND = f"{HERE}/examples/first-house/hall.il", f"{HERE}/examples/first-house/hall.bind"
+BUTTON = "048402"
+
+
+class Interface:
+    """The simulated interface, in a process of its own."""
+
+    def __init__(self, folder, seconds):
+        self.path, self.log = f"{folder}/dali0", f"{folder}/interface.log"
+        self.process = subprocess.Popen([f"{HERE}/examples/interfaces/simulated.py", "--pty", self.path, "--gear", "7",
+            "--button", f"{BUTTON}:{seconds}", "--log", self.log])
+        while not os.path.exists(self.path):
+            time.sleep(0.05)
+
+    def lines(self):
+        with open(self.log) as it:
+            return [line.split(maxsplit=1)[1].strip() for line in it]
+
+    def end(self):
+        self.process.terminate()
+        self.process.wait()
+
+
+class Bench:
+    def __init__(self, program, folder, seconds):
+        self.program, self.folder, self.seconds, self.wrong = program, folder, seconds, 0
+
+    def run(self, *words):
+        done = subprocess.run(self.program + list(words), capture_output=True, text=True)
+        return done.returncode, done.stdout.splitlines(), done.stderr.splitlines()
+
+    def same(self, what, found, wanted):
+        good = found == wanted
+        self.wrong += not good
+        print(f"{what}: " + ("ok" if good else f"found {found!r}, wanted {wanted!r}"), flush=True)
+
+    def file(self, name, text=None):
+        path = f"{self.folder}/{name}"
+        if text is not None:
+            with open(path, "w") as it:
+                it.write(text)
+        return path
+
+    def read(self, name):
+        with open(self.file(name)) as it:
+            return it.read().splitlines()
+
+
+def values(lines):
+    """The variables among printed lines."""
+    return [line for line in lines if " = " in line]
