@@ -52,7 +52,8 @@ fn common(one: &[u8], other: &[u8]) -> usize {
 }
 
 /// The first reserved word that is near to another word, which is none. An instruction begins as
-/// the other word does, and has as many letters N, or one at its end too: an N turns it round.
+/// the other word does, and both have an N at their end, or as many letters C, which make it
+/// conditional, and as many letters N, which turn it round.
 pub fn near_word(found: &[u8]) -> Option<&'static str> {
     if keyword_of(found).is_some() {
         return None;
@@ -79,20 +80,29 @@ fn near_among(
     nearest
 }
 
-/// Whether an instruction and another word begin with the same letter, and have as many letters N, or
-/// both one at the end. In a conversion, which has a `_`, an N turns nothing round.
+/// Whether an instruction and another word begin with the same letter, and both have an N at the end,
+/// or as many letters C and N. In a conversion, which has a `_`, these change nothing.
 fn is_alike(instruction: &[u8], other: &[u8]) -> bool {
-    let is_kept = instruction.iter().any(|byte| *byte == b'_')
-        || turns(instruction) == turns(other)
-        || is_turned(instruction) && is_turned(other);
-    common(instruction, other) > 0 && is_kept
+    common(instruction, other) > 0
+        && (instruction.iter().any(|byte| *byte == b'_') || is_kept(instruction, other))
 }
 
-/// How many letters N a word has.
-fn turns(word: &[u8]) -> usize {
-    word.iter()
-        .filter(|byte| matches!(**byte, b'n' | b'N'))
-        .count()
+/// Whether two instructions are both conditional or neither is, and both turned round or neither.
+fn is_kept(one: &[u8], other: &[u8]) -> bool {
+    let is_turned_too = is_turned(one) && is_turned(other);
+    is_turned_too
+        || count(one, b'C') == count(other, b'C') && count(one, b'N') == count(other, b'N')
+}
+
+/// How often a word has a letter, letter case aside.
+fn count(word: &[u8], letter: u8) -> usize {
+    let mut found: usize = 0;
+    for byte in word {
+        if byte.eq_ignore_ascii_case(&letter) {
+            found = found.saturating_add(1);
+        }
+    }
+    found
 }
 
 /// Whether a word has an N at its end.

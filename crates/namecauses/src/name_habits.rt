@@ -128,7 +128,7 @@ const NOTHING_DONE: Advice = Advice {
 };
 
 const EDGE: Advice = Advice {
-    what: "there are no FP and no FN, edges",
+    what: "an edge is no instruction",
     cure: "an R_TRIG sees where its CLK becomes TRUE; hand it the opposite for a falling\n\
         edge",
     line: "CAL press(CLK := button)\nLD press.Q",
@@ -178,7 +178,7 @@ const BLOCKS: &[NameHabit] = &[
 
 /// Types that other languages have.
 const TYPES: &[NameHabit] = &[
-    (&["real", "lreal"], "DINT", REAL),
+    (&["real", "lreal", "float", "double"], "DINT", REAL),
     (&["byte"], "USINT", BYTE),
     (&["word"], "UINT", BYTE),
     (&["dword"], "UDINT", BYTE),
@@ -186,7 +186,12 @@ const TYPES: &[NameHabit] = &[
     (&["lword", "ulint"], "UDINT", LONG),
     (&["string", "wstring", "char"], "", STRING),
     (&["boolean", "bit"], "BOOL", OTHER_TYPE),
-    (&["integer"], "INT", OTHER_TYPE),
+    (&["int8"], "SINT", OTHER_TYPE),
+    (&["integer", "int16"], "INT", OTHER_TYPE),
+    (&["int32"], "DINT", OTHER_TYPE),
+    (&["uint8"], "USINT", OTHER_TYPE),
+    (&["uint16"], "UINT", OTHER_TYPE),
+    (&["uint32"], "UDINT", OTHER_TYPE),
     (&["timer", "s5time"], "", TIMER),
     (
         &["date", "tod", "time_of_day", "dt", "date_and_time"],
@@ -267,6 +272,8 @@ const SIEMENS: &[NameHabit] = &[
     (&["move", "mov"], "", MOVE),
     (&["nop"], "", NOTHING_DONE),
     (&["fp", "fn"], "", EDGE),
+    (&["ldp", "andp", "orp", "pls"], "", EDGE),
+    (&["ldf", "andf", "orf", "plf"], "", EDGE),
     (&["slw", "srw", "sld", "srd"], "", SHIFT),
     (&["se", "sd", "sa", "sf"], "", TIMER),
 ];

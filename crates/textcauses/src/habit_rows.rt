@@ -185,7 +185,7 @@ pub(crate) const ADDRESSES: &[Habit] = &[
     ),
     (
         Where::Qualifies,
-        &["constant"],
+        &["constant", "const"],
         Fix::LeaveOutBefore,
         CONSTANT,
     ),

@@ -153,14 +153,20 @@ fn is_before(spot: &Spot, around: &Surroundings, spelled: &[u8]) -> bool {
     spot.part(from, to).eq_ignore_ascii_case(spelled)
 }
 
-/// Whether the word before the place stands right behind the one that begins a block of variables.
+/// Whether the word before the place stands where a name is declared: right behind the word that
+/// begins a block of variables, or behind a semicolon of that block.
 fn is_qualifier(spot: &Spot, around: &Surroundings) -> bool {
     let Some(block) = around.block else {
         return false;
     };
     let (word, _) = block.words();
-    let between = spot.part(block.at.saturating_add(word.len()), around.before.0);
-    between.iter().all(|byte| byte.is_ascii_whitespace())
+    let mut last = b';';
+    for byte in spot.part(block.at.saturating_add(word.len()), around.before.0) {
+        if !byte.is_ascii_whitespace() {
+            last = *byte;
+        }
+    }
+    last == b';'
 }
 
 /// Whether a name or a number was found among instructions, behind a word of its line.
