@@ -1,0 +1,3 @@
+pub mod Expecting
+pub mod Results
+pub mod Tests

@@ -1,0 +1,35 @@
+//! Texts that are loaded, and how often they want the time.
+
+ghost use Rattle.std.specs.Prelude.{◌≡◌, ◌≢◌, ◌≤◌, IfErr, OnOk};
+ghost use Rattle.plantload.specs.Loading.{IsLoadFault};
+ghost use Rattle.plantlive.specs.Periods.{HasInterval};
+
+use ilcompile::Setup;
+use ilplan::Plan;
+use plantlive::period_of;
+use plantload::{LoadFault, load};
+use std::alloc::Global;
+use wordlines::Binding;
+
+/// `first_task_named_for_a_later_one`, `refused_task_left_out`: of a text whose task is refused
+/// another task was named, or none.
+pub fn refused_task_is_named(
+    alloc: Global,
+    text: &[u8],
+    binding: &Binding,
+    fault: LoadFault,
+) -> Result<Setup, LoadFault>
+    requires { IsLoadFault binding.now text.now fault }
+    ensures ok { OnOk result ⊥ }
+    ensures err { IfErr result (λ reported. reported ≢ LoadFault.Memory → reported ≡ fault) }
+{
+    load(alloc, text, binding)
+}
+
+/// `the_greatest_interval`: the period was not the least interval.
+pub fn period_is_no_longer_than_an_interval(plan: &Plan) -> u64
+    requires { HasInterval plan.now 20 }
+    ensures { result ≤ 20 }
+{
+    period_of(plan)
+}
