@@ -17,3 +17,4 @@ pub mod ended;
 pub mod names;
 pub mod steps;
 pub mod texts;
+pub mod words;
