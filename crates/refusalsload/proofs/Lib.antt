@@ -1,3 +1,6 @@
+pub mod Dotted
 pub mod Expecting
+pub mod Listed
 pub mod Results
+pub mod Spelled
 pub mod Tests

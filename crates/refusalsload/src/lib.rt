@@ -13,7 +13,10 @@
 //! [`letter_case_of_a_name_does_not_matter`]: names::letter_case_of_a_name_does_not_matter
 #![tactic(auto)]
 
+pub mod answering;
 pub mod ended;
+pub mod lines;
+pub mod lists;
 pub mod names;
 pub mod steps;
 pub mod texts;

@@ -1,9 +1,10 @@
 //! Variables that are watched, and what is expected of them.
 
-ghost use Rattle.std.specs.Prelude.{◌≡◌, ◌<◌, ℕ, Some, codes, false, length, pos, true};
+ghost use Rattle.std.specs.Prelude.{◌≡◌, ◌<◌, ℕ, [], Some, codes, false, length, pos, true};
 ghost use Rattle.iltypes.specs.declared.value.Value.TheVariants as values;
 ghost use Rattle.ilimage.specs.Images.{Global as GlobalVariable};
-ghost use Rattle.ilplan.specs.Plans.{variable_name};
+ghost use Rattle.ilplan.specs.Plans.{instance_name, variable_name};
+ghost use Rattle.ilplan.specs.declared.slot.SlotOwner.{SlotOwner as Owner};
 ghost use Rattle.plantevents.specs.Variables.{value};
 ghost use Rattle.watching.specs.Names.{IsNamed};
 ghost use Rattle.watching.specs.Watched.{IsWatchable};
@@ -30,6 +31,17 @@ pub fn second_name_is_looked_up(plan: &Plan, first: &str, second: &str) -> bool
     ensures { result ≡ false }
 {
     are_watchable(plan, &[first, second])
+}
+
+/// `the_variable_of_any_instance`: a name with nothing before its dot was that of a variable of any
+/// program instance.
+pub fn instance_is_named_too(plan: &Plan) -> bool
+    requires instances { (owner : Owner) → ¬ (instance_name plan.now owner ≡ Some []) }
+    requires globals { (number : ℕ) → number < length plan.now.globals
+        → ¬ IsNamed plan.now (codes ".lamp") number }
+    ensures { result ≡ false }
+{
+    are_watchable(plan, &[".lamp"])
 }
 
 /// `one_that_is_met_is_enough`: of two expectations the second was not looked at.
@@ -71,12 +83,10 @@ pub fn true_is_met_in_any_letter_case(plant: &Plant, name: &str) -> bool
 {
     are_met(
         plant,
-        &[
-            ExpectedWord {
-                name,
-                value: "true",
-            },
-        ],
+        &[ExpectedWord {
+            name,
+            value: "true",
+        }],
     )
 }
 
@@ -89,12 +99,10 @@ pub fn false_is_not_met_by_true(plant: &Plant, name: &str) -> bool
 {
     are_met(
         plant,
-        &[
-            ExpectedWord {
-                name,
-                value: "FALSE",
-            },
-        ],
+        &[ExpectedWord {
+            name,
+            value: "FALSE",
+        }],
     )
 }
 

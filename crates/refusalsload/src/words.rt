@@ -99,10 +99,12 @@ pub fn third_word_is_no_scenario(found: &ArgMatches<'_>) -> bool
     ensures { result ≡ false }
 {
     match invocation_of("explain", found) {
-        Ok(Invocation::Tell {
-            question: Question::Faults { scenario, .. },
-            ..
-        }) => scenario.is_some(),
+        Ok(
+            Invocation::Tell {
+                question: Question::Faults { scenario, .. },
+                ..
+            },
+        ) => scenario.is_some(),
         _ => false,
     }
 }

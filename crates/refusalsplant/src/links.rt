@@ -119,8 +119,9 @@ pub fn heard_frames_are_in_the_history<B: Bus, O: Observer<B>>(
     Ok(plant.heards(0))
 }
 
-/// A mend that changes the log, `a_mend_hears`, `a_mend_takes_the_bus_up`: to ask whether an
-/// interface answers again sent, heard or counted something.
+/// A mend that changes the log, `a_mend_hears`, `a_mend_takes_the_bus_up`,
+/// `a_mend_forgets_the_failures`: to ask whether an interface answers again sent, heard or counted
+/// something.
 pub fn asking_changes_no_count<B: Bus>(line: &mut B) -> bool
     ensures sent { (B.log line.new).sent ≡ (B.log line.old).sent }
     ensures heard { (B.log line.new).heard ≡ (B.log line.old).heard }

@@ -22,7 +22,7 @@ returns c =
     let one = c.load.ensures.one in
     record {
       ok = if_ok (IsSetup wiring bytes) (λ _. ⊥) c.load.result c.load.ensures.setup (λ setup is.
-      let same = one (Ok setup) (Err fault) is c.requires in absurd (cc));
+          let same = one (Ok setup) (Err fault) is c.requires in absurd (cc));
       err = is_fault (IsLoadFault wiring bytes) fault c.load.result c.load.ensures.fault (λ other is.
-      let same = one (Err other) (Err fault) is c.requires in cc);
+          let same = one (Err other) (Err fault) is c.requires in cc);
     }
