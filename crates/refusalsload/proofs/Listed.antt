@@ -2,7 +2,7 @@
 use Rattle.std.proofs.Common.{◌≡◌, ◌∙◌, ◌<◌, ◌++◌, ◌∷◌, ℕ, List, [], Option, Some, None, zero, suc}
 use Rattle.std.proofs.Common.{arith, ap, subst, sym, refl, length, get_or, codes, lit<}
 use Rattle.std.specs.Prelude.{◌&&◌, Bool, if◌then◌else◌, nat_le, nat_lt, slice_get, true, false, unwrap_or}
-use Rattle.std.specs.List.{All, AllZip, Any, Contains}
+use Rattle.std.specs.List.{All, AllZip, Contains}
 use Rattle.std.specs.Str.Parse.{digits_value}
 use Rattle.std.proofs.Math.ListN.{length-append}
 use Rattle.std.proofs.Math.Seq.{get_or-append_seam}
