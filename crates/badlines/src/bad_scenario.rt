@@ -7,7 +7,7 @@ use crate::bad_lines::{
 use crate::forms::SCENARIO;
 use curing::shown_text;
 use std::alloc::{AllocError, Global};
-use wordlines::{LineCause, LineFault, ScenarioFault, Words, is_skipped, parse};
+use wordlines::{LineCause, LineFault, ScenarioFault, Words, parse};
 
 /// What is said of a fault of a scenario.
 pub fn scenario_fault(
@@ -87,7 +87,10 @@ fn bad_order(
         third: words.number(u64::MAX).unwrap_or(0),
     };
     if word == b"tick".as_slice() {
-        return falls(alloc, bytes, number, numbers.first);
+        return falls(alloc, bytes, number, numbers.first, 6);
+    }
+    if word == b"ticks".as_slice() {
+        return bad_ticks(alloc, bytes, number, numbers);
     }
     match first_happening(bytes, number) {
         Some(first) => late(alloc, word, first),
@@ -103,11 +106,39 @@ fn late(alloc: Global, word: &[u8], first: usize) -> Result<Reason, AllocError> 
     Reason::new(alloc, 1, what, cure)
 }
 
-/// A moment that falls.
-fn falls(alloc: Global, bytes: &[u8], number: usize, moment: u64) -> Result<Reason, AllocError> {
+/// Why the ticks of one line can't be: their last moment is before the first, the first falls, or
+/// they are too many.
+fn bad_ticks(
+    alloc: Global,
+    bytes: &[u8],
+    number: usize,
+    numbers: Numbers,
+) -> Result<Reason, AllocError> {
+    let Numbers { first, second, .. } = numbers;
+    if second < first {
+        let what = format!(in alloc; "the last moment {second} is before the first, {first}")?;
+        let cure = "write the first moment, the last one, and the time from one to the next";
+        return Reason::new(alloc, 1, what, cure);
+    }
+    if first < last_moment(bytes, number).0 {
+        return falls(alloc, bytes, number, first, 7);
+    }
+    let what = String::from_str(alloc, "more ticks than the 149,796 lines of a scenario")?;
+    let cure = "take a longer time from one to the next, or play it in two parts";
+    Reason::new(alloc, 1, what, cure)
+}
+
+/// A moment that falls, at a column.
+fn falls(
+    alloc: Global,
+    bytes: &[u8],
+    number: usize,
+    moment: u64,
+    col: usize,
+) -> Result<Reason, AllocError> {
     let (last, before) = last_moment(bytes, number);
     let what = format!(in alloc; "moment {moment} comes behind moment {last}, in line {before}")?;
-    Reason::new(alloc, 6, what, "moments stay or rise, from tick to tick")
+    Reason::new(alloc, col, what, "moments stay or rise, from tick to tick")
 }
 
 /// The last moment before a line, and the number of its line.
@@ -118,12 +149,27 @@ fn last_moment(bytes: &[u8], number: usize) -> (u64, usize) {
         if found >= number {
             return last;
         }
-        let mut words = Words::of(without_return(line));
-        if words.next() == Some(b"tick".as_slice()) {
-            last = (words.number(u64::MAX).unwrap_or(0), found);
+        if let Some(moment) = moment_of(without_return(line)) {
+            last = (moment, found);
         }
     }
     last
+}
+
+/// The moment to which the clock comes by a line of ticks.
+fn moment_of(line: &[u8]) -> Option<u64> {
+    let mut words = Words::of(line);
+    let word = words.next()?;
+    let first = words.number(u64::MAX);
+    if word == b"tick".as_slice() {
+        return first;
+    }
+    if word != b"ticks".as_slice() {
+        return None;
+    }
+    let time = words.number(u64::MAX)?.saturating_sub(first?);
+    let over = time.checked_rem(words.number(u64::MAX)?)?;
+    Some(first?.saturating_add(time.saturating_sub(over)))
 }
 
 /// The number of the first line before this one that is a tick or an event.
@@ -133,8 +179,8 @@ fn first_happening(bytes: &[u8], number: usize) -> Option<usize> {
         if found >= number {
             return None;
         }
-        let is_it = line.starts_with(b"tick ") || line.starts_with(b"event ");
-        if is_it && !is_skipped(line) {
+        let is_tick = line.starts_with(b"tick ") || line.starts_with(b"ticks ");
+        if is_tick || line.starts_with(b"event ") {
             return Some(found);
         }
     }

@@ -10,8 +10,19 @@ use wordlines::{hex_of, number_of, parts_around_dot};
 pub(crate) struct Form {
     pub word: &'static str,
     pub fields: &'static [Field],
+    /// What may stand behind them, in this order.
+    pub parts: &'static [Part],
     /// A line as it could read.
     pub example: &'static str,
+}
+
+/// A word that may stand on a line, with words of its own behind it.
+#[derive(Clone, Copy)]
+pub(crate) struct Part {
+    word: &'static str,
+    fields: &'static [Field],
+    /// Whether it may stand there more than once.
+    repeats: bool,
 }
 
 /// A word of a line.
@@ -50,6 +61,7 @@ pub(crate) const BINDING: &[Form] = &[
     Form {
         word: "buses",
         fields: &[Field::Number("number of buses", 1, 64)],
+        parts: &[],
         example: "buses 1",
     },
     Form {
@@ -60,12 +72,36 @@ pub(crate) const BINDING: &[Form] = &[
             Field::First,
             Field::Second,
         ],
+        parts: &[],
         example: "source 0.0 device-instance 5 2",
     },
     Form {
         word: "tries",
         fields: &[BUS, Field::Number("number of attempts", 1, 5)],
+        parts: &[],
         example: "tries 0 5",
+    },
+];
+
+/// How control gear begins.
+const GEAR_PARTS: &[Part] = &[
+    Part {
+        word: "level",
+        fields: &[Field::Number("level", 0, 254)],
+        repeats: false,
+    },
+    Part {
+        word: "group",
+        fields: &[Field::Number("group", 0, 15)],
+        repeats: true,
+    },
+    Part {
+        word: "scene",
+        fields: &[
+            Field::Number("scene", 0, 15),
+            Field::Number("level of the scene", 0, 255),
+        ],
+        repeats: true,
     },
 ];
 
@@ -74,11 +110,13 @@ pub(crate) const SCENARIO: &[Form] = &[
     Form {
         word: "gear",
         fields: &[BUS, SHORT],
+        parts: GEAR_PARTS,
         example: "gear 0 5",
     },
     Form {
         word: "lampfailure",
         fields: &[BUS, SHORT],
+        parts: &[],
         example: "lampfailure 0 5",
     },
     Form {
@@ -90,11 +128,13 @@ pub(crate) const SCENARIO: &[Form] = &[
             Field::Number("offset", 0, 255),
             Field::Number("value", 0, 255),
         ],
+        parts: &[],
         example: "memory 0 5 0 3 17",
     },
     Form {
         word: "device",
         fields: &[BUS, SHORT],
+        parts: &[],
         example: "device 0 3",
     },
     Form {
@@ -107,6 +147,7 @@ pub(crate) const SCENARIO: &[Form] = &[
             Field::Number("event scheme", 0, 4),
             Field::Number("input value", 0, 255),
         ],
+        parts: &[],
         example: "instance 0 3 2 1 2 0",
     },
     Form {
@@ -116,21 +157,35 @@ pub(crate) const SCENARIO: &[Form] = &[
             Field::Number("number of the frame", 1, u64::MAX),
             Field::OneOf("fate of the frame", &["lost", "damaged", "fault"]),
         ],
+        parts: &[],
         example: "reply 0 3 lost",
     },
     Form {
         word: "hearfault",
         fields: &[BUS],
+        parts: &[],
         example: "hearfault 0",
     },
     Form {
         word: "tick",
         fields: &[MOMENT],
+        parts: &[],
         example: "tick 1000",
+    },
+    Form {
+        word: "ticks",
+        fields: &[
+            Field::Number("first moment", 0, u64::MAX),
+            Field::Number("last moment", 0, u64::MAX),
+            Field::Number("time from one to the next", 1, u64::MAX),
+        ],
+        parts: &[],
+        example: "ticks 0 60000 1000",
     },
     Form {
         word: "event",
         fields: &[BUS, Field::Frame],
+        parts: &[],
         example: "event 0 048402",
     },
 ];
@@ -257,17 +312,80 @@ pub(crate) fn check_words(
         Some(found) => found.word,
         None => form.word.as_bytes(),
     };
-    for (index, field) in form.fields.iter().enumerate() {
-        let Some(found) = words.get(index.saturating_add(1)) else {
-            return Ok(Some(missing(alloc, *field, scheme, len)?));
-        };
-        if !field.is_met(found.word, scheme) {
-            return Ok(Some(unmet(alloc, *field, *found, scheme)?));
-        }
+    let row = Row { words, scheme, len };
+    let mut next = 1;
+    if let Some(reason) = row.check_fields(alloc, form.fields, next)? {
+        return Ok(Some(reason));
     }
-    match words.get(form.fields.len().saturating_add(1)) {
-        Some(more) => Ok(Some(too_many(alloc, *more)?)),
+    next = next.saturating_add(form.fields.len());
+    for part in form.parts {
+        let (end, reason) = row.check_part(alloc, part, next)?;
+        if reason.is_some() {
+            return Ok(reason);
+        }
+        next = end;
+    }
+    match words.get(next) {
+        Some(more) => Ok(Some(too_many(alloc, *more, form.parts)?)),
         None => Ok(None),
+    }
+}
+
+/// The words of a line, the scheme of a source that it may have, and how long the line is.
+#[derive(Clone, Copy)]
+struct Row<'a> {
+    words: &'a [Placed<'a>],
+    scheme: &'a [u8],
+    len: usize,
+}
+
+impl Row<'_> {
+    /// Why the words from a place on are bad, each of which has to be as a field says.
+    fn check_fields(
+        &self,
+        alloc: Global,
+        fields: &[Field],
+        from: usize,
+    ) -> Result<Option<Reason>, AllocError> {
+        for (index, field) in fields.iter().enumerate() {
+            let Some(found) = self.words.get(from.saturating_add(index)) else {
+                return Ok(Some(missing(alloc, *field, self.scheme, self.len)?));
+            };
+            if !field.is_met(found.word, self.scheme) {
+                return Ok(Some(unmet(alloc, *field, *found, self.scheme)?));
+            }
+        }
+        Ok(None)
+    }
+
+    /// Where the words of a part end that stand from a place on, or why one of them is bad.
+    fn check_part(
+        &self,
+        alloc: Global,
+        part: &Part,
+        from: usize,
+    ) -> Result<(usize, Option<Reason>), AllocError> {
+        let mut next = from;
+        for _ in 0..self.words.len() {
+            if !self.has(next, part.word) {
+                break;
+            }
+            let first = next.saturating_add(1);
+            let reason = self.check_fields(alloc, part.fields, first)?;
+            next = first.saturating_add(part.fields.len());
+            if reason.is_some() || !part.repeats {
+                return Ok((next, reason));
+            }
+        }
+        Ok((next, None))
+    }
+
+    /// Whether this word stands at a place.
+    fn has(&self, place: usize, word: &str) -> bool {
+        match self.words.get(place) {
+            Some(found) => found.word == word.as_bytes(),
+            None => false,
+        }
     }
 }
 
@@ -341,10 +459,12 @@ fn is_number(word: &[u8]) -> bool {
     number_of(word, u64::MAX).is_some()
 }
 
-/// A word too many.
-fn too_many(alloc: Global, more: Placed<'_>) -> Result<Reason, AllocError> {
+/// A word too many on a line of these parts.
+fn too_many(alloc: Global, more: Placed<'_>, parts: &[Part]) -> Result<Reason, AllocError> {
     let cure = if more.word.starts_with(b"#") {
         "give a comment a line of its own"
+    } else if parts.iter().any(|part| part.word.as_bytes() == more.word) {
+        "give the level once, then the groups, and then the scenes"
     } else {
         "leave out what stands here, or give it a line of its own"
     };

@@ -51,6 +51,9 @@ pub(crate) fn add_scenario_notes(
     let mut rest = played.bytes;
     let mut number: usize = 0;
     for statement in played.scenario.lines() {
+        if is_tick(statement) {
+            continue;
+        }
         let (line, after) = next_statement(rest);
         number = number.saturating_add(line);
         rest = after;
@@ -60,7 +63,12 @@ pub(crate) fn add_scenario_notes(
     comparison.add_lacking_gear(notes, plan, &levels)
 }
 
-/// How many lines the next statement and what is skipped before it are, and what stands after it.
+/// Whether a statement is a tick: there is no note on any, and one line may say many.
+fn is_tick(statement: &Statement) -> bool {
+    matches!(statement, Statement::Tick { .. })
+}
+
+/// How many lines the next statement but a tick and all before it are, and what stands after it.
 fn next_statement(bytes: &[u8]) -> (usize, &[u8]) {
     let mut rest = bytes;
     let mut count: usize = 0;
@@ -71,7 +79,7 @@ fn next_statement(bytes: &[u8]) -> (usize, &[u8]) {
         let (line, after) = first_line(rest);
         rest = after;
         count = count.saturating_add(1);
-        if !is_skipped(line) {
+        if !is_skipped(line) && !line.starts_with(b"tick") {
             break;
         }
     }

@@ -18,7 +18,7 @@ use Rattle.plantplay.specs.PlaySteps.{IsFollowed, IsHalted, IsHaltedAt, StopsAt}
 -- no more happens than there are statements
 pub few_happenings : (statements : List Statement) → length (happenings statements) ≤ length statements
 few_happenings [] = omega arith
-few_happenings (statement.Gear bus short ∷ more) = let few = few_happenings more in omega arith
+few_happenings (statement.Gear bus short start ∷ more) = let few = few_happenings more in omega arith
 few_happenings (statement.LampFailure bus short ∷ more) = let few = few_happenings more in omega arith
 few_happenings (statement.Memory bus short bank offset value ∷ more) = let few = few_happenings more in omega arith
 few_happenings (statement.Device bus short ∷ more) = let few = few_happenings more in omega arith

@@ -27,7 +27,7 @@ moments_of happenings = filter_map moment_of happenings
 -- those of all that happens are the ticks of the statements
 pub ticks_of_all : (statements : List Statement) → moments_of (happenings statements) ≡ ticks statements
 ticks_of_all [] = refl
-ticks_of_all (statement.Gear bus short ∷ more) = ticks_of_all more
+ticks_of_all (statement.Gear bus short start ∷ more) = ticks_of_all more
 ticks_of_all (statement.LampFailure bus short ∷ more) = ticks_of_all more
 ticks_of_all (statement.Memory bus short bank offset value ∷ more) = ticks_of_all more
 ticks_of_all (statement.Device bus short ∷ more) = ticks_of_all more

@@ -45,7 +45,7 @@ arrivals_of b happenings = filter_map (arrival_of b) happenings
 pub arrivals_of_all : (b : ℕ) (statements : List Statement)
     → arrivals_of b (happenings statements) ≡ filter_map (arrival_on b) statements
 arrivals_of_all b [] = refl
-arrivals_of_all b (statement.Gear bus short ∷ more) = arrivals_of_all b more
+arrivals_of_all b (statement.Gear bus short start ∷ more) = arrivals_of_all b more
 arrivals_of_all b (statement.LampFailure bus short ∷ more) = arrivals_of_all b more
 arrivals_of_all b (statement.Memory bus short bank offset value ∷ more) = arrivals_of_all b more
 arrivals_of_all b (statement.Device bus short ∷ more) = arrivals_of_all b more

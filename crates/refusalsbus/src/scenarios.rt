@@ -33,3 +33,17 @@ pub fn falling_tick_is_refused(alloc: Global) -> bool
 {
     parse(alloc, b"tick 5\ntick 0").is_err()
 }
+
+/// `ticks_without_time_between_them`: a line might come to one moment without an end.
+pub fn ticks_without_time_between_them_are_refused(alloc: Global) -> bool
+    ensures { result ≡ true }
+{
+    parse(alloc, b"ticks 0 5 0").is_err()
+}
+
+/// `group_taken_as_scene`: a scene might stand before the groups.
+pub fn group_behind_a_scene_is_refused(alloc: Global) -> bool
+    ensures { result ≡ true }
+{
+    parse(alloc, b"gear 0 5 scene 1 9 group 1").is_err()
+}

@@ -15,8 +15,9 @@ pub(crate) struct Lamp {
     address: u8,
 }
 
-/// Adds a row for each level that the text declares, in its order, and then for the other control
-/// gear of the scenario. What the rows show.
+/// Adds a row for each level that the text declares, in its order, behind that of a group also for
+/// the control gear that begins in it, and then for the other control gear of the scenario. Gear of
+/// which the text declares a level has the row of that. What the rows show.
 pub(crate) fn add_lamps(
     alloc: Global,
     plan: &Plan,
@@ -25,29 +26,84 @@ pub(crate) fn add_lamps(
 ) -> Result<Vec<Lamp>, AllocError> {
     let mut lamps = Vec::new(alloc);
     for number in 0..plan.globals() {
-        if let Some(Location::Level { bus, address }) = plan.global(number).location {
-            let lamp = Lamp { bus, address };
+        if let Some(lamp) = declared_by(plan, number) {
             let name = plan.global_name(number).to_string(alloc)?;
+            rows.push(row_of(alloc, lamp, scenario, name)?)?;
+            lamps.push(lamp)?;
+            if lamp.is_group() {
+                add_gear(alloc, plan, scenario, Some(lamp), rows, &mut lamps)?;
+            }
+        }
+    }
+    add_gear(alloc, plan, scenario, None, rows, &mut lamps)?;
+    Ok(lamps)
+}
+
+/// Adds a row for each control gear of the scenario that has none: for that which begins in a
+/// group, where there is one, and of which the text declares no level; else for all.
+fn add_gear(
+    alloc: Global,
+    plan: &Plan,
+    scenario: &Scenario,
+    group: Option<Lamp>,
+    rows: &mut Vec<Row>,
+    lamps: &mut Vec<Lamp>,
+) -> Result<(), AllocError> {
+    for statement in scenario.lines() {
+        let Some(lamp) = gear_of(statement) else {
+            continue;
+        };
+        let is_meant = match group {
+            Some(group) => begins_in(statement, group) && !is_declared(plan, lamp),
+            None => lamp.bus < plan.buses(),
+        };
+        if is_meant && !lamps.contains(&lamp) {
+            let name = String::from_str(alloc, "-")?;
             rows.push(row_of(alloc, lamp, scenario, name)?)?;
             lamps.push(lamp)?;
         }
     }
-    for statement in scenario.lines() {
-        if let Some(lamp) = gear_of(statement) {
-            if lamp.bus < plan.buses() && !lamps.contains(&lamp) {
-                let name = String::from_str(alloc, "-")?;
-                rows.push(row_of(alloc, lamp, scenario, name)?)?;
-                lamps.push(lamp)?;
-            }
-        }
+    Ok(())
+}
+
+impl Lamp {
+    /// Whether it is a group.
+    fn is_group(self) -> bool {
+        64 <= self.address && self.address < 80
     }
-    Ok(lamps)
+}
+
+/// What the level of a global variable is of, where it is one.
+fn declared_by(plan: &Plan, number: usize) -> Option<Lamp> {
+    if number >= plan.globals() {
+        return None;
+    }
+    match plan.global(number).location {
+        Some(Location::Level { bus, address }) => Some(Lamp { bus, address }),
+        _ => None,
+    }
+}
+
+/// Whether the text declares a level of a lamp.
+fn is_declared(plan: &Plan, lamp: Lamp) -> bool {
+    (0..plan.globals()).any(|number| declared_by(plan, number) == Some(lamp))
+}
+
+/// Whether a statement has control gear begin in a group.
+fn begins_in(statement: &Statement, group: Lamp) -> bool {
+    match statement {
+        Statement::Gear { bus, start, .. } if bus.number() == group.bus => {
+            let place = usize::from(group.address.saturating_sub(64));
+            start.groups.get(place).copied().unwrap_or(false)
+        }
+        _ => false,
+    }
 }
 
 /// The control gear that a statement declares.
 fn gear_of(statement: &Statement) -> Option<Lamp> {
     match statement {
-        Statement::Gear { bus, short } => Some(Lamp {
+        Statement::Gear { bus, short, .. } => Some(Lamp {
             bus: bus.number(),
             address: short.number(),
         }),
@@ -55,18 +111,25 @@ fn gear_of(statement: &Statement) -> Option<Lamp> {
     }
 }
 
-/// The row of a lamp with a name. Control gear of the scenario is off before the first frame; of
-/// other addresses no level is known.
+/// The level at which control gear of a scenario begins; of other addresses none is known.
+fn first_level(lamp: Lamp, scenario: &Scenario) -> Option<u8> {
+    for statement in scenario.lines() {
+        if let Statement::Gear { start, .. } = statement {
+            if gear_of(statement) == Some(lamp) {
+                return Some(start.level);
+            }
+        }
+    }
+    None
+}
+
+/// The row of a lamp with a name.
 fn row_of(alloc: Global, lamp: Lamp, scenario: &Scenario, name: String) -> Result<Row, AllocError> {
-    let is_gear = scenario
-        .lines()
-        .iter()
-        .any(|statement| gear_of(statement) == Some(lamp));
-    let level = if is_gear { Some(0) } else { None };
+    let level = first_level(lamp, scenario);
     let bus = lamp.bus;
     let place = match lamp.address {
         80 => format!(in alloc; "all gear, bus {bus}")?,
-        address if is_gear => format!(in alloc; "gear {address}, bus {bus}")?,
+        address if level.is_some() => format!(in alloc; "gear {address}, bus {bus}")?,
         group @ 64..=79 => format!(in alloc; "group {}, bus {bus}", group - 64)?,
         address => format!(in alloc; "no gear {address}, bus {bus}")?,
     };

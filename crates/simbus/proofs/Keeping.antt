@@ -213,16 +213,16 @@ pub sent_more : (sent new : List Sent) (s : Sent) → new ≡ sent ++ s ∷ [] �
 sent_more sent new s e = rw (e, reverse-append) refl
 
 found_or : (b : Bool) (h : List Sent) (g : Gear) (x : Option LiveGear) (y : Option Gear) →
-    option_map (λ (live : LiveGear). live.variables) x ≡ option_map (λ (gear : Gear). gear_variables gear.address h) y →
+    option_map (λ (live : LiveGear). live.variables) x ≡ option_map (λ (gear : Gear). gear_variables gear h) y →
     option_map (λ (live : LiveGear). live.variables) (cond b (Some (live_gear h g)) x) ≡ option_map
-    (λ (gear : Gear). gear_variables gear.address h) (cond b (Some g) y)
+    (λ (gear : Gear). gear_variables gear h) (cond b (Some g) y)
 found_or false h g x y e = e
 found_or true h g x y e = refl
 
 found : (h : List Sent) (address : ℕ) (gears : List Gear) →
     option_map (λ (live : LiveGear). live.variables)
     (find (λ (live : LiveGear). live.gear.address == address) (map (live_gear h) gears))
-    ≡ option_map (λ (gear : Gear). gear_variables gear.address h)
+    ≡ option_map (λ (gear : Gear). gear_variables gear h)
     (find (λ (gear : Gear). gear.address == address) gears)
 found h address [] = refl
 found h address (g ∷ gears) = found_or (g.address == address) h g _ _ (found h address gears)

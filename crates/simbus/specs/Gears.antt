@@ -1,8 +1,8 @@
--- What the variables of simulated control gear become by a frame, and what the gear answers (IEC 62386-102, clauses 9
--- to 11,
+-- What the variables of simulated control gear are at first, and become by a frame (IEC 62386-102, clauses 9 to 11,
 -- with the levels MIN 1 and MAX 254, and without fading).
 use Rattle.std.specs.Prelude.{ℕ, ◌+◌, ◌-◌, ◌==◌, nat_le, min, max, Bool, true, false, if◌then◌else◌, replicate}
 use Rattle.std.specs.Prelude.{slice_index, slice_index_or, slice_set}
+use Rattle.wordlines.specs.declared.statements.GearStart.{GearStart}
 use Rattle.simbus.specs.declared.commands.GearAction.{GearAction}
 use Rattle.simbus.specs.declared.commands.GearAction.TheVariants as action
 use Rattle.simbus.specs.declared.commands.Setting.{Setting}
@@ -29,13 +29,13 @@ max_level = 254
 abbrev pub mask : ℕ
 mask = 255
 
--- before any frame: off, last active at MAX LEVEL, no level in any scene, in no group
-abbrev pub new_variables : GearVariables
-new_variables = record {
-  level = 0;
-  last_active = max_level;
-  scenes = replicate 16 mask;
-  groups = replicate 16 false;
+-- before any frame: as the scenario has it begin, and last active at that level, or at MAX LEVEL where it begins off
+abbrev pub start_variables : GearStart → GearVariables
+start_variables start = record {
+  level = start.level;
+  last_active = if start.level == 0 then max_level else start.level;
+  scenes = start.scenes;
+  groups = start.groups;
   dtr0 = 0;
   dtr1 = 0;
 }

@@ -1,6 +1,5 @@
 -- The simulated bus as a function of the list of all frames that were sent on it, each with what became of it. The
--- lists
--- here begin with the last frame.
+-- lists here begin with the last frame.
 use Rattle.std.specs.Prelude.{◌≡◌, ℕ, ◌+◌, ◌%◌, ◌==◌, Bool, true, false, ◌&&◌, if◌then◌else◌, Option, option_map, find}
 use Rattle.std.specs.Prelude.{List, [], ◌∷◌, ◌++◌}
 use Rattle.std.specs.List.{filter_map}
@@ -15,7 +14,7 @@ use Rattle.simbus.specs.declared.gears.GearVariables.{GearVariables}
 use Rattle.simbus.specs.declared.gears.MemoryByte.{MemoryByte}
 use Rattle.simbus.specs.declared.instances.InputInstance.{InputInstance}
 use Rattle.simbus.specs.declared.instances.InstanceVariables.{InstanceVariables}
-use Rattle.simbus.specs.Gears.{new_variables, after_frame}
+use Rattle.simbus.specs.Gears.{start_variables, after_frame}
 use Rattle.simbus.specs.Answers.{gear_answer, reply_of}
 use Rattle.simbus.specs.Instances.{variables_of, instance_after_frame, dtr0_after_frame, instance_answer}
 
@@ -43,12 +42,12 @@ run_of frame (s ∷ earlier) = if is_reached s.mark && same_frame s.frame frame 
 abbrev pub is_pair : Frame → List Sent → Bool
 is_pair frame earlier = (run_of frame earlier + 1) % 2 == 0
 
--- the variables of the gear at a short address
-abbrev pub gear_variables : ℕ → List Sent → GearVariables
-gear_variables address [] = new_variables
-gear_variables address (s ∷ earlier) =
-    if is_reached s.mark then after_frame (is_pair s.frame earlier) address s.frame (gear_variables address earlier)
-    else gear_variables address earlier
+-- the variables of gear
+abbrev pub gear_variables : Gear → List Sent → GearVariables
+gear_variables gear [] = start_variables gear.start
+gear_variables gear (s ∷ earlier) =
+    if is_reached s.mark then after_frame (is_pair s.frame earlier) gear.address s.frame (gear_variables gear earlier)
+    else gear_variables gear earlier
 
 -- DTR0 of the control devices
 abbrev pub device_dtr0 : List Sent → ℕ
@@ -74,7 +73,7 @@ pub record Setup : Type 0 where
 -- the answers to a frame, after these frames
 abbrev pub answers : Setup → List Sent → Frame → List ℕ
 answers setup earlier frame =
-    filter_map (λ (gear : Gear). gear_answer setup.memory frame gear (gear_variables gear.address earlier)) setup.gears
+    filter_map (λ (gear : Gear). gear_answer setup.memory frame gear (gear_variables gear earlier)) setup.gears
     ++ filter_map
     (λ (instance : InputInstance). instance_answer frame instance (instance_variables instance earlier)) setup.instances
 
@@ -85,7 +84,7 @@ answer_of setup earlier frame = reply_of (answers setup earlier frame)
 -- the variables of the gear at a short address, where there is gear
 abbrev pub variables_at : Setup → List Sent → ℕ → Option GearVariables
 variables_at setup earlier address =
-    option_map (λ (gear : Gear). gear_variables gear.address earlier)
+    option_map (λ (gear : Gear). gear_variables gear earlier)
     (find (λ (gear : Gear). gear.address == address) setup.gears)
 
 -- the variables of an instance of a control device by its short address and number, where it is declared

@@ -19,7 +19,7 @@ use Rattle.simbus.specs.Histories.{Setup, same_frame, is_pair, gear_variables, d
 
 -- gear and an instance with their variables after these frames
 abbrev pub live_gear : List Sent → Gear → LiveGear
-live_gear earlier gear = record { gear = gear; variables = gear_variables gear.address earlier }
+live_gear earlier gear = record { gear = gear; variables = gear_variables gear earlier }
 
 abbrev pub live_instance : List Sent → InputInstance → LiveInstance
 live_instance earlier instance = record { instance = instance; variables = instance_variables instance earlier }

@@ -1,6 +1,7 @@
 -- What the statements of a scenario say of one bus.
 use Rattle.std.specs.Prelude.{ℕ, ◌==◌, Bool, false, ◌&&◌, if◌then◌else◌, Option, Some, None, List}
 use Rattle.std.specs.List.{list_any}
+use Rattle.wordlines.specs.declared.statements.GearStart.{GearStart}
 use Rattle.wordlines.specs.declared.statements.Statement.{Statement}
 use Rattle.wordlines.specs.declared.statements.Statement.TheVariants as statement
 use Rattle.simbus.specs.declared.gears.Gear.{Gear}
@@ -15,15 +16,15 @@ abbrev pub has_lamp_failure : ℕ → ℕ → Statement → Bool
 has_lamp_failure bus gear (statement.LampFailure on short) = on == bus && short == gear
 has_lamp_failure bus gear _ = false
 
--- gear at a short address, whose lamp failed where one of these statements says so
-abbrev pub gear_with_lamp : ℕ → List Statement → ℕ → Gear
-gear_with_lamp bus statements address =
-    record { address = address; lamp_failure = list_any (has_lamp_failure bus address) statements }
+-- gear at a short address that begins so, whose lamp failed where one of these statements says so
+abbrev pub gear_with_lamp : ℕ → List Statement → ℕ → GearStart → Gear
+gear_with_lamp bus statements address start =
+    record { address = address; lamp_failure = list_any (has_lamp_failure bus address) statements; start = start }
 
--- what a statement, one of these, says of this bus: gear, with its lamp
+-- what a statement, one of these, says of this bus: gear, with its lamp and how it begins
 abbrev pub gear_on : ℕ → List Statement → Statement → Option Gear
-gear_on bus statements (statement.Gear on short) =
-    if on == bus then Some (gear_with_lamp bus statements short) else None
+gear_on bus statements (statement.Gear on short start) =
+    if on == bus then Some (gear_with_lamp bus statements short start) else None
 gear_on bus statements _ = None
 
 abbrev pub memory_on : ℕ → Statement → Option MemoryByte

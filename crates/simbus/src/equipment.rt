@@ -153,7 +153,7 @@ fn live_gears(alloc: Global, gears: &[Gear]) -> Result<Vec<LiveGear>, AllocError
         .iter()
         .map(|gear| LiveGear {
             gear: *gear,
-            variables: GearVariables::new(),
+            variables: GearVariables::new(&gear.start),
         })
         .collect(alloc)
 }

@@ -1,11 +1,12 @@
 //! Simulated control gear.
 ghost use Rattle.std.specs.Prelude.{◌≡◌};
-ghost use Rattle.simbus.specs.Gears.{new_variables, at_level, to_level, after_action, with_scene};
+ghost use Rattle.simbus.specs.Gears.{start_variables, at_level, to_level, after_action, with_scene};
 ghost use Rattle.simbus.specs.Gears.{with_member, after_setting, is_addressed, after_command};
 ghost use Rattle.simbus.specs.Gears.{after_fields};
 
 use crate::commands::{GearAction, GearCommand, SceneOrGroup, Setting};
 use daliframe::{Address, Fields16, ShortAddress};
+use wordlines::GearStart;
 
 /// The least level of simulated gear but for 0, which is off.
 pub(crate) const MIN_LEVEL: u8 = 1;
@@ -19,6 +20,7 @@ const MASK: u8 = 255;
 pub struct Gear {
     pub address: ShortAddress,
     pub lamp_failure: bool,
+    pub start: GearStart,
 }
 
 /// A byte of a memory bank of simulated control gear.
@@ -47,15 +49,16 @@ pub struct GearVariables {
 }
 
 impl GearVariables {
-    /// The variables of gear that no frame reached: off, in no group, with no scene.
-    pub(crate) fn new() -> Self
-        ensures { result ≡ new_variables }
+    /// The variables of gear that no frame reached, which begins so.
+    pub(crate) fn new(start: &GearStart) -> Self
+        ensures { result ≡ start_variables start.now }
     {
+        let level = start.level;
         GearVariables {
-            level: 0,
-            last_active: MAX_LEVEL,
-            scenes: [MASK; 16],
-            groups: [false; 16],
+            level,
+            last_active: if level == 0 { MAX_LEVEL } else { level },
+            scenes: start.scenes,
+            groups: start.groups,
             dtr0: 0,
             dtr1: 0,
         }

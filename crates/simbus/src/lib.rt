@@ -33,4 +33,4 @@ pub use instances::{InputInstance, InstanceVariables};
 pub use scripts::ScriptedReply;
 pub use setups::BusSetup;
 pub use staged::{Scene, Staged};
-pub use wordlines::{FrameFate, Scenario, ScenarioFault, Statement, parse};
+pub use wordlines::{FrameFate, GearStart, Scenario, ScenarioFault, Statement, parse};

@@ -7,7 +7,7 @@ ghost use Rattle.simbus.specs.Setups.{has_lamp_failure, gear_with_lamp};
 use crate::{Arrival, Gear, InputInstance, MemoryByte, ScriptedReply};
 use daliframe::{BusNumber, ShortAddress};
 use std::alloc::{AllocError, Global};
-use wordlines::{Scenario, Statement};
+use wordlines::{GearStart, Scenario, Statement};
 
 /// What a scenario says of one bus.
 #[derive(Drop)]
@@ -146,24 +146,32 @@ fn has_failed_lamp(statements: &[Statement], bus: BusNumber, address: ShortAddre
         .any(|statement| has_lamp_failure(statement, bus, address))
 }
 
-/// Gear at a short address, with its lamp as these statements say.
-fn gear_with_lamp(statements: &[Statement], bus: BusNumber, address: ShortAddress) -> Gear
-    ensures { result ≡ gear_with_lamp bus statements.now address }
+/// Gear at a short address that begins so, with its lamp as these statements say.
+fn gear_with_lamp(
+    statements: &[Statement],
+    bus: BusNumber,
+    address: ShortAddress,
+    start: GearStart,
+) -> Gear
+    ensures { result ≡ gear_with_lamp bus statements.now address start }
 {
     Gear {
         address,
         lamp_failure: has_failed_lamp(statements, bus, address),
+        start,
     }
 }
 
-/// The gear that a statement, one of these, declares on a bus, with its lamp.
+/// The gear that a statement, one of these, declares on a bus, with its lamp and how it begins.
 fn gear_on(statement: &Statement, statements: &[Statement], bus: BusNumber) -> Option<Gear>
     ensures { result ≡ gear_on bus statements.now statement.now }
 {
     match statement {
-        Statement::Gear { bus: on, short } if on.number() == bus.number() => Some(gear_with_lamp(
-            statements, bus, *short,
-        )),
+        Statement::Gear {
+            bus: on,
+            short,
+            start,
+        } if on.number() == bus.number() => Some(gear_with_lamp(statements, bus, *short, *start)),
         _ => None,
     }
 }

@@ -21,7 +21,7 @@ grouped false b c = refl
 
 -- a statement makes its own declaration alone
 found : (declaration : Declaration) (next : Statement) → declares declaration next ≡ is_own (declared_by next) declaration
-found (Gear bus short) (statement.Gear on at) = refl
+found (Gear bus short) (statement.Gear on at start) = refl
 found (Gear bus short) (statement.LampFailure on at) = refl
 found (Gear bus short) (statement.Memory on at bank offset value) = refl
 found (Gear bus short) (statement.Device on at) = refl
@@ -30,7 +30,7 @@ found (Gear bus short) (statement.Reply on at fate) = refl
 found (Gear bus short) (statement.HearFault on) = refl
 found (Gear bus short) (statement.Tick moment) = refl
 found (Gear bus short) (statement.Event on frame) = refl
-found (Device bus short) (statement.Gear on at) = refl
+found (Device bus short) (statement.Gear on at start) = refl
 found (Device bus short) (statement.LampFailure on at) = refl
 found (Device bus short) (statement.Memory on at bank offset value) = refl
 found (Device bus short) (statement.Device on at) = refl
@@ -39,7 +39,7 @@ found (Device bus short) (statement.Reply on at fate) = refl
 found (Device bus short) (statement.HearFault on) = refl
 found (Device bus short) (statement.Tick moment) = refl
 found (Device bus short) (statement.Event on frame) = refl
-found (Instance bus short number) (statement.Gear on at) = refl
+found (Instance bus short number) (statement.Gear on at start) = refl
 found (Instance bus short number) (statement.LampFailure on at) = refl
 found (Instance bus short number) (statement.Memory on at bank offset value) = refl
 found (Instance bus short number) (statement.Device on at) = refl
@@ -49,7 +49,7 @@ found (Instance bus short number) (statement.Reply on at fate) = refl
 found (Instance bus short number) (statement.HearFault on) = refl
 found (Instance bus short number) (statement.Tick moment) = refl
 found (Instance bus short number) (statement.Event on frame) = refl
-found (Reply bus place) (statement.Gear on at) = refl
+found (Reply bus place) (statement.Gear on at start) = refl
 found (Reply bus place) (statement.LampFailure on at) = refl
 found (Reply bus place) (statement.Memory on at bank offset value) = refl
 found (Reply bus place) (statement.Device on at) = refl

@@ -2,6 +2,7 @@ pub mod BindingReading
 pub mod BoundSources
 pub mod CutParts
 pub mod Declarations
+pub mod GearStarts
 pub mod KnownStatements
 pub mod LineFiles
 pub mod LineReading
@@ -10,3 +11,4 @@ pub mod SaidTries
 pub mod ScenarioReading
 pub mod Spelled
 pub mod SpelledNumbers
+pub mod TickRows

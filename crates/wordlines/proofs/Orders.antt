@@ -2,28 +2,32 @@
 use Rattle.std.proofs.Common.{◌≡◌, ℕ, ◌≤◌, List, [], ◌∷◌, ◌++◌, Option, Some, None, sym, subst, append_assoc}
 use Rattle.std.proofs.Common.{append-nil, arith}
 use Rattle.std.specs.Prelude.{IfSome, unwrap_or, All}
-use Rattle.std.specs.List.{AllPairs, cons_option}
+use Rattle.std.specs.List.{AllPairs, cons_option, fold}
 use Rattle.std.proofs.lemmas.List.Elements.{All-nil, All-cons, All-weaker}
 use Rattle.std.proofs.lemmas.List.Kept.{AllPairs-cons}
 use Rattle.std.proofs.lemmas.List.Sums.{fold-append}
-use Rattle.wordlines.specs.Following.{Follows, FollowOneAnother, IsInTime, clock, clock_after}
+use Rattle.wordlines.specs.Following.{FollowOneAnother, IsInTime, clock, clock_after}
 use Rattle.wordlines.specs.Happenings.{tick_in, ticks}
 use Rattle.wordlines.specs.declared.statements.Statement.{Statement}
 use Rattle.wordlines.specs.declared.statements.Statement.TheVariants.{Gear, LampFailure, Memory, Device}
 use Rattle.wordlines.specs.declared.statements.Statement.TheVariants.{InputInstance, Reply, HearFault, Tick, Event}
 
--- one more statement
-pub follow-push : (before statements : List Statement) (statement : Statement) → FollowOneAnother before statements
-    → Follows (before ++ statements) statement
-    → FollowOneAnother before (statements ++ statement ∷ [])
-follow-push before [] statement order follows =
-    (subst (λ (es : List Statement). Follows es statement) (append-nil before) follows, tt)
-follow-push before (first ∷ statements) statement order follows = (
+-- more statements
+pub follow-append : (before statements more : List Statement) → FollowOneAnother before statements
+    → FollowOneAnother (before ++ statements) more
+    → FollowOneAnother before (statements ++ more)
+follow-append before [] more order follow =
+    subst (λ (es : List Statement). FollowOneAnother es more) (append-nil before) follow
+follow-append before (first ∷ statements) more order follow = (
   order.0,
-  follow-push (before ++ first ∷ []) statements statement order.1
-      (subst (λ (es : List Statement). Follows es statement) (sym (append_assoc before (first ∷ []) statements))
-      follows),
+  follow-append (before ++ first ∷ []) statements more order.1
+      (subst (λ (es : List Statement). FollowOneAnother es more) (sym (append_assoc before (first ∷ []) statements))
+      follow),
 )
+
+pub clock-append : (before statements : List Statement)
+    → clock (before ++ statements) ≡ fold clock_after (clock before) statements
+clock-append before statements = fold-append clock_after None before statements
 
 pub clock-push : (statements : List Statement) (statement : Statement)
     → clock (statements ++ statement ∷ []) ≡ clock_after (clock statements) statement
@@ -51,7 +55,7 @@ from_event (Some last) more rest = rest
 one_statement_more : (now : Option ℕ) (statement : Statement) (more : List ℕ) → IsInTime now statement
     → NoneBefore (clock_after now statement) more → NeverFall more
     → NoneBefore now (cons_option (tick_in statement) more) × NeverFall (cons_option (tick_in statement) more)
-one_statement_more now (Gear bus short) more in_time rest rise = (rest, rise)
+one_statement_more now (Gear bus short start) more in_time rest rise = (rest, rise)
 one_statement_more now (LampFailure bus short) more in_time rest rise = (rest, rise)
 one_statement_more now (Memory bus short bank offset value) more in_time rest rise = (rest, rise)
 one_statement_more now (Device bus short) more in_time rest rise = (rest, rise)

@@ -4,7 +4,7 @@ use Rattle.wordlines.proofs.LineReading as reading
 use Rattle.wordlines.specs.Scenarios.{scenario_rules, IsScenario, IsBadScenario}
 use Rattle.wordlines.specs.declared.statements.Statement.{Statement}
 
--- a line says one statement
+-- a line says one thing
 says_one : reading.SayOne scenario_rules
 says_one words e f s t = let same : Some e ≡ Some f = sym s ∙ t in cc
 

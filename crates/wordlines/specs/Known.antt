@@ -8,7 +8,7 @@ use Rattle.wordlines.specs.declared.statements.Statement.{Statement}
 use Rattle.wordlines.specs.declared.statements.Statement.TheVariants as statement
 
 abbrev pub declared_by : Statement → Option Declaration
-declared_by (statement.Gear bus short) = Some (Gear bus short)
+declared_by (statement.Gear bus short start) = Some (Gear bus short)
 declared_by (statement.Device bus short) = Some (Device bus short)
 declared_by (statement.InputInstance bus short number kind scheme value) = Some (Instance bus short number)
 declared_by (statement.Reply bus place fate) = Some (Reply bus place)

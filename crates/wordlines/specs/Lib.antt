@@ -1,4 +1,5 @@
 pub mod Bindings
+pub mod Entries
 pub mod Following
 pub mod Happenings
 pub mod Known
@@ -9,5 +10,6 @@ pub mod Printed
 pub mod Saying
 pub mod Scenarios
 pub mod Spelling
+pub mod TickRows
 pub mod Wirings
 pub mod WordLines

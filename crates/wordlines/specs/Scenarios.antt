@@ -1,20 +1,22 @@
 -- Which bytes are a scenario, with its statements in order, and which line is at fault where they aren't one (profile).
-use Rattle.std.specs.Prelude.{◌≡◌, ℕ, List, [], ◌∷◌, ◌++◌, Some, Result, ⊤}
+use Rattle.std.specs.Prelude.{◌≡◌, ℕ, List, [], ◌++◌, Some, Result, ⊤}
 use Rattle.std.specs.Str.Lines.{lines}
 use Rattle.wordlines.specs.LineFiles.{LeadTo, AreBadAt, KeepSome, IsReport}
 use Rattle.wordlines.specs.LineRules.{LineRules}
 pub use Rattle.wordlines.specs.LineFiles.{GivesIfRoom, IsTooLong}
 use Rattle.wordlines.specs.declared.fault.LineFault.{LineFault}
 use Rattle.wordlines.specs.Saying.{said}
-use Rattle.wordlines.specs.Following.{Follows}
+use Rattle.wordlines.specs.Entries.{statements_of}
+use Rattle.wordlines.specs.Following.{MayStand}
+use Rattle.wordlines.specs.declared.entries.ScenarioEntry.{ScenarioEntry}
 use Rattle.wordlines.specs.declared.statements.Statement.{Statement}
 
 -- the rules of the lines of a scenario: the state is the statements so far
-abbrev pub scenario_rules : LineRules Statement (List Statement)
+abbrev pub scenario_rules : LineRules ScenarioEntry (List Statement)
 scenario_rules = record {
-  Says = λ words statement. said words ≡ Some statement;
-  Follows = Follows;
-  after = λ statements statement. statements ++ statement ∷ [];
+  Says = λ words entry. said words ≡ Some entry;
+  Follows = MayStand;
+  after = λ statements entry. statements ++ statements_of entry;
 }
 
 -- the bytes are a scenario of these statements
@@ -25,11 +27,11 @@ IsScenario bytes statements = LeadTo scenario_rules [] bytes statements
 abbrev pub IsBadScenario : List ℕ → ℕ → Type 0
 IsBadScenario bytes line = AreBadAt scenario_rules [] bytes line
 
--- each statement is kept
-abbrev pub IsKept : Statement → Type 0
-IsKept statement = ⊤
+-- what a line stands for is kept
+abbrev pub IsKept : ScenarioEntry → Type 0
+IsKept entry = ⊤
 
--- some line adds a statement to those of the lines before it
+-- some line adds statements to those of the lines before it
 abbrev pub AddsSome : List (List ℕ) → Type 0
 AddsSome all = KeepSome scenario_rules [] IsKept all
 

@@ -1,8 +1,8 @@
 -- Lines of words (profile): a line ends with LF or CR LF, and the last needs no end; between two words stands exactly
 -- one space (32). Empty lines and those that begin with `#` (35) are skipped. Numbers are digits alone, and may begin
 -- with 0.
-use Rattle.std.specs.Prelude.{◌≡◌, ℕ, ◌==◌, nat_lt, nat_le, Bool, true, ◌&&◌, if◌then◌else◌, List, [], ◌∷◌, length}
-use Rattle.std.specs.Prelude.{Option, Some, None, option_map, ⊤}
+use Rattle.std.specs.Prelude.{◌≡◌, ℕ, ◌==◌, nat_lt, nat_le, Bool, true, false, ◌&&◌, if◌then◌else◌, List, [], ◌∷◌}
+use Rattle.std.specs.Prelude.{Option, Some, None, option_map, length, bytes_eq, ⊤}
 use Rattle.std.specs.List.{slice_split}
 use Rattle.std.specs.Char.{digit_value}
 use Rattle.std.specs.Str.Parse.{digits_value}
@@ -41,6 +41,16 @@ number_in most (word ∷ rest) = option_map (λ number. (number, rest)) (number_
 abbrev pub IsTaken : ℕ → List (List ℕ) → List (List ℕ) → Option ℕ → Type 0
 IsTaken most before after None = number_in most before ≡ None
 IsTaken most before after (Some number) = number_in most before ≡ Some (number, after)
+
+-- the words after this one, where it is the first
+abbrev pub after_word : List ℕ → List (List ℕ) → Option (List (List ℕ))
+after_word keyword [] = None
+after_word keyword (word ∷ rest) = if bytes_eq word keyword then Some rest else None
+
+-- this word was taken from those that were left, where it was the first, and these are left now; else nothing was
+abbrev pub IsWordTaken : List ℕ → List (List ℕ) → List (List ℕ) → Bool → Type 0
+IsWordTaken keyword before after true = after_word keyword before ≡ Some after
+IsWordTaken keyword before after false = (after_word keyword before ≡ None) × (after ≡ before)
 
 -- the parts between the marks of what stands after one
 abbrev pub parts_of : ℕ → Option (List ℕ) → List (List ℕ)

@@ -1,16 +1,42 @@
 //! Which statement may stand after which.
 
-ghost use Rattle.std.specs.Prelude.{◌≡◌, ◌≤◌, ◌↔◌, IsTrue, IfSome, None};
+ghost use Rattle.std.specs.Prelude.{◌≡◌, ◌+◌, ◌≤◌, ◌↔◌, length, IsTrue, IfSome, None};
 ghost use Rattle.std.specs.List.{list_any};
 ghost use Rattle.wordlines.specs.Following.{is_gear_at, is_device_at, is_instance_at, is_reply_to};
-ghost use Rattle.wordlines.specs.Following.{IsKnown, IsInTime, Follows, clock};
+ghost use Rattle.wordlines.specs.Following.{IsKnown, IsInTime, Follows, MayStand, clock};
+ghost use Rattle.wordlines.specs.Following.{most_statements};
+ghost use Rattle.wordlines.specs.TickRows.{further};
 
+use crate::entries::ScenarioEntry;
 use crate::known::{Declaration, Known};
 use crate::statements::Statement;
+use crate::tick_row::TickRow;
 use daliframe::{BusNumber, InstanceNumber, ShortAddress};
 
+/// As many statements as a file can have lines `tick 0`.
+const MOST_STATEMENTS: usize = (limits::MOST_BYTES + 1) / 7;
+
+/// Whether what a line stands for may stand after statements, at which the clock came to `now`.
+pub(crate) fn may_stand(before: &Known, now: Option<u64>, entry: &ScenarioEntry) -> bool
+    requires { now ≡ clock before.now }
+    ensures { IsTrue result ↔ MayStand before.now entry.now }
+{
+    match entry {
+        ScenarioEntry::One { statement } => may_follow(before, now, statement),
+        ScenarioEntry::Ticks { row } => is_upto(now, row.first()) && has_room(before, row),
+    }
+}
+
+/// Whether there is room for ticks behind statements.
+fn has_room(before: &Known, row: &TickRow) -> bool
+    ensures { IsTrue result ↔ (length before.now + (further row.now + 1) ≤ most_statements) }
+{
+    let room = MOST_STATEMENTS.saturating_sub(before.len());
+    row.further() < room as u64
+}
+
 /// Whether a statement may stand after those before it, at which the clock came to `now`.
-pub(crate) fn may_follow(before: &Known, now: Option<u64>, statement: &Statement) -> bool
+fn may_follow(before: &Known, now: Option<u64>, statement: &Statement) -> bool
     requires { now ≡ clock before.now }
     ensures { IsTrue result ↔ Follows before.now statement.now }
 {
@@ -58,7 +84,7 @@ fn is_known(before: &Known, statement: &Statement) -> bool
     ensures { IsTrue result ↔ IsKnown before.now statement.now }
 {
     match *statement {
-        Statement::Gear { bus, short } => !has_gear(before, bus, short),
+        Statement::Gear { bus, short, .. } => !has_gear(before, bus, short),
         Statement::LampFailure { bus, short } => has_gear(before, bus, short),
         Statement::Memory { bus, short, .. } => has_gear(before, bus, short),
         Statement::Device { bus, short } => !has_device(before, bus, short),

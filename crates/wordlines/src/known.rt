@@ -1,10 +1,15 @@
 //! The statements of a scenario so far, and what they declare.
 
-ghost use Rattle.std.specs.Prelude.{◌≡◌};
+ghost use Rattle.std.specs.Prelude.{◌≡◌, ◌+◌, ◌++◌, IfOk, OnErr, Err};
+ghost use Rattle.wordlines.specs.declared.fault.LineFault.TheVariants.{Memory};
+ghost use Rattle.wordlines.specs.Entries.{first_ticks, statements_of};
 ghost use Rattle.wordlines.specs.Known.{declared_by};
+ghost use Rattle.wordlines.specs.TickRows.{further};
 
+use crate::entries::ScenarioEntry;
 use crate::scenario_fault::ScenarioFault;
 use crate::statements::Statement;
+use crate::tick_row::TickRow;
 use std::alloc::Global;
 use std::collections::HashSet;
 use std::marker::Model;
@@ -46,10 +51,9 @@ impl Model for Known {
 }
 
 impl Known {
-    ghost use Rattle.std.specs.Prelude.{◌≡◌, [], ◌∷◌, ◌++◌, IfOk, OnErr, Err};
+    ghost use Rattle.std.specs.Prelude.{[], ◌∷◌, length};
     ghost use Rattle.std.specs.List.{list_any};
     ghost use Rattle.wordlines.specs.Known.{declares};
-    ghost use Rattle.wordlines.specs.declared.fault.LineFault.TheVariants.{Memory};
 
     /// No statements.
     pub(crate) fn new(alloc: Global) -> Known
@@ -59,6 +63,13 @@ impl Known {
             statements: Vec::new(alloc),
             declared: HashSet::new(alloc),
         }
+    }
+
+    /// How many they are.
+    pub(crate) fn len(&self) -> usize
+        ensures { result ≡ length self.now }
+    {
+        self.statements.len()
     }
 
     /// Whether one of them makes a declaration.
@@ -80,6 +91,17 @@ impl Known {
         Ok(self)
     }
 
+    /// These, and those that a line stands for.
+    pub(crate) fn with_entry(self, entry: &ScenarioEntry) -> Result<Known, ScenarioFault>
+        ensures more { IfOk result (λ more. more ≡ self ++ statements_of entry.now) }
+        ensures memory { OnErr result (result ≡ Err Memory) }
+    {
+        match entry {
+            ScenarioEntry::One { statement } => self.with(*statement),
+            ScenarioEntry::Ticks { row } => with_ticks(self, row),
+        }
+    }
+
     /// They alone.
     pub(crate) fn into_statements(self) -> Vec<Statement>
         ensures { result.items ≡ self }
@@ -88,12 +110,26 @@ impl Known {
     }
 }
 
+/// Statements, and a tick for each of a row.
+fn with_ticks(known: Known, row: &TickRow) -> Result<Known, ScenarioFault>
+    ensures more { IfOk result (λ more. more ≡ known ++ first_ticks row.now (further row.now + 1)) }
+    ensures memory { OnErr result (result ≡ Err Memory) }
+{
+    let moment = row.first();
+    let mut known = known.with(Statement::Tick { moment })?;
+    for place in 0..row.further() {
+        let moment = row.moment_at(place + 1);
+        known = known.with(Statement::Tick { moment })?;
+    }
+    Ok(known)
+}
+
 /// What a statement declares, where it declares something.
 fn declared_by(statement: &Statement) -> Option<Declaration>
     ensures { result ≡ declared_by statement.now }
 {
     match *statement {
-        Statement::Gear { bus, short } => Some(Declaration::Gear {
+        Statement::Gear { bus, short, .. } => Some(Declaration::Gear {
             bus: bus.number(),
             short: short.number(),
         }),

@@ -4,16 +4,18 @@ ghost use Rattle.std.specs.Prelude.{◌≡◌, ◌↔◌, ℕ, List, MatchOption
 ghost use Rattle.std.specs.Str.Lines.{lines};
 ghost use Rattle.wordlines.specs.WordLines.{IsSkipped};
 ghost use Rattle.wordlines.specs.LineRules.{Adds};
+ghost use Rattle.wordlines.specs.declared.entries.ScenarioEntry.{ScenarioEntry};
 ghost use Rattle.wordlines.specs.declared.statements.Statement.{Statement};
 ghost use Rattle.wordlines.specs.Following.{clock};
 ghost use Rattle.wordlines.specs.Scenarios.{scenario_rules, AddsSome, GivesIfRoom};
 ghost use Rattle.wordlines.specs.Scenarios.{IsBadScenario, IsJudged, IsScenario, IsTooLong};
 
-use crate::follow::may_follow;
+use crate::entries::ScenarioEntry;
+use crate::follow::may_stand;
 use crate::happenings::Happenings;
 use crate::known::Known;
 use crate::scenario_fault::ScenarioFault;
-use crate::scenario_lines::statement_of;
+use crate::scenario_lines::entry_of;
 use crate::statements::Statement;
 use crate::{LineCause, LineFault, LineState, read_lines};
 use std::alloc::Global;
@@ -64,7 +66,7 @@ impl Scenario {
 /// # Errors
 ///
 /// The first bad line, or line 1 where there are more than [`limits::MOST_BYTES`] bytes. Memory is
-/// refused only where a statement is to be kept, each of which is that of a line.
+/// refused only where a statement is to be kept, which a line stands for.
 pub fn parse(alloc: Global, bytes: &[u8]) -> Result<Scenario, ScenarioFault>
     ensures scenario { (statements : List Statement) → result ≡ Ok statements
         → IsScenario bytes.now statements }
@@ -120,9 +122,9 @@ impl Model for Read {
 
 impl LineState<Scenario> for Read {
     ghost use Rattle.wordlines.specs.Scenarios.{scenario_rules, IsKept};
-    ghost use Rattle.wordlines.specs.declared.statements.Statement.{Statement};
+    ghost use Rattle.wordlines.specs.declared.entries.ScenarioEntry.{ScenarioEntry};
 
-    ghost Entry = { Statement };
+    ghost Entry = { ScenarioEntry };
 
     ghost rules = { scenario_rules };
 
@@ -130,26 +132,26 @@ impl LineState<Scenario> for Read {
 
     fn after(self, line: &[u8]) -> Result<Option<Self>, ScenarioFault> {
         let Read { known, now } = self;
-        let Some(statement) = next_statement(&known, now, line) else {
+        let Some(entry) = next_entry(&known, now, line) else {
             return Ok(None);
         };
-        let known = known.with(statement)?;
-        let now = statement.clock_after(now);
+        let known = known.with_entry(&entry)?;
+        let now = entry.clock_after(now);
         Ok(Some(Read { known, now }))
     }
 }
 
-/// The statement that a line adds to those before it, at which the clock came to `now`.
-fn next_statement(before: &Known, now: Option<u64>, line: &[u8]) -> Option<Statement>
+/// What a line adds to statements, at which the clock came to `now`.
+fn next_entry(before: &Known, now: Option<u64>, line: &[u8]) -> Option<ScenarioEntry>
     requires read { ¬ (IsSkipped line.now) }
     requires clock { now ≡ clock before.now }
     ensures { MatchOption result
-        ((statement : Statement) → ¬ Adds scenario_rules before.now line.now statement)
+        ((entry : ScenarioEntry) → ¬ Adds scenario_rules before.now line.now entry)
         (Adds scenario_rules before.now line.now) }
 {
-    let statement = statement_of(line)?;
-    if may_follow(before, now, &statement) {
-        Some(statement)
+    let entry = entry_of(line)?;
+    if may_stand(before, now, &entry) {
+        Some(entry)
     } else {
         None
     }

@@ -3,27 +3,50 @@
 ghost use Rattle.std.specs.Prelude.{◌≡◌, ◌<◌, ◌-◌, Some, None, MatchOption};
 ghost use Rattle.wordlines.specs.WordLines.{words, IsTaken};
 ghost use Rattle.wordlines.specs.Saying.{said, said_after, gear_of, lamp_failure_of, memory_of};
+ghost use Rattle.wordlines.specs.Saying.{level_in, groups_in, scenes_in};
 ghost use Rattle.wordlines.specs.Saying.{device_of, instance_of, reply_of};
 ghost use Rattle.wordlines.specs.Saying.{scheme_in, scheme_with};
-ghost use Rattle.wordlines.specs.Saying.{hear_fault_of, tick_of, event_of, fate_of, fate_in};
+ghost use Rattle.wordlines.specs.Saying.{hear_fault_of, tick_of, ticks_of, event_of, fate_of};
+ghost use Rattle.wordlines.specs.Saying.{fate_in};
 ghost use Rattle.wordlines.specs.Saying.{frame_in, at_end};
 
-use crate::statements::{FrameFate, Statement};
+use crate::entries::ScenarioEntry;
+use crate::statements::{FrameFate, GearStart, Statement};
+use crate::tick_row::TickRow;
 use crate::{Words, hex_of};
 use daliframe::{
     BusNumber, EventScheme, Frame24, InstanceNumber, InstanceType, Number, ShortAddress,
 };
 
 /// What a line says that isn't skipped.
-pub(crate) fn statement_of(line: &[u8]) -> Option<Statement>
+pub(crate) fn entry_of(line: &[u8]) -> Option<ScenarioEntry>
     ensures { result ≡ said (words line.now) }
 {
     let mut words = Words::of(line);
     let keyword = words.next()?;
-    statement_after(keyword, words)
+    if keyword == b"ticks".as_slice() {
+        return ticks(words);
+    }
+    let statement = statement_after(keyword, words)?;
+    Some(ScenarioEntry::One { statement })
 }
 
-/// What the words after a keyword say.
+/// The numbers of `ticks from to every`.
+fn ticks(mut words: Words<'_>) -> Option<ScenarioEntry>
+    ensures { result ≡ ticks_of words.entry }
+{
+    let from = words.number(u64::MAX)?;
+    let to = words.number(u64::MAX)?;
+    let every = words.number(u64::MAX)?;
+    let row = TickRow::new(from, to, every)?;
+    if words.is_empty() {
+        Some(ScenarioEntry::Ticks { row })
+    } else {
+        None
+    }
+}
+
+/// What the words after a keyword of one statement say.
 fn statement_after(keyword: &[u8], words: Words<'_>) -> Option<Statement>
     ensures { result ≡ said_after keyword.now words.entry }
 {
@@ -50,13 +73,21 @@ fn statement_after(keyword: &[u8], words: Words<'_>) -> Option<Statement>
     }
 }
 
-/// The numbers of `gear b s`.
+/// The numbers of `gear b s`, and how the gear begins.
 fn gear(mut words: Words<'_>) -> Option<Statement>
     ensures { result ≡ gear_of words.entry }
 {
     let bus: BusNumber = next_number(&mut words)?;
     let short: ShortAddress = next_number(&mut words)?;
-    ended(&words, Statement::Gear { bus, short })
+    let level = level(&mut words)?;
+    let groups = groups(&mut words)?;
+    let scenes = scenes(&mut words)?;
+    let start = GearStart {
+        level,
+        groups,
+        scenes,
+    };
+    ended(&words, Statement::Gear { bus, short, start })
 }
 
 /// The numbers of `lampfailure b s`.
@@ -176,6 +207,45 @@ fn next_number<Of, const LIMIT: u8>(words: &mut Words<'_>) -> Option<Number<Of, 
     ensures { IsTaken (LIMIT - 1) words.old words.new result }
 {
     Number::new(words.byte(LIMIT - 1)?)
+}
+
+/// Takes `level l`, where it stands there: the level at which gear begins.
+fn level(words: &mut Words<'_>) -> Option<u8>
+    ensures { MatchOption result (level_in words.old ≡ None)
+        (λ level. level_in words.old ≡ Some (level, words.new)) }
+{
+    if words.take(b"level") {
+        words.byte(254)
+    } else {
+        Some(0)
+    }
+}
+
+/// Takes `group g`, as often as it stands there: the groups in which gear begins.
+fn groups(words: &mut Words<'_>) -> Option<[bool; 16]>
+    ensures { MatchOption result (groups_in words.old ≡ None)
+        (λ groups. groups_in words.old ≡ Some (groups, words.new)) }
+{
+    let mut groups = [false; 16];
+    while words.take(b"group") {
+        let group = words.byte(15)?;
+        groups[usize::from(group)] = true;
+    }
+    Some(groups)
+}
+
+/// Takes `scene n l`, as often as it stands there: the levels of scenes with which gear begins.
+fn scenes(words: &mut Words<'_>) -> Option<[u8; 16]>
+    ensures { MatchOption result (scenes_in words.old ≡ None)
+        (λ scenes. scenes_in words.old ≡ Some (scenes, words.new)) }
+{
+    let mut scenes = [255; 16];
+    while words.take(b"scene") {
+        let scene = words.byte(15)?;
+        let level = words.byte(255)?;
+        scenes[usize::from(scene)] = level;
+    }
+    Some(scenes)
 }
 
 /// Takes the number of an event scheme.

@@ -13,13 +13,25 @@ pub enum FrameFate {
     Fault,
 }
 
+/// How control gear begins, before any frame.
+#[derive(Clone, Copy)]
+pub struct GearStart {
+    /// The actual level: 0 off, else 1 to 254.
+    pub level: u8,
+    /// Whether the gear is a member of each group.
+    pub groups: [bool; 16],
+    /// The level of each scene: 0 off, 1 to 254, 255 no level.
+    pub scenes: [u8; 16],
+}
+
 /// What a line of a scenario says.
 #[derive(Clone, Copy)]
 pub enum Statement {
-    /// There is a control gear.
+    /// There is a control gear, which begins so.
     Gear {
         bus: BusNumber,
         short: ShortAddress,
+        start: GearStart,
     },
     /// The lamp of a control gear failed.
     LampFailure {

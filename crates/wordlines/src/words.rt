@@ -23,7 +23,7 @@ impl<'a> Model for Words<'a> {
 }
 
 impl<'a> Words<'a> {
-    ghost use Rattle.wordlines.specs.WordLines.{words, IsTaken};
+    ghost use Rattle.wordlines.specs.WordLines.{words, IsTaken, IsWordTaken};
 
     /// All words of a line.
     pub fn of(line: &'a [u8]) -> Self
@@ -41,6 +41,21 @@ impl<'a> Words<'a> {
         let (word, rest) = cut_at(self.rest?, b' ');
         self.rest = rest;
         Some(word)
+    }
+
+    /// Takes the first word that is left, where it is this one. Answers whether it is.
+    pub fn take(&mut self, keyword: &[u8]) -> bool
+        ensures { IsWordTaken keyword.now self.old self.new result }
+    {
+        let Some(left) = self.rest else {
+            return false;
+        };
+        let (word, rest) = cut_at(left, b' ');
+        if word != keyword {
+            return false;
+        }
+        self.rest = rest;
+        true
     }
 
     /// Takes the first word that is left, and gives the number of at most `most` that it spells.

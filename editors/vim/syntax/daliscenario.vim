@@ -4,7 +4,7 @@ if exists('b:current_syntax')
 endif
 syntax match daliscenarioComment /^#.*$/
 syntax match daliscenarioWord /^\%(lampfailure\|hearfault\|instance\|device\|memory\|event\|reply\|gear\|tick\)\ze\%( \|$\)/
-syntax match daliscenarioKind /\%( \)\@<=\%(damaged\|fault\|lost\)\ze\%( \|$\)/
+syntax match daliscenarioKind /\%( \)\@<=\%(damaged\|fault\|group\|level\|scene\|lost\)\ze\%( \|$\)/
 syntax match daliscenarioNumber /\%( \)\@<=\d\+\%(\.\d\+\)\=\ze\%( \|$\)/
 syntax match daliscenarioFrame /\%( \)\@<=\x\{6}$/
 highlight default link daliscenarioFrame Special

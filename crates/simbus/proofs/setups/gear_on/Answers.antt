@@ -6,5 +6,5 @@ pub returns-in-Gear : goal.returns-in-Gear
 returns-in-Gear c =
     let same : c.in-Gear.on ≡ c.args.bus = cc in
     gear_declared c.args.bus c.args.statements.now c.args.statement.now c.in-Gear.on c.in-Gear.short
-    c.gear_with_lamp.result
+    c.in-Gear.start c.gear_with_lamp.result
     c.in-Gear.is same c.gear_with_lamp.ensures

@@ -9,7 +9,8 @@ use Rattle.wordlines.proofs.follow.is_known.Goals as goal
 
 pub returns-in-Gear : goal.returns-in-Gear
 returns-in-Gear c =
-    known_as c.args.before.now c.args.statement.now (Gear c.in-Gear.bus c.in-Gear.short) c.in-Gear.is
+    known_as c.args.before.now c.args.statement.now (Gear c.in-Gear.bus c.in-Gear.short c.in-Gear.start)
+    c.in-Gear.is
     (not c.has_gear.result) (lacks c.has_gear.result _ c.has_gear.ensures)
 
 pub returns-in-LampFailure : goal.returns-in-LampFailure
