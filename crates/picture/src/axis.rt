@@ -56,7 +56,8 @@ impl Axis {
 }
 
 /// A picture and its axis between two places. Where its columns have room there beside each other,
-/// each has the same width; else the axis is true to time, and columns that fall together are one.
+/// each has the same width; else the axis is true to time. Then a moment, and what was heard, is
+/// one column with all that follows from it, and columns that fall together are one.
 pub(crate) fn place_columns(
     alloc: Global,
     picture: Picture,
@@ -69,6 +70,8 @@ pub(crate) fn place_columns(
         let axis = even_axis(alloc, &picture.columns, left)?;
         return Ok((picture, axis));
     }
+    let steps = steps_of(alloc, &picture.columns)?;
+    let picture = gather(alloc, picture, &steps)?;
     let spans = spans_of(alloc, &picture.columns)?;
     let scale = Scale::of(&spans, thousandths(room));
     let starts = starts_of(alloc, &spans, &scale, left)?;
@@ -81,6 +84,19 @@ pub(crate) fn place_columns(
         is_even: false,
     };
     Ok((gather(alloc, picture, &numbers)?, axis))
+}
+
+/// The numbers that columns have where each that follows from another one is one with it.
+fn steps_of(alloc: Global, columns: &[Column]) -> Result<Vec<usize>, AllocError> {
+    let mut steps = Vec::new(alloc);
+    let mut step: usize = 0;
+    for column in columns {
+        if !column.follows && !steps.is_empty() {
+            step = step.saturating_add(1);
+        }
+        steps.push(step)?;
+    }
+    Ok(steps)
 }
 
 /// Pixels in thousandths.

@@ -31,6 +31,8 @@ pub struct Column {
     pub moment: Option<Moment>,
     /// The bus on which it happened, where it happened on one.
     pub bus: Option<u8>,
+    /// Whether it follows from what happened before: from the moment, or from what was heard.
+    pub follows: bool,
     /// What happened, in words.
     pub title: String,
 }

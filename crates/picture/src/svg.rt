@@ -129,7 +129,8 @@ fn write_breaks(page: &mut Page, sheet: &Sheet) {
     }
 }
 
-/// Draws a line for each moment, and writes its name below where there is room.
+/// Draws a line for each moment, and writes its name below where there is room; and that the axis
+/// isn't true to time, where it isn't.
 fn write_moments(page: &mut Page, sheet: &Sheet) {
     let mut free: usize = 0;
     let end = sheet.bottom.saturating_add(4);
@@ -141,6 +142,16 @@ fn write_moments(page: &mut Page, sheet: &Sheet) {
             write_moment(page, label, sheet.bottom);
             free = x.saturating_add(half).saturating_add(6);
         }
+    }
+    if sheet.axis.is_even && sheet.axis.places.len() > 1 {
+        let y = sheet.bottom.saturating_add(31);
+        write_words(
+            page,
+            "p",
+            EDGE,
+            y,
+            "columns in their order: the axis is not true to time",
+        );
     }
 }
 

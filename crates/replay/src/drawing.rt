@@ -90,16 +90,19 @@ impl Drawing {
         self.picture.columns.push(Column {
             moment: Some(moment),
             bus: None,
+            follows: false,
             title,
         })?;
         Ok(())
     }
 
-    /// Begins a column with a line of what happened on a bus.
-    fn begin(&mut self, bus: u8, title: String) -> Result<(), AllocError> {
+    /// Begins a column with a line of what happened on a bus, by itself or since it follows from
+    /// what happened before.
+    fn begin(&mut self, bus: u8, follows: bool, title: String) -> Result<(), AllocError> {
         self.picture.columns.push(Column {
             moment: None,
             bus: Some(bus),
+            follows,
             title,
         })?;
         Ok(())
@@ -153,7 +156,7 @@ impl Observer<SimBus> for Drawing {
     fn note_frame(&mut self, _place: u64, bus: u8, frame: Frame24) -> io::Result<()> {
         let words = FrameWords(Frame::Forward24(frame));
         let title = format!(in self.alloc; "heard {bus} {frame}  {words}")?;
-        self.begin(bus, title)?;
+        self.begin(bus, false, title)?;
         let column = self.column();
         let rows = &mut self.picture.sources;
         mark_sources(self.alloc, &self.sources, rows, bus, frame, column)?;
@@ -200,7 +203,7 @@ impl Observer<SimBus> for Drawing {
         transaction: &Transaction,
     ) -> io::Result<()> {
         let title = handed_line(self.alloc, bus, transaction)?;
-        self.begin(bus, title)?;
+        self.begin(bus, true, title)?;
         if let Some(watch) = &mut self.watch {
             watch.note_handout(bus);
         }
@@ -229,7 +232,7 @@ impl Observer<SimBus> for Drawing {
 
     fn note_down(&mut self, _place: u64, bus: u8) -> io::Result<()> {
         let title = format!(in self.alloc; "down {bus}")?;
-        self.begin(bus, title)?;
+        self.begin(bus, true, title)?;
         self.mark_bus(bus, Sign::Down)?;
         if let Some(watch) = &mut self.watch {
             watch.note_down(bus);
