@@ -22,7 +22,7 @@ _dalictl() {
         play) options='--limit --names --brief --expect --watch --help' files='' others='--limit --expect --watch' ;;
         look) options='--bind --text --out --bus --from --to --watch --help' files='--bind --out' others='--bus --from --to --watch' ;;
         run) options='--limit --workers --help' files='' others='--limit --workers' ;;
-        probe) options='--line --patience --bus --help' files='--line' others='--patience --bus' ;;
+        probe) options='--line --patience --bus --record --json --help' files='--line --record' others='--patience --bus' ;;
         listen) options='--line --patience --bind --bus --record --for --stop --help' files='--line --bind --record --stop' others='--patience --bus --for' ;;
         blink) options='--line --patience --help' files='--line' others='--patience' ;;
         ask) options='--line --patience --help' files='--line' others='--patience' ;;

@@ -4,7 +4,7 @@
 -- `play TEXT BIND SCENARIO [--limit N] [--names] [--brief] [--expect NAME=VALUE].. [--watch NAME]..`,
 -- `look TEXT BIND SCENARIO [--text] [--out FILE] [--bus B] [--from MS] [--to MS] [--watch NAME]..`,
 -- `look TEXT SCENARIO --bind FILE ..`, `run TEXT BIND SCENARIO [--limit N] [--workers W]`,
--- `probe --line PATH [--patience MS] [TEXT BIND] [--bus B]`,
+-- `probe --line PATH [--patience MS] [TEXT BIND] [--bus B] [--record FILE] [--json]`,
 -- `listen --line PATH [--patience MS] [--bind FILE] [--bus B] [--record FILE] [--for SECONDS] [--stop PATH]`,
 -- `blink --line PATH [--patience MS] ADR`, `ask --line PATH [--patience MS] REQUEST ADR [VALUE] [VALUE2]`,
 -- `live TEXT BIND --line B=PATH.. [--period MS] [--for SECONDS] [--stop PATH] [--limit N] [--workers W] [--patience MS]
@@ -165,10 +165,13 @@ live_command =
 abbrev pub at_line : Text → App
 at_line name = with_rule (with_rule (new_app name) (wanted_option (codes "line"))) patience_option
 
+abbrev pub probe_files : App
+probe_files = with_rule (with_rule (at_line (codes "probe")) (optional (codes "TEXT"))) (optional (codes "BIND"))
+
 abbrev pub probe_command : App
 probe_command =
-    with_rule (with_rule (with_rule (at_line (codes "probe")) (optional (codes "TEXT"))) (optional (codes "BIND")))
-    (number_option (codes "bus") 0 63)
+    with_rule (with_rule (with_rule probe_files (number_option (codes "bus") 0 63)) (option (codes "record")))
+    (flag (codes "json"))
 
 abbrev pub listen_files : App
 listen_files =

@@ -322,6 +322,12 @@ pub(crate) const PROBE: Subcommand = Subcommand {
         ),
         Word::Optional("BIND", "The binding of buses, which TEXT must have"),
         BUS,
+        Word::Valued(
+            "record",
+            "FILE",
+            "Writes the gear that answers as a scenario to this file",
+        ),
+        JSON,
     ],
     end: "Exit status: 0 the line did not fail, 1 refused, 2 wrong usage, 3 the line failed.{n}{n}\
           Example: dalictl probe --line /dev/ttyUSB0",

@@ -45,22 +45,37 @@ pub(crate) fn check_invocation<R: Files>(
 ///
 /// As of [`check_invocation`].
 fn check_tool<R: Files>(rt: &R, alloc: Global, tool: &Tool) -> Result<(), PathFault> {
-    let Tool::Listen {
-        line,
-        binding,
-        record: Some(record),
-        end,
-        ..
-    } = tool
-    else {
-        return Ok(());
-    };
     let mut reads = Vec::new(alloc);
-    add_some(&mut reads, *binding)?;
-    add_some(&mut reads, end.stop)?;
-    add_line(&mut reads, line)?;
+    let record = match tool {
+        Tool::Probe {
+            line,
+            against,
+            record: Some(record),
+            ..
+        } => {
+            if let Some(files) = against {
+                add_some(&mut reads, Some(files.binding))?;
+                add_some(&mut reads, Some(files.text))?;
+            }
+            add_line(&mut reads, line)?;
+            *record
+        }
+        Tool::Listen {
+            line,
+            binding,
+            record: Some(record),
+            end,
+            ..
+        } => {
+            add_some(&mut reads, *binding)?;
+            add_some(&mut reads, end.stop)?;
+            add_line(&mut reads, line)?;
+            *record
+        }
+        _ => return Ok(()),
+    };
     let written = Written {
-        path: *record,
+        path: record,
         what: "the record",
         writing: Writing::Whole,
     };

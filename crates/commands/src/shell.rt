@@ -158,7 +158,12 @@ where
             line,
             patience,
             against,
-        } => run_probe(rt, site, ToolLine { line, patience }, against),
+            record,
+            is_json,
+        } => {
+            let at = ToolLine { line, patience };
+            run_probe(rt, site, at, against, record, is_json)
+        }
         Tool::Listen {
             line,
             patience,

@@ -5,10 +5,10 @@ use crate::naming::request_in;
 use crate::reading::HostDisk;
 use crate::serving::Unserved;
 use crate::shell::{HostNotice, no_memory, not_printed, not_served};
-use crate::tools::{ToolEnd, ToolLine, ask_once, blink, listen, probe, status_of_tool};
+use crate::tools::{ProbeWish, ToolEnd, ToolLine, ask_once, blink, listen, probe, status_of_tool};
 use building::Site;
 use commandline::{GivenListenEnd, GivenRequest, LiveFiles};
-use commissioning::ListenEnd;
+use commissioning::{ListenEnd, Served};
 use daliframe::ShortAddress;
 use exits::ExitStatus;
 use liveclock::StopCondition;
@@ -86,13 +86,16 @@ pub(crate) fn run_probe<R, S>(
     site: &S,
     at: ToolLine,
     against: Option<LiveFiles>,
+    record: Option<&str>,
+    as_json: bool,
 ) -> ExitStatus
 where
     R: Files + Print + Eprint + AllocGlobal,
-    S: Site,
+    S: Site + Storage,
 {
     let mut out = io::writer(rt);
     let mut progress = Complaints { rt };
+    let mut house = Vec::new(rt.alloc());
     let disk = HostDisk { rt };
     let end = probe(
         rt.alloc(),
@@ -100,10 +103,24 @@ where
         site,
         &mut out,
         &mut progress,
+        &mut house,
         at,
-        against,
+        ProbeWish { against, as_json },
     );
+    if let Some(path) = record {
+        if is_done(&end) && site.replace(rt.alloc(), path, &house, Care::Passing).is_err() {
+            return not_opened(rt, path);
+        }
+    }
     ended(rt, end)
+}
+
+/// Whether a tool did all that was asked of it.
+fn is_done(end: &Result<ToolEnd, Unserved>) -> bool {
+    match end {
+        Ok(Ok(served)) => *served == Served::Done,
+        _ => false,
+    }
 }
 
 /// `listen`

@@ -9,7 +9,7 @@ use answers::binding_of;
 use building::{LineupFault, LiveStop, Site, SiteFault};
 use commandline::{LineWord, LiveFiles};
 use commissioning::{
-    DeclaredBus, ListenEnd, Served, serve_ask, serve_blink, serve_listen, serve_probe,
+    DeclaredBus, ListenEnd, ProbeForm, Served, serve_ask, serve_blink, serve_listen, serve_probe,
 };
 use daliframe::{BusNumber, ShortAddress};
 use exits::ExitStatus;
@@ -61,21 +61,32 @@ fn opened<'a, S: Site>(alloc: Global, site: &S, at: ToolLine<'a>) -> Result<S::L
     }
 }
 
-/// Asks what is there on a bus, and compares it with a text where one is named.
+/// What is wanted of a bus that is probed.
+#[derive(Clone, Copy)]
+pub struct ProbeWish<'a> {
+    /// The files that it is compared with, where they are named.
+    pub against: Option<LiveFiles<'a>>,
+    /// What is found as JSON.
+    pub as_json: bool,
+}
+
+/// Asks what is there on a bus, and compares it with a text where one is named. The gear that
+/// answers goes to `record`, as lines of a scenario.
 ///
 /// # Errors
 ///
-/// A file isn't read, or the writer's error.
-pub fn probe<'a, D: Disk, S: Site, W: Write, P: Write>(
+/// A file isn't read, or a writer's error.
+pub fn probe<'a, D: Disk, S: Site, W: Write, P: Write, R: Write>(
     alloc: Global,
     disk: &D,
     site: &S,
     to: &mut W,
     progress: &mut P,
+    record: &mut R,
     at: ToolLine<'a>,
-    against: Option<LiveFiles<'a>>,
+    wish: ProbeWish<'a>,
 ) -> Result<ToolEnd<'a>, Unserved<'a>> {
-    let setup = match against {
+    let setup = match wish.against {
         Some(files) => match setup_at(alloc, disk, files)? {
             Ok(setup) => Some(setup),
             Err(halted) => return Ok(Err(halted)),
@@ -93,14 +104,20 @@ pub fn probe<'a, D: Disk, S: Site, W: Write, P: Write>(
         Ok(bus) => bus,
         Err(stop) => return Ok(Err(Halted::Building(stop))),
     };
-    let against = match &setup {
+    let declared = match &setup {
         Some(setup) => Some(DeclaredBus {
             plan: setup.plan(),
             bus: at.line.bus,
         }),
         None => None,
     };
-    Ok(Ok(serve_probe(alloc, &mut bus, to, progress, against)?))
+    let form = ProbeForm {
+        bus: at.line.bus,
+        declared,
+        as_json: wish.as_json,
+    };
+    let served = serve_probe(alloc, &mut bus, to, progress, record, form)?;
+    Ok(Ok(served))
 }
 
 /// The setup of the text under the binding, or what stands against it.

@@ -12,7 +12,9 @@ use crate::asking::{AskFault, ask};
 use crate::blinking::{Blinked, Shown, blink};
 use crate::comparing::write_differences;
 use crate::declared::DeclaredBus;
+use crate::houses::write_house;
 use crate::listening::{ListenEnd, Silenced, listen};
+use crate::objects::{write_failure, write_found};
 use crate::probing::{Probed, probe};
 use crate::surveys::is_answer;
 use crate::tables::{Table, answer_in};
@@ -52,47 +54,82 @@ impl Served {
     }
 }
 
+/// How what is found on a bus is written.
+#[derive(Clone, Copy)]
+pub struct ProbeForm<'a> {
+    /// The number of the bus.
+    pub bus: u8,
+    /// What it is compared with, where a text is given.
+    pub declared: Option<DeclaredBus<'a>>,
+    /// As one JSON object, in place of the rows of a table.
+    pub as_json: bool,
+}
+
 /// Probes a bus, and writes which gear and which instances are there, as rows of a table that are
-/// written as they come; and where a text is given, how they differ from what it declares.
+/// written as they come, or as JSON; and where a text is given, how they differ from what it
+/// declares. `record` gets a line of a scenario for each gear that answered, once all of the bus
+/// was asked.
 ///
 /// # Errors
 ///
-/// The writer failed. All of the bus was asked nevertheless.
-pub fn serve_probe<B: Bus, W: Write, P: Write>(
+/// One of the writers failed. All of the bus was asked nevertheless.
+pub fn serve_probe<B: Bus, W: Write, P: Write, R: Write>(
     alloc: Global,
     bus: &mut B,
     to: &mut W,
     progress: &mut P,
-    declared: Option<DeclaredBus>,
+    record: &mut R,
+    form: ProbeForm,
 ) -> io::Result<Served>
     ensures { IsServed (λ probed. HasProbed probed (B.log bus.old) (B.log bus.new)) result }
 {
-    let mut table = Table::new(to);
+    let mut table = Table::new(to, !form.as_json);
     let probed = probe(alloc, bus, &mut table, progress);
     let written = table.finish();
-    write_probed(to, &probed, written, declared)
+    write_probed(alloc, to, record, &probed, written, form)
 }
 
-/// Writes what is behind the rows of what was found: whether there is gear without a short address,
-/// and how it differs from what a text declares.
-fn write_probed<W: Write>(
+/// Writes what was found, and what is behind the rows of a table.
+fn write_probed<W: Write, R: Write>(
+    alloc: Global,
     to: &mut W,
+    record: &mut R,
     probed: &Result<Probed, AskFault>,
     written: io::Result<()>,
-    declared: Option<DeclaredBus>,
+    form: ProbeForm,
 ) -> io::Result<Served>
     ensures { IfOk result (λ served. served ≡ served_as probed.now) }
 {
     written?;
     match probed {
         Ok(probed) => {
-            write_unaddressed(to, probed.unaddressed)?;
-            if let Some(declared) = declared {
-                write_differences(to, &probed.survey, declared)?;
-            }
+            write_house(record, form.bus, &probed.survey)?;
+            write_survey(alloc, to, probed, form)?;
             Ok(Served::Done)
         }
+        Err(fault) if form.as_json => {
+            write_failure(to, *fault)?;
+            Ok(Served::of_fault(*fault))
+        }
         Err(fault) => write_fault(to, *fault),
+    }
+}
+
+/// Writes what was found as JSON, or else what is behind the rows of a table: whether there is gear
+/// without a short address, and how it differs from what a text declares.
+fn write_survey<W: Write>(
+    alloc: Global,
+    to: &mut W,
+    probed: &Probed,
+    form: ProbeForm,
+) -> io::Result<()> {
+    if form.as_json {
+        return write_found(alloc, to, form.bus, probed, form.declared);
+    }
+    write_unaddressed(to, probed.unaddressed)?;
+    match form.declared {
+        Some(declared) => write_differences(to, &probed.survey, declared),
+        None => Ok(()),
     }
 }
 

@@ -1,5 +1,7 @@
 //! A survey as a table: a row for each gear and each instance that is there.
 
+ghost use Rattle.std.specs.Prelude.{◌<◌};
+
 use crate::asking::Asked;
 use crate::blinking::ACTUAL_LEVEL;
 use crate::surveys::{instance_query, is_answer, outcome_in, query};
@@ -16,16 +18,16 @@ pub(crate) const STATUS: u8 = 0;
 
 pub(crate) const PRESENT: u8 = 1;
 
-const DEVICE_TYPE: u8 = 9;
+pub(crate) const DEVICE_TYPE: u8 = 9;
 
-const MAX_LEVEL: u8 = 17;
+pub(crate) const MAX_LEVEL: u8 = 17;
 
-const MIN_LEVEL: u8 = 18;
+pub(crate) const MIN_LEVEL: u8 = 18;
 
-const POWER_ON_LEVEL: u8 = 19;
+pub(crate) const POWER_ON_LEVEL: u8 = 19;
 
 /// FADE TIME AND FADE RATE.
-const FADE_TIME: u8 = 21;
+pub(crate) const FADE_TIME: u8 = 21;
 
 const SCENE_0_LEVEL: u8 = 25;
 
@@ -36,7 +38,7 @@ const GROUPS_8_TO_15: u8 = 42;
 // The queries of DEV_ASK.
 pub(crate) const INSTANCE_TYPE: u8 = 0;
 
-const EVENT_SCHEME: u8 = 1;
+pub(crate) const EVENT_SCHEME: u8 = 1;
 
 /// The level of a scene that gear is not in.
 const NO_SCENE: u8 = 255;
@@ -54,19 +56,24 @@ const FADE_TIMES: &[&str] = &[
     "11.3 s", "16.0 s", "22.6 s", "32.0 s", "45.3 s", "64.0 s", "90.5 s",
 ];
 
-/// The table of a survey, whose rows are written as they come. The writer's first failure is kept, and
-/// nothing is written behind it.
+/// The table of a survey, whose rows are written as they come, where it is shown at all. The
+/// writer's first failure is kept, and nothing is written behind it.
 #[derive(Drop)]
 pub struct Table<'a, W> {
     to: &'a mut W,
+    is_shown: bool,
     written: io::Result<()>,
 }
 
 impl<'a, W: Write> Table<'a, W> {
     /// A table of which nothing is written yet.
-    pub fn new(to: &'a mut W) -> Self {
+    pub fn new(to: &'a mut W, is_shown: bool) -> Self {
         let written = Ok(());
-        Table { to, written }
+        Table {
+            to,
+            is_shown,
+            written,
+        }
     }
 
     /// The end of the table.
@@ -75,7 +82,7 @@ impl<'a, W: Write> Table<'a, W> {
     ///
     /// The writer's first failure.
     pub fn finish(self) -> io::Result<()> {
-        let Table { to: _, written } = self;
+        let Table { written, .. } = self;
         written
     }
 
@@ -103,14 +110,14 @@ impl<'a, W: Write> Table<'a, W> {
 
     /// Writes the head of rows.
     fn add_head(&mut self, head: &str) {
-        if self.written.is_ok() {
+        if self.is_shown && self.written.is_ok() {
             self.written = writeln!(self.to, "{head}");
         }
     }
 
     /// Writes rows, each with its line feed.
     fn add<D: fmt::Display>(&mut self, rows: &D) {
-        if self.written.is_ok() {
+        if self.is_shown && self.written.is_ok() {
             self.written = write_rows(self.to, rows);
         }
     }
@@ -231,12 +238,21 @@ fn write_scenes<W: fmt::Write>(
     address: ShortAddress,
 ) -> fmt::Result {
     for scene in 0..16u8 {
-        match answer_in(outcome_in(asked, query(address, SCENE_0_LEVEL + scene))) {
-            None | Some(NO_SCENE) => {}
-            Some(level) => write!(f, "; scene {scene} at {level}")?,
+        if let Some(level) = scene_level(asked, address, scene) {
+            write!(f, "; scene {scene} at {level}")?;
         }
     }
     Ok(())
+}
+
+/// The level of gear in a scene, where it has one.
+pub(crate) fn scene_level(asked: &[Asked], address: ShortAddress, scene: u8) -> Option<u8>
+    requires { scene < 16 }
+{
+    match answer_in(outcome_in(asked, query(address, SCENE_0_LEVEL + scene))) {
+        None | Some(NO_SCENE) => None,
+        level => level,
+    }
 }
 
 /// Writes a row for each instance of a device that is there.

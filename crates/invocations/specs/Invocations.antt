@@ -205,6 +205,13 @@ AreAgainst found None = ¬ (IsSome (first_of (codes "TEXT") found) × IsSome (fi
 AreAgainst found (Some files) =
     (first_of (codes "TEXT") found ≡ Some files.text.now) × (first_of (codes "BIND") found ≡ Some files.binding.now)
 
+-- how a line is probed: what it is compared with, the path of the scenario, where it is given, and whether as JSON
+pub record IsProbing (found : List Row) (against : Option LiveFiles) (scenario : Option (Bor Text))
+    (is_json : Bool) : Type 0 where
+  pub compared : AreAgainst found against
+  pub recorded : IsGivenPath (first_of (codes "record") found) scenario
+  pub formed : IsFlag (one_of (codes "json") found) is_json
+
 -- when listening ends: the seconds and the path of the file that ends it, where they are given
 pub record IsListenEnd (found : List Row) (end : GivenListenEnd) : Type 0 where
   pub seconds : IsGivenNumber (one_of (codes "for") found) end.seconds
@@ -247,8 +254,8 @@ IsInquiryName name = IsTextName name × IsNoQuestion name
 
 -- what was found under a command's name is what is done at one line
 abbrev pub IsOfTool : Text → List Row → Tool → Type 0
-IsOfTool name found (Probe line patience against) =
-    (name ≡ codes "probe") × IsLine found line × IsPatience found patience × AreAgainst found against
+IsOfTool name found (Probe line patience against scenario is_json) =
+    (name ≡ codes "probe") × IsLine found line × IsPatience found patience × IsProbing found against scenario is_json
 IsOfTool name found (Listen line patience binding scenario end) =
     (name ≡ codes "listen") × IsLine found line × IsPatience found patience × IsListening found binding scenario end
 IsOfTool name found (Blink line patience address) =

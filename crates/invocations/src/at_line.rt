@@ -10,7 +10,7 @@ ghost use Rattle.invocations.specs.LineWords.{IsNoPath};
 use crate::files::LiveFiles;
 use crate::line_words::{LineWord, LineWordFault, paths_in};
 use crate::questions::word_in;
-use crate::readers::{given_number_in, patience_in, text_in};
+use crate::readers::{flag_in, given_number_in, patience_in, text_in};
 use crate::tools::{GivenListenEnd, GivenRequest, Tool};
 use clap::ArgMatches;
 
@@ -49,6 +49,8 @@ fn probe_in<'a>(found: &ArgMatches<'a>) -> Result<Tool<'a>, LineWordFault<'a>>
         line,
         patience: patience_in(found),
         against: against_in(found),
+        record: word_in(found, "record"),
+        is_json: flag_in(found, "json"),
     })
 }
 

@@ -7,12 +7,16 @@ use crate::line_words::LineWord;
 /// 60,000.
 #[derive(Clone, Copy)]
 pub enum Tool<'a> {
-    /// `probe --line PATH [--patience MS] [TEXT BIND] [--bus B]`
+    /// `probe --line PATH [--patience MS] [TEXT BIND] [--bus B] [--record FILE] [--json]`
     Probe {
         line: LineWord<'a>,
         patience: u32,
         /// What is compared with the line, where it is given.
         against: Option<LiveFiles<'a>>,
+        /// The path to which the gear goes as a scenario, where one is given.
+        record: Option<&'a str>,
+        /// Whether what is found is printed as JSON.
+        is_json: bool,
     },
     /// `listen --line PATH [--patience MS] [--bind FILE] [--bus B] [--record FILE] [--for SECONDS]
     /// [--stop PATH]`

@@ -96,22 +96,22 @@ fn write_level<W: Write>(out: &mut W, plan: &Plan, levels: &Levels, global: usiz
     }
 }
 
-/// Writes a status as one JSON object.
+/// Writes a status as one JSON object, whose member `version` is 1.
 ///
 /// # Errors
 ///
 /// The writer's.
 pub(crate) fn write_json<W: Write>(out: &mut W, status: &Status) -> io::Result<()> {
     let plant = status.plant;
-    write!(out, "{{\"date\":\"{}\"", status.date)?;
+    write!(out, "{{\"version\":1,\"date\":\"{}\"", status.date)?;
     write!(
         out,
-        ",\"moment\":{},\"events\":{}",
+        ",\"moment_ms\":{},\"events\":{}",
         status.moment,
         plant.len()
     )?;
     if let Some(memory) = status.memory {
-        write!(out, ",\"memory\":{memory}")?;
+        write!(out, ",\"memory_kib\":{memory}")?;
     }
     write_json_buses(out, plant)?;
     write_json_levels(out, plant.setup().plan(), status.levels)?;
