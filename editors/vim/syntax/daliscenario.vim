@@ -3,7 +3,7 @@ if exists('b:current_syntax')
   finish
 endif
 syntax match daliscenarioComment /^#.*$/
-syntax match daliscenarioWord /^\%(lampfailure\|hearfault\|instance\|device\|memory\|event\|reply\|gear\|tick\)\ze\%( \|$\)/
+syntax match daliscenarioWord /^\%(lampfailure\|hearfault\|instance\|device\|memory\|event\|reply\|ticks\|gear\|tick\)\ze\%( \|$\)/
 syntax match daliscenarioKind /\%( \)\@<=\%(damaged\|fault\|group\|level\|scene\|lost\)\ze\%( \|$\)/
 syntax match daliscenarioNumber /\%( \)\@<=\d\+\%(\.\d\+\)\=\ze\%( \|$\)/
 syntax match daliscenarioFrame /\%( \)\@<=\x\{6}$/
