@@ -108,7 +108,11 @@ where
         ProbeWish { against, as_json },
     );
     if let Some(path) = record {
-        if is_done(&end) && site.replace(rt.alloc(), path, &house, Care::Passing).is_err() {
+        if is_done(&end)
+            && site
+                .replace(rt.alloc(), path, &house, Care::Passing)
+                .is_err()
+        {
             return not_opened(rt, path);
         }
     }
