@@ -11,9 +11,14 @@ class Interface:
     """The simulated interface, in a process of its own."""
 
     def __init__(self, folder, seconds):
+        self.begin(folder, "7", (f"{BUTTON}:{seconds}",))
+
+    def begin(self, folder, gear, buttons):
         self.path, self.log = f"{folder}/dali0", f"{folder}/interface.log"
-        self.process = subprocess.Popen([f"{HERE}/examples/interfaces/simulated.py", "--pty", self.path, "--gear", "7",
-            "--button", f"{BUTTON}:{seconds}", "--log", self.log])
+        words = [f"{HERE}/examples/interfaces/simulated.py", "--pty", self.path, "--gear", gear, "--log", self.log]
+        for button in buttons:
+            words += ["--button", button]
+        self.process = subprocess.Popen(words)
         while not os.path.exists(self.path):
             time.sleep(0.05)
 

@@ -9,7 +9,7 @@ use invocations::LineWord;
 use std::fmt;
 
 /// What is about to run in a building: its buses with their lines, its tasks with their bounds, and
-/// the levels that are sent first, a line each.
+/// what its levels begin at, a line each.
 #[derive(Clone, Copy)]
 pub struct Departure<'d, 'a, B: Bus, C: Clock> {
     pub building: &'d Building<B, C>,
@@ -67,7 +67,8 @@ fn write_tasks<W: fmt::Write, B: Bus, C: Clock>(
     Ok(())
 }
 
-/// A line for each level that is sent before any scan, since its first value isn't 255.
+/// A line for each level that is sent at the start, since it doesn't begin at 255. It says what the
+/// level begins at: a scan that comes before the bus's turn may store what is sent.
 fn write_levels<W: fmt::Write>(f: &mut fmt::Formatter<W>, plan: &Plan) -> fmt::Result {
     for global in 0..plan.globals() {
         write_level(f, *plan.global(global))?;
@@ -75,14 +76,18 @@ fn write_levels<W: fmt::Write>(f: &mut fmt::Formatter<W>, plan: &Plan) -> fmt::R
     Ok(())
 }
 
-/// The line of a global variable that is located at a level, where that is sent first.
+/// The line of a global variable that is located at a level, where that doesn't begin at 255.
 fn write_level<W: fmt::Write>(f: &mut fmt::Formatter<W>, global: Global) -> fmt::Result {
     match (global.location, global.initial) {
         (_, Value::Int(255)) => Ok(()),
         (Some(Location::Level { bus, address }), Value::Int(level)) => match address {
-            0..=63 => writeln!(f, "first bus {bus} short {address} level {level}"),
-            64..=79 => writeln!(f, "first bus {bus} group {} level {level}", address - 64),
-            _ => writeln!(f, "first bus {bus} broadcast level {level}"),
+            0..=63 => writeln!(f, "level bus {bus} short {address} begins at {level}"),
+            64..=79 => writeln!(
+                f,
+                "level bus {bus} group {} begins at {level}",
+                address - 64
+            ),
+            _ => writeln!(f, "level bus {bus} broadcast begins at {level}"),
         },
         _ => Ok(()),
     }

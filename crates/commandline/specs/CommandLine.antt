@@ -1,9 +1,9 @@
 -- The command line (profile): `check TEXT [BIND] [--code] [--json]`, `explain TEXT [BIND [SCENARIO]] [--json]`,
 -- `notes TEXT [BIND] [--deny NOTE] [--json]`, `list TEXT [BIND] [TASK] [--json]`, `code TEXT [BIND] [TASK] OUT`,
 -- `step TEXT [BIND] [TASK] [--scans N] [--every MS]`, in each of which `--bind FILE` may stand in place of BIND,
--- `play TEXT BIND SCENARIO [--limit N] [--names] [--brief] [--expect NAME=VALUE].. [--watch NAME]..`,
--- `look TEXT BIND SCENARIO [--text] [--out FILE] [--bus B] [--from MS] [--to MS] [--watch NAME]..`,
--- `look TEXT SCENARIO --bind FILE ..`, `run TEXT BIND SCENARIO [--limit N] [--workers W]`,
+-- `play TEXT BIND SCENARIO [--keep FILE] [--limit N] [--names] [--brief] [--expect NAME=VALUE].. [--watch NAME]..`,
+-- `look TEXT BIND SCENARIO [--keep FILE] [--text] [--out FILE] [--bus B] [--from MS] [--to MS] [--watch NAME]..`,
+-- `look TEXT SCENARIO --bind FILE ..`, `run TEXT BIND SCENARIO [--keep FILE] [--limit N] [--workers W]`,
 -- `probe --line PATH [--patience MS] [TEXT BIND] [--bus B] [--record FILE] [--json]`,
 -- `listen --line PATH [--patience MS] [--bind FILE] [--bus B] [--record FILE] [--for SECONDS] [--stop PATH]`,
 -- `blink --line PATH [--patience MS] ADR`, `ask --line PATH [--patience MS] REQUEST ADR [VALUE] [VALUE2]`,
@@ -109,11 +109,12 @@ step_command =
     with_rule (with_rule step_files (number_option (codes "scans") 1 1000000))
     (number_option (codes "every") 0 4294967295)
 
--- a command of this name on the files of a scenario
+-- a command of this name on the files of a scenario, and on that of the kept values with which it may begin
 abbrev pub scenario_files : Text → App
 scenario_files name =
-    with_rule (with_rule (with_rule (new_app name) (wanted (codes "TEXT"))) (wanted (codes "BIND")))
-    (wanted (codes "SCENARIO"))
+    with_rule (with_rule (with_rule (with_rule (new_app name) (wanted (codes "TEXT"))) (wanted (codes "BIND")))
+    (wanted (codes "SCENARIO")))
+    (option (codes "keep"))
 
 abbrev pub play_command : App
 play_command =
@@ -195,7 +196,9 @@ ask_command =
 
 abbrev pub look_files : App
 look_files =
-    with_rule (with_rule (text_files (codes "look")) (optional (codes "SCENARIO"))) (option (codes "bind"))
+    with_rule (with_rule (with_rule (text_files (codes "look")) (optional (codes "SCENARIO")))
+    (option (codes "bind")))
+    (option (codes "keep"))
 
 abbrev pub look_picture : App
 look_picture = with_rule (with_rule look_files (flag (codes "text"))) (option (codes "out"))

@@ -32,6 +32,12 @@ const TASK: Word = Word::Optional(
 
 const SCENARIO: Word = Word::Wanted("SCENARIO", "What is on the buses and what happens there");
 
+const KEPT: Word = Word::Valued(
+    "keep",
+    "FILE",
+    "Begins with the values that this file keeps",
+);
+
 const JSON: Word = Word::Flag("json", "Prints one object of JSON");
 
 const LIMIT: Word = Word::Number(
@@ -234,6 +240,7 @@ pub(crate) const PLAY: Subcommand = Subcommand {
         TEXT,
         BIND,
         SCENARIO,
+        KEPT,
         LIMIT,
         Word::Flag("names", "Prints behind each frame what it says in words"),
         Word::Flag(
@@ -265,6 +272,7 @@ pub(crate) const LOOK: Subcommand = Subcommand {
         Word::Optional("BIND", "The binding of buses, or with --bind the scenario"),
         Word::Optional("SCENARIO", "What is on the buses and what happens there"),
         BINDING,
+        KEPT,
         Word::Flag("text", "Prints lines for a terminal in place of an SVG"),
         Word::Valued("out", "FILE", "Writes the picture to this file"),
         Word::Number(
@@ -303,7 +311,7 @@ const RUN: Subcommand = Subcommand {
     name: "run",
     about: "Runs a scenario on simulated buses in threads and prints what it came to",
     usage: "dalictl run [OPTIONS] <TEXT> <BIND> <SCENARIO>",
-    words: &[TEXT, BIND, SCENARIO, LIMIT, WORKERS],
+    words: &[TEXT, BIND, SCENARIO, KEPT, LIMIT, WORKERS],
     end: "Exit status: 0 it came to the scenario's end, 1 refused, 2 wrong usage, \
           3 a file isn't read, or a bus is down.{n}{n}\
           Example: dalictl run hall.il hall.bind hall.scenario",

@@ -1,5 +1,6 @@
 mod FileFronts
 mod LivesOut
+mod MeantOut
 mod PlaysOut
 mod ReportedLines
 mod RunsOut

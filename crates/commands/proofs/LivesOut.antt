@@ -1,15 +1,8 @@
 -- What a building leaves, from what it began with.
-use Rattle.std.proofs.Common.{◌≡◌, ℕ, List, Option, Some, None, Result, Ok, Err, IfOk, refl, subst}
-use Rattle.wordlines.specs.Wirings.{Wiring}
+use Rattle.std.proofs.Common.{ℕ, List, Option, Result, Ok, Err, IfOk, refl, subst}
 use Rattle.buslink.specs.BusLog.{BusLog}
 use Rattle.buslink.specs.ClockLog.{ClockLog}
 use Rattle.ilcompile.specs.Loaded.{Loaded}
-use Rattle.keeping.specs.KeptFiles.{KeptEntry, KeptState}
-use Rattle.plantevents.specs.declared.event.Event.{Event}
-use Rattle.plantevents.specs.Plants.{Plant}
-use Rattle.plantevents.specs.Legal.{AreLegal}
-use Rattle.plantload.specs.KeptLoading.{IsKeptSetup}
-use Rattle.plantload.specs.MeantScans.{AreAsMeant}
 use Rattle.plant.specs.Shown.{plant_of}
 use Rattle.plantlive.specs.declared.living.Lived.{Lived}
 use Rattle.plantlive.specs.Lives.{HasLived}
@@ -19,23 +12,9 @@ use Rattle.invocations.specs.declared.line_words.LineWord.{LineWord}
 use Rattle.building.specs.declared.buildings.Building.{Building}
 use Rattle.building.specs.Buildings.{IsOpened}
 use Rattle.commands.specs.declared.beginning.Beginning.{Beginning}
-use Rattle.commands.specs.Beginnings.{HasBegun, IsBegunWith, tree_of}
+use Rattle.commands.specs.Beginnings.{HasBegun}
 use Rattle.commands.specs.Buildings.{IsLivedOut, OfLine, TimedAs}
-use Rattle.commands.proofs.PlaysOut.{ScansAreAsMeant}
-
--- what the law of scans says of a setup that begins with kept values
-abbrev pub KeptScansAreAsMeant : Type 0
-KeptScansAreAsMeant =
-    (wiring : Wiring) (bytes : List ℕ) (kept : List KeptEntry) (setup : Loaded)
-    (loaded : IsKeptSetup wiring bytes kept setup) (p : Plant) (h : List Event) → p.plan ≡ setup.plan → AreLegal p h
-    → AreAsMeant loaded.plan.tree wiring.buses h
-
-meant_of : (wiring : Wiring) (text : List ℕ) (kept : Option KeptState) (setup : Loaded)
-    (begun : IsBegunWith wiring text kept setup) (p : Plant) (h : List Event) → ScansAreAsMeant → KeptScansAreAsMeant
-    → p.plan ≡ setup.plan → AreLegal p h → AreAsMeant (tree_of wiring text kept setup begun) wiring.buses h
-meant_of wiring text None setup begun p h law kept_law plan legal = law wiring text setup begun p h plan legal
-meant_of wiring text (Some kept) setup begun p h law kept_law plan legal =
-    kept_law wiring text kept.values setup begun p h plan legal
+use Rattle.commands.proofs.MeantOut.{KeptScansAreAsMeant, ScansAreAsMeant, meant_of}
 
 pub lived_out : {B C : Type 0} (binding text : List ℕ) (file : Option (List ℕ)) (bus_log : B → BusLog)
     (clock_log : C → ClockLog) (is_of : OfLine B) (is_timed : TimedAs C) (words : List LineWord)

@@ -1,15 +1,11 @@
 -- What a play leaves, from what it started with.
 use Rattle.std.proofs.Common.{◌≡◌, ℕ, Bor, List, ap, sym}
-use Rattle.wordlines.specs.Wirings.{Wiring}
 use Rattle.wordlines.specs.declared.statements.Statement.{Statement}
 use Rattle.wordlines.specs.Happenings.{happenings}
 use Rattle.simbus.specs.Simulated.{Simulated}
 use Rattle.ilcompile.specs.Loaded.{Loaded}
-use Rattle.plantevents.specs.declared.event.Event.{Event}
 use Rattle.plantevents.specs.Plants.{Plant}
 use Rattle.plantevents.specs.Legal.{AreLegal}
-use Rattle.plantload.specs.Loading.{IsSetup}
-use Rattle.plantload.specs.MeantScans.{AreAsMeant}
 use Rattle.plantplay.specs.ByScenario.{IsByScenario}
 use Rattle.plantplay.specs.Installations.{IsInstallation, stage_of}
 use Rattle.plantplay.specs.Stage.{Stage, IsPlayedTo}
@@ -19,12 +15,7 @@ use Rattle.plant.specs.Shown.{Shown}
 use Rattle.exits.specs.declared.exit_status.ExitStatus.{ExitStatus}
 use Rattle.invocations.specs.declared.expected_words.ExpectedWord.{ExpectedWord}
 use Rattle.commands.specs.Plays.{PlayBytes, AreNames, IsJudgedBy, IsStarted, IsPlayedOut, IsPlayedUnder, status_of_played}
-
--- the law of the scans of a text
-abbrev pub ScansAreAsMeant : Type 0
-ScansAreAsMeant =
-    (wiring : Wiring) (bytes : List ℕ) (setup : Loaded) (loaded : IsSetup wiring bytes setup) (p : Plant)
-    (h : List Event) → p.plan ≡ setup.plan → AreLegal p h → AreAsMeant loaded.plan.tree wiring.buses h
+use Rattle.commands.proofs.MeantOut.{KeptScansAreAsMeant, ScansAreAsMeant, meant_of}
 
 -- the law of the plays of a scenario
 abbrev pub PlaysAreByScenario : Type 0
@@ -34,10 +25,12 @@ PlaysAreByScenario =
     → IsPlayedTo ending (happenings scenario) (stage_of start) left → IsByScenario setup scenario ending left
 
 pub played_out : (bytes : PlayBytes) (limit : ℕ) (start left : Installation Simulated) (statements : List Statement)
-    (ending : Ending) → ScansAreAsMeant → PlaysAreByScenario → IsStarted bytes limit start statements
+    (ending : Ending) → ScansAreAsMeant → KeptScansAreAsMeant → PlaysAreByScenario
+    → IsStarted bytes limit start statements
     → IsPlayedTo ending (happenings statements) (stage_of start) (stage_of left)
     → AreLegal left.plant.plant left.plant.history → IsPlayedOut bytes limit ending left
-played_out bytes limit start left statements ending scans plays started played legal =
+played_out bytes limit start left statements ending scans kept_scans plays started played legal =
+    let is = started.loaded in
     let told = plays started.setup statements limit start (stage_of left) ending started.opened played in
     record {
       start = start;
@@ -45,27 +38,28 @@ played_out bytes limit start left statements ending scans plays started played l
       started = started;
       legal = legal;
       meant =
-          scans started.loaded.0 bytes.text started.setup started.loaded.2 left.plant.plant left.plant.history
-          (ap (λ (m : Plant). m.plan) told.plant) legal;
+          meant_of is.loaded.0 bytes.text is.kept started.setup is.loaded.2 left.plant.plant left.plant.history scans
+          kept_scans (ap (λ (m : Plant). m.plan) told.plant) legal;
       played = played;
       told = told;
     }
 
 -- and how the program ends after that
 pub played_under : (bytes : PlayBytes) (limit : ℕ) (start left : Installation Simulated) (statements : List Statement)
-    (ending : Ending) → ScansAreAsMeant → PlaysAreByScenario → IsStarted bytes limit start statements
+    (ending : Ending) → ScansAreAsMeant → KeptScansAreAsMeant → PlaysAreByScenario
+    → IsStarted bytes limit start statements
     → IsPlayedTo ending (happenings statements) (stage_of start) (stage_of left)
     → AreLegal left.plant.plant left.plant.history → (expected : List ExpectedWord) (watched : List (Bor (List ℕ)))
     (status : ExitStatus) → AreNames start.plant.plant.plan expected watched
     → IsJudgedBy (status_of_played ending left) left.plant expected status
     → IsPlayedUnder bytes limit expected watched status
 unfolding played_out
-played_under bytes limit start left statements ending scans plays started played legal expected watched status known
-    judged =
+played_under bytes limit start left statements ending scans kept_scans plays started played legal expected watched
+    status known judged =
     record {
       ending = ending;
       left = left;
-      played = played_out bytes limit start left statements ending scans plays started played legal;
+      played = played_out bytes limit start left statements ending scans kept_scans plays started played legal;
       known = known;
       judged = judged;
     }

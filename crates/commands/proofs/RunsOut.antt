@@ -11,18 +11,19 @@ use Rattle.workers.specs.declared.closed.ClosedParts.{ClosedParts}
 use Rattle.invocations.specs.declared.invocations.RunSize.{RunSize}
 use Rattle.commands.specs.Plays.{PlayBytes, IsSetupOf}
 use Rattle.commands.specs.Runs.{IsRunOut}
-use Rattle.commands.proofs.PlaysOut.{ScansAreAsMeant}
+use Rattle.commands.proofs.MeantOut.{KeptScansAreAsMeant, ScansAreAsMeant, meant_of}
 
 pub run_out : (bytes : PlayBytes) (size : RunSize) (setup : Loaded) (statements : List Statement) (limit : ℕ)
-    (left : ClosedParts Simulated ScriptedTicks) → ScansAreAsMeant → IsSetupOf bytes setup
+    (left : ClosedParts Simulated ScriptedTicks) → ScansAreAsMeant → KeptScansAreAsMeant → IsSetupOf bytes setup
     → IsScenario bytes.scenario statements → limit ≡ size.limit → IsRun setup statements size.workers limit left
     → IsRunOut bytes size left
-run_out bytes size setup statements limit left law loaded scenario same run = record {
+run_out bytes size setup statements limit left law kept_law loaded scenario same run = record {
   setup = setup;
   loaded = loaded;
   statements = statements;
   scenario = scenario;
   run = subst (λ (most : ℕ). IsRun setup statements size.workers most left) same run;
   meant =
-      law loaded.0 bytes.text setup loaded.2 (plant_of setup size.workers) left.plant.history refl run.run.closed.legal;
+      meant_of loaded.loaded.0 bytes.text loaded.kept setup loaded.loaded.2 (plant_of setup size.workers)
+      left.plant.history law kept_law refl run.run.closed.legal;
 }

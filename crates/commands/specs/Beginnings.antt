@@ -1,6 +1,6 @@
--- What a building begins with: the text's setup, or the one whose global variables begin with the values that were kept
+-- What a building begins with: the text's setup, or the one whose variables begin with the values that were kept
 -- (profile).
-use Rattle.std.specs.Prelude.{◌≡◌, ◌≢◌, ◌⊎◌, ℕ, List, Option, Some, None, ⊤}
+use Rattle.std.specs.Prelude.{◌≡◌, ◌≢◌, ℕ, List, Option, Some, None, ⊤}
 use Rattle.wordlines.specs.Wirings.{Wiring}
 use Rattle.ilsource.specs.SourceTrees.{Tree}
 use Rattle.ilcompile.specs.Loaded.{Loaded}
@@ -8,8 +8,7 @@ use Rattle.keeping.specs.KeptFiles.{IsKeptFile, KeptState}
 use Rattle.keeping.specs.Faults.{IsKeptFault}
 use Rattle.keeping.specs.declared.fault.KeptFault.{KeptFault}
 use Rattle.plantload.specs.Loading.{IsSetup}
-use Rattle.plantload.specs.KeptLoading.{IsKeptLoadFault, IsKeptSetup}
-use Rattle.plantload.specs.declared.fault.LoadFault.{LoadFault}
+use Rattle.plantload.specs.KeptLoading.{IsKeptSetup}
 use Rattle.answers.specs.Connected.{IsConnected}
 use Rattle.commands.specs.declared.beginning.Beginning.{Beginning}
 use Rattle.commands.specs.declared.reading.DiskFault.{DiskFault}
@@ -22,7 +21,7 @@ abbrev pub IsBegunWith : Wiring → List ℕ → Option KeptState → Loaded →
 IsBegunWith wiring text None setup = IsSetup wiring text setup
 IsBegunWith wiring text (Some kept) setup = IsKeptSetup wiring text kept.values setup
 
--- the source program that the text spells, or the one that begins with the values
+-- the source program that the text spells
 abbrev pub tree_of : (wiring : Wiring) (text : List ℕ) (kept : Option KeptState) (setup : Loaded)
     → IsBegunWith wiring text kept setup → Tree
 tree_of wiring text None setup begun = begun.plan.tree
@@ -42,20 +41,11 @@ IsFileOf (Some bytes) kept = IsKeptFile bytes kept
 abbrev pub IsUnusable : List ℕ → Type 0
 IsUnusable bytes = (fault : KeptFault) × IsKeptFault bytes fault
 
--- the bytes are a file of values, and the source program that begins with these is refused
-pub record AreRefused (binding text bytes : List ℕ) : Type 0 where
-  pub kept : KeptState
-  pub file : IsKeptFile bytes kept
-  pub wiring : Wiring
-  pub connected : IsConnected (Some binding) wiring
-  pub fault : LoadFault
-  pub refused : IsKeptLoadFault wiring text kept.values fault
-
 -- the values that are used are those of the file; none are, where there is no file, or none that can be used
-abbrev pub AreUsed : List ℕ → List ℕ → Option (List ℕ) → Option KeptState → Type 0
-AreUsed binding text file (Some kept) = IsFileOf file kept
-AreUsed binding text None None = ⊤
-AreUsed binding text (Some bytes) None = IsUnusable bytes ⊎ AreRefused binding text bytes
+abbrev pub AreUsed : Option (List ℕ) → Option KeptState → Type 0
+AreUsed file (Some kept) = IsFileOf file kept
+AreUsed None None = ⊤
+AreUsed (Some bytes) None = IsUnusable bytes
 
 -- the file of kept values, where one is named: what the disk gave for it, or nothing where there is no such file
 abbrev pub IsKeepRead : (List ℕ → List ℕ → Type 0) → (List ℕ → DiskFault → Type 0) → Option (List ℕ) → Option (List ℕ)
@@ -82,5 +72,5 @@ pub record LiveBytes : Type 0 where
 
 -- a building of these files begins so
 pub record HasBegun (binding text : List ℕ) (file : Option (List ℕ)) (begun : Beginning) : Type 0 where
-  pub used : AreUsed binding text file begun.kept
+  pub used : AreUsed file begun.kept
   pub loaded : IsBegunUnder binding text begun.kept begun.setup

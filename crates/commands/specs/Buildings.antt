@@ -45,7 +45,7 @@ pub record IsLivedOut {B C : Type 0} (binding text : List ℕ) (file : Option (L
     (options : LiveOptions) (left : Lived B C) : Type 0 where
   pub setup : Loaded
   pub kept : Option KeptState
-  pub used : AreUsed binding text file kept
+  pub used : AreUsed file kept
   pub loaded : IsBegunUnder binding text kept setup
   pub building : Building B C
   pub opened : IsOpened bus_log clock_log is_of is_timed setup words options building
@@ -63,7 +63,7 @@ pub record IsBuildingStop (binding text : List ℕ) (file : Option (List ℕ)) (
     (stop : LiveStop) : Type 0 where
   pub setup : Loaded
   pub kept : Option KeptState
-  pub used : AreUsed binding text file kept
+  pub used : AreUsed file kept
   pub loaded : IsBegunUnder binding text kept setup
   pub stops : IsLiveStop setup words size stop ⊎ IsNotLived setup size setup.plan.buses stop
 

@@ -1,6 +1,7 @@
 -- What a scenario is played from, or what stands against that: the fault of the binding, else of the text, else of the
 -- scenario, else why the plant does not start (profile).
-use Rattle.std.specs.Prelude.{◌≡◌, ℕ, ◌⊎◌, List, Some, Err, ⊤}
+use Rattle.std.specs.Prelude.{◌≡◌, ℕ, ◌⊎◌, List, Option, Some, Err, ⊤}
+use Rattle.std.specs.Option.{option_copied}
 use Rattle.std.specs.Borrow.{Bor}
 use Rattle.wordlines.specs.Wirings.{Wiring}
 use Rattle.ilplan.specs.Plans.{Planned}
@@ -10,6 +11,8 @@ use Rattle.wordlines.specs.declared.statements.Statement.{Statement}
 use Rattle.wordlines.specs.Happenings.{happenings}
 use Rattle.wordlines.specs.Scenarios.{IsScenario, IsJudged}
 use Rattle.simbus.specs.Simulated.{Simulated}
+use Rattle.keeping.specs.KeptFiles.{KeptState}
+use Rattle.plantevents.specs.declared.event.Event.{Event}
 use Rattle.plantevents.specs.Legal.{AreLegal}
 use Rattle.plant.specs.Shown.{Shown}
 use Rattle.plantload.specs.MeantScans.{AreAsMeant}
@@ -29,17 +32,20 @@ use Rattle.answers.specs.declared.stop.Stop.{Stop}
 use Rattle.commands.specs.declared.reading.DiskFault.{DiskFault}
 use Rattle.commands.specs.declared.serving.Unserved.{Unserved}
 use Rattle.commands.specs.declared.serving.Unserved.TheVariants.{NotRead, NotWritten, NotPrinted}
+use Rattle.commands.specs.Beginnings.{AreUsed, IsBegunUnder, tree_of}
+use Rattle.commands.specs.Served.{IsGiven}
 use Rattle.answers.specs.Answered.{IsCheckStop, IsStopOrMemory}
 use Rattle.answers.specs.Connected.{IsConnected, IsBindingStop}
 use Rattle.exits.specs.ExitStatuses.{status_of_play, status_of_play_stop}
 use Rattle.expectations.specs.Expected.{AreKnown, AreMet}
 use Rattle.watching.specs.Watched.{AreWatchable}
 
--- the bytes of the three files
+-- the bytes of the three files, and of that of kept values where one is named
 pub record PlayBytes : Type 0 where
   pub binding : List ℕ
   pub text : List ℕ
   pub scenario : List ℕ
+  pub file : Option (List ℕ)
 
 -- ---- what is played
 
@@ -47,8 +53,17 @@ pub record PlayBytes : Type 0 where
 abbrev pub IsSetupUnder : List ℕ → List ℕ → Loaded → Type 0
 IsSetupUnder binding text setup = (wiring : Wiring) × IsConnected (Some binding) wiring × IsSetup wiring text setup
 
-abbrev pub IsSetupOf : PlayBytes → Loaded → Type 0
-IsSetupOf bytes setup = IsSetupUnder bytes.binding bytes.text setup
+-- The text's setup: where no file of kept values is named, or none that can be used, the text's own; else the one that
+-- begins with the values of the file.
+pub record IsSetupOf (bytes : PlayBytes) (setup : Loaded) : Type 0 where
+  pub kept : Option KeptState
+  pub used : AreUsed bytes.file kept
+  pub loaded : IsBegunUnder bytes.binding bytes.text kept setup
+
+-- each scan of a history came to what the source program that the text spells means of the snapshot that it took
+abbrev pub AreMeantBy : (bytes : PlayBytes) (setup : Loaded) → IsSetupOf bytes setup → List Event → Type 0
+AreMeantBy bytes setup is history =
+    AreAsMeant (tree_of is.loaded.0 bytes.text is.kept setup is.loaded.2) is.loaded.0.buses history
 
 -- the installation of the text's setup on the buses of the scenario, to which nothing has happened
 pub record IsStarted (bytes : PlayBytes) (limit : ℕ) (installation : Installation Simulated)
@@ -93,7 +108,7 @@ pub record IsPlayedOut (bytes : PlayBytes) (limit : ℕ) (ending : Ending) (left
   pub statements : List Statement
   pub started : IsStarted bytes limit start statements
   pub legal : AreLegal left.plant.plant left.plant.history
-  pub meant : AreAsMeant started.loaded.2.plan.tree started.loaded.0.buses left.plant.history
+  pub meant : AreMeantBy bytes started.setup started.loaded left.plant.history
   pub played : IsPlayedTo ending (happenings statements) (stage_of start) (stage_of left)
   pub told : IsByScenario started.setup statements ending (stage_of left)
 
@@ -142,13 +157,14 @@ IsPlayEnd bytes limit expected watched status =
     ((stop : PlayStop) × IsPlayStop bytes 1 limit stop × (status ≡ status_of_play_stop stop))
     ⊎ (IsUnknown bytes limit expected watched status ⊎ IsPlayedUnder bytes limit expected watched status)
 
--- the disk gave these bytes for the three files
+-- the disk gave these bytes for the three files, and for that of kept values where one is named
 pub record AreGiven (gives : List ℕ → List ℕ → Type 0) (files : PlayFiles) (bytes : PlayBytes) : Type 0 where
   pub binding : gives files.binding.now bytes.binding
   pub text : gives files.text.now bytes.text
   pub scenario : gives files.scenario.now bytes.scenario
+  pub kept : IsGiven gives (option_copied files.keep) bytes.file
 
--- the program ends so by what the disk gave for the three files; of what is printed nothing is said
+-- the program ends so by what the disk gave for the files; of what is printed nothing is said
 pub record IsPlayed (gives : List ℕ → List ℕ → Type 0) (files : PlayFiles) (limit : ℕ) (expected : List ExpectedWord)
     (watched : List (Bor (List ℕ))) (status : ExitStatus) : Type 0 where
   pub bytes : PlayBytes
@@ -158,14 +174,17 @@ pub record IsPlayed (gives : List ℕ → List ℕ → Type 0) (files : PlayFile
 -- ---- files that are not read
 
 -- the binding at this path isn't read; or it is, and the text at this path isn't; or both are, and the scenario at this
--- path isn't
+-- path isn't; or all three are, and the file of kept values at this path isn't
 abbrev pub IsFirstFileUnread : (List ℕ → List ℕ → Type 0) → (List ℕ → DiskFault → Type 0) → PlayFiles → List ℕ → DiskFault
     → Type 0
 IsFirstFileUnread gives fails files path why =
     ((path ≡ files.binding.now) × fails path why)
     ⊎ (((binding : List ℕ) × gives files.binding.now binding)
     × (((path ≡ files.text.now) × fails path why)
-    ⊎ (((text : List ℕ) × gives files.text.now text) × (path ≡ files.scenario.now) × fails path why)))
+    ⊎ (((text : List ℕ) × gives files.text.now text)
+    × (((path ≡ files.scenario.now) × fails path why)
+    ⊎ (((scenario : List ℕ) × gives files.scenario.now scenario)
+    × (option_copied files.keep ≡ Some path) × fails path why)))))
 
 -- the first of the named files that isn't read is reported; of a failure of the writer nothing is said
 abbrev pub IsUnplayed : (List ℕ → List ℕ → Type 0) → (List ℕ → DiskFault → Type 0) → PlayFiles → Unserved → Type 0

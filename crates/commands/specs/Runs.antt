@@ -5,7 +5,6 @@ use Rattle.wordlines.specs.declared.statements.Statement.{Statement}
 use Rattle.wordlines.specs.Scenarios.{IsScenario}
 use Rattle.simbus.specs.ScriptedTicks.{ScriptedTicks}
 use Rattle.simbus.specs.Simulated.{Simulated}
-use Rattle.plantload.specs.MeantScans.{AreAsMeant}
 use Rattle.driving.specs.Downs.{has_down}
 use Rattle.plantrun.specs.Runs.{IsRun}
 use Rattle.workers.specs.declared.closed.ClosedParts.{ClosedParts}
@@ -14,9 +13,9 @@ use Rattle.invocations.specs.declared.files.PlayFiles.{PlayFiles}
 use Rattle.invocations.specs.declared.invocations.RunSize.{RunSize}
 use Rattle.exits.specs.declared.play_stop.PlayStop.{PlayStop}
 use Rattle.exits.specs.ExitStatuses.{status_of_play_stop, status_of_run}
-use Rattle.commands.specs.Plays.{PlayBytes, AreGiven, IsPlayStop, IsSetupOf}
+use Rattle.commands.specs.Plays.{PlayBytes, AreGiven, AreMeantBy, IsPlayStop, IsSetupOf}
 
--- The plant of the text's setup under the binding was run on the buses and the clock of the scenario that the bytes
+-- The plant of the text's setup under the binding, which begins with kept values where a file of them is used, was run on the buses and the clock of the scenario that the bytes
 -- spell, with so many scan workers and this limit. What it leaves: a legal history, in which nothing is open, in which
 -- buses and clock sent, gave and took what it says, and which follows the scenario (IsRun); and each scan came to what
 -- the source program means of the snapshot that it took.
@@ -26,7 +25,7 @@ pub record IsRunOut (bytes : PlayBytes) (size : RunSize) (left : ClosedParts Sim
   pub statements : List Statement
   pub scenario : IsScenario bytes.scenario statements
   pub run : IsRun setup statements size.workers size.limit left
-  pub meant : AreAsMeant loaded.2.plan.tree loaded.0.buses left.plant.history
+  pub meant : AreMeantBy bytes setup loaded left.plant.history
 
 -- what a run comes to: what it leaves, or what stands against it
 abbrev pub RunEnd : Type 0
@@ -41,7 +40,7 @@ abbrev pub status_of_run_end : RunEnd → ExitStatus
 status_of_run_end (Ok left) = status_of_run left.ended (has_down left.plant.plant.plan.buses left.plant.history)
 status_of_run_end (Err stop) = status_of_play_stop stop
 
--- it comes to this by what the disk gave for the three files; of what is printed nothing is said
+-- it comes to this by what the disk gave for the files; of what is printed nothing is said
 pub record IsRunServed (gives : List ℕ → List ℕ → Type 0) (files : PlayFiles) (size : RunSize) (came_to : RunEnd) : Type 0
   where
     pub bytes : PlayBytes

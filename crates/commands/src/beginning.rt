@@ -1,26 +1,26 @@
 //! What a building begins with.
 
-ghost use Rattle.std.specs.Prelude.{◌≡◌, ℕ, List, Option, None, IfErr, IfOk, option_map};
+ghost use Rattle.std.specs.Prelude.{◌≡◌, ℕ, List, Some, None, IfErr, IfOk, option_map};
 ghost use Rattle.commands.specs.Plays.{IsSetupUnder, IsStopUnder};
-ghost use Rattle.commands.specs.Beginnings.{AreUsed, IsBegunUnder, IsFileOf, IsKeepRead};
+ghost use Rattle.commands.specs.Beginnings.{AreUsed, IsBegunUnder, IsKeepRead};
 ghost use Rattle.commands.specs.Beginnings.{IsKeepUnread};
 
 use crate::pages::setup_of;
 use crate::reading::{Disk, DiskFault};
 use crate::serving::Unserved;
-use answers::{Stop, binding_of};
+use answers::Stop;
 use ilcompile::Setup;
 use jiff::Timestamp;
 use keeping::{Kept, KeptAt, KeptFault, LeftOut};
-use plantload::{LoadFault, load_kept};
-use std::alloc::Global;
+use plantload::begin_kept;
+use std::alloc::{AllocError, Global};
 use std::fmt;
 
 /// The setup that a building begins with.
 #[derive(Drop)]
 pub struct Beginning {
     pub setup: Setup,
-    /// The values with which global variables begin, where a file of them is used.
+    /// The values with which variables begin, where a file of them is used.
     pub kept: Option<Kept>,
     pub note: KeptNote,
 }
@@ -32,8 +32,6 @@ pub enum KeptNote {
     NoFile,
     /// It isn't used.
     Unused(KeptFault),
-    /// What begins with its values is refused.
-    Refused,
     /// It is used, but for these values. It says when they were kept, unless it is of version 1.
     Used(Option<KeptAt>, Vec<LeftOut>),
 }
@@ -43,7 +41,6 @@ impl fmt::Display for KeptNote {
         match self {
             KeptNote::NoFile => Ok(()),
             KeptNote::Unused(fault) => writeln!(f, "kept values not used: {fault}"),
-            KeptNote::Refused => writeln!(f, "kept values not used: refused"),
             KeptNote::Used(at, left_out) => {
                 write!(f, "kept values used")?;
                 if let Some(at) = at {
@@ -101,8 +98,8 @@ pub(crate) fn kept_at<'a, D: Disk>(
     }
 }
 
-/// The setup of a text under a binding, whose global variables begin with the values of a file of
-/// kept ones, where there is one that fits.
+/// The setup of a text under a binding, whose variables begin with the values of a file of kept
+/// ones, where there is one that can be used.
 ///
 /// # Errors
 ///
@@ -114,8 +111,8 @@ pub(crate) fn beginning_of(
     file: Option<&Vec<u8>>,
 ) -> Result<Beginning, Stop>
     ensures begun { IfOk result (λ b. IsBegunUnder binding.now text.now b.kept b.setup) }
-    ensures used { IfOk result (λ b. AreUsed binding.now text.now
-        (option_map (λ bytes. bytes.now.items) file.entry) b.kept) }
+    ensures used { IfOk result (λ b.
+        AreUsed (option_map (λ bytes. bytes.now.items) file.entry) b.kept) }
     ensures stop { IfErr result (IsStopUnder binding.now text.now) }
 {
     let setup = setup_of(alloc, binding, text)?;
@@ -127,7 +124,7 @@ pub(crate) fn beginning_of(
         });
     };
     match Kept::parse(alloc, bytes) {
-        Ok(kept) => begun_with(alloc, binding, text, setup, kept),
+        Ok(kept) => Ok(begun_with(alloc, setup, kept)?),
         Err(KeptFault::Memory) => Err(Stop::Memory),
         Err(KeptFault::Empty) => Ok(without(setup, KeptNote::Unused(KeptFault::Empty))),
         Err(KeptFault::Torn) => Ok(without(setup, KeptNote::Unused(KeptFault::Torn))),
@@ -146,37 +143,21 @@ fn without(setup: Setup, note: KeptNote) -> Beginning
     }
 }
 
-/// The setup whose global variables begin with kept values, or the text's own where that is refused.
+/// The setup whose variables begin with kept values.
 ///
 /// # Errors
 ///
 /// The allocator is out of memory.
-fn begun_with(
-    alloc: Global,
-    binding: &[u8],
-    text: &[u8],
-    setup: Setup,
-    kept: Kept,
-) -> Result<Beginning, Stop>
-    requires loaded { IsSetupUnder binding.now text.now setup }
-    ensures begun { IfOk result (λ b. IsBegunUnder binding.now text.now b.kept b.setup) }
-    ensures used { IfOk result (λ b. (file : Option (List ℕ)) → IsFileOf file kept
-        → AreUsed binding.now text.now file b.kept) }
-    ensures stop { IfErr result (IsStopUnder binding.now text.now) }
+fn begun_with(alloc: Global, setup: Setup, kept: Kept) -> Result<Beginning, AllocError>
+    ensures begun { IfOk result (λ b. (binding text : List ℕ) → IsSetupUnder binding text setup
+        → IsBegunUnder binding text b.kept b.setup) }
+    ensures kept { IfOk result (λ b. b.kept ≡ Some kept) }
 {
-    let binding = binding_of(alloc, Some(binding))?;
-    match load_kept(alloc, text, &binding, &kept) {
-        Ok((setup, left_out)) => {
-            let note = KeptNote::Used(kept.at(), left_out);
-            Ok(Beginning {
-                setup,
-                kept: Some(kept),
-                note,
-            })
-        }
-        Err(LoadFault::Memory) => Err(Stop::Memory),
-        Err(LoadFault::Text(_)) => Ok(without(setup, KeptNote::Refused)),
-        Err(LoadFault::Name(_)) => Ok(without(setup, KeptNote::Refused)),
-        Err(LoadFault::Code(_)) => Ok(without(setup, KeptNote::Refused)),
-    }
+    let (setup, left_out) = begin_kept(alloc, setup, &kept)?;
+    let note = KeptNote::Used(kept.at(), left_out);
+    Ok(Beginning {
+        setup,
+        kept: Some(kept),
+        note,
+    })
 }

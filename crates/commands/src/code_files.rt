@@ -11,7 +11,7 @@ ghost use Rattle.commands.specs.Reports.{ended, stop_text};
 
 use crate::reading::Disk;
 use crate::report;
-use crate::serving::{Unserved, binding_at, bytes_at};
+use crate::serving::{Unserved, bytes_at, named_at};
 use answers::{Answer, CodeAnswer, Stop, binding_of, code_of, judge};
 use commandline::Files;
 use exits::ExitStatus;
@@ -42,7 +42,7 @@ pub fn serve_code<'a, D: Disk, W: Write + Drop, E: Write>(
     ensures unserved { IfErr result (IsCodeUnserved (D.gives disk.now) (D.fails disk.now)
         (D.refuses disk.now) files.entry (option_map (λ name. name.now) task.entry) to.now) }
 {
-    let binding = binding_at(alloc, disk, files.binding)?;
+    let binding = named_at(alloc, disk, files.binding)?;
     let text = bytes_at(alloc, disk, files.text)?;
     match code_under(alloc, binding.as_deref(), &text, task) {
         Ok(code) => {

@@ -314,10 +314,20 @@ fn observer_of<'o, 'a, S: Storage, R: Wait>(
     if let Some(path) = aside(&begun.note, options.beside.keep) {
         put_aside(alloc, storage, path);
     }
+    let beside = &options.beside;
+    let kept = used_bytes(&begun.note, pages);
     let workers = options.size.workers as usize;
-    match BuildingObserver::open(rt, alloc, storage, &options.beside, begun.setup, workers) {
+    match BuildingObserver::open(rt, alloc, storage, beside, begun.setup, kept, workers) {
         Ok(observer) => Ok(observer),
         Err(_) => Err(Halted::Text(Stop::Memory)),
+    }
+}
+
+/// The bytes of the file of kept values, where they are used.
+fn used_bytes<'p>(note: &KeptNote, pages: &'p LivePages) -> Option<&'p [u8]> {
+    match note {
+        KeptNote::Used(..) => pages.kept.as_deref(),
+        KeptNote::NoFile | KeptNote::Unused(_) => None,
     }
 }
 
@@ -334,7 +344,7 @@ fn finish_after<S: Storage, R: Wait, B: Bus, C: Clock>(
 /// The path of a file of kept values that isn't used.
 fn aside<'a>(note: &KeptNote, path: Option<&'a str>) -> Option<&'a str> {
     match note {
-        KeptNote::Unused(_) | KeptNote::Refused => path,
+        KeptNote::Unused(_) => path,
         KeptNote::NoFile | KeptNote::Used(..) => None,
     }
 }

@@ -1,6 +1,7 @@
 //! Looking at a scenario: its files are read, it is played, and a picture of that is printed or
 //! written to a file.
 
+use crate::beginning::KeptNote;
 use crate::pages::{Pages, read_pages};
 use crate::playing::start_watched;
 use crate::reading::Disk;
@@ -30,12 +31,13 @@ enum Undrawn {
     Unknown(Vec<u8>),
 }
 
-/// Reads the files that are named, the binding before the text and that before the scenario, plays
-/// the scenario and prints a picture of what happened, with a row for each variable that is watched,
-/// as SVG or as lines for a terminal; the writer, which then has all of it, and how the program ends.
-/// Where the picture goes to a file, the writer has nothing, and what stands against playing goes to
-/// the standard error. Names that are watched and that no variable has go there too; then nothing is
-/// played. What is printed is by rows alone.
+/// Reads the files that are named, the binding before the text, that before the scenario and that
+/// before the kept values, plays the scenario and prints a picture of what happened, with a row for
+/// each variable that is watched, as SVG or as lines for a terminal; the writer, which then has all of
+/// it, and how the program ends. Where the picture goes to a file, the writer has nothing, and what
+/// stands against playing goes to the standard error, as does what became of the file of kept values.
+/// Names that are watched and that no variable has go there too; then nothing is played. What is
+/// printed is by rows alone.
 ///
 /// # Errors
 ///
@@ -73,7 +75,7 @@ fn look_at<'a, D: Disk, E: Eprint>(
     watches: &[&str],
 ) -> Result<ExitStatus, Unserved<'a>> {
     let pages = read_pages(alloc, disk, files)?;
-    match draw(alloc, &pages, files, options, watches)? {
+    match draw(alloc, errors, &pages, files, options, watches)? {
         Ok((picture, status)) => {
             write_at(alloc, disk, path, picture, options)?;
             Ok(status)
@@ -106,7 +108,7 @@ fn print<W: Write + Drop, E: Eprint>(
     watches: &[&str],
 ) -> io::Result<(W, ExitStatus)> {
     let mut out = BufWriter::new(alloc, to)?;
-    let status = match draw(alloc, pages, files, options, watches)? {
+    let status = match draw(alloc, errors, pages, files, options, watches)? {
         Ok((picture, status)) => {
             write_picture(alloc, &mut out, picture, options)?;
             status
@@ -156,19 +158,21 @@ fn write_picture<W: Write>(
 /// # Errors
 ///
 /// The allocator is out of memory.
-fn draw(
+fn draw<E: Eprint>(
     alloc: Global,
+    errors: &E,
     pages: &Pages,
     files: PlayFiles,
     options: LookOptions,
     watches: &[&str],
 ) -> io::Result<Result<(Picture, ExitStatus), Undrawn>> {
     match start_watched(alloc, pages, LIMIT, watches) {
-        Ok((mut installation, scenario, watch)) => {
+        Ok((mut installation, scenario, note, watch)) => {
             if !are_watchable(installation.plant().setup().plan(), watches) {
                 let lines = unknown(alloc, installation.plant(), watches)?;
                 return Ok(Err(Undrawn::Unknown(lines)));
             }
+            let _told = tell(errors, &note);
             let bus = options.bus;
             let (mut picture, status) = draw_all(alloc, &mut installation, &scenario, watch, bus)?;
             picture.name = name_of(alloc, files, options)?;
@@ -176,6 +180,11 @@ fn draw(
         }
         Err(stop) => Ok(Err(Undrawn::Stopped(stop))),
     }
+}
+
+/// Prints what became of the file of kept values to the standard error.
+fn tell<E: Eprint>(errors: &E, note: &KeptNote) -> io::Result<()> {
+    eprint!(errors; "{note}")
 }
 
 /// What is reported of names that no variable has.
@@ -229,8 +238,12 @@ fn name_of(alloc: Global, files: PlayFiles, options: LookOptions) -> Result<Stri
         text,
         binding,
         scenario,
+        keep,
     } = files;
     let mut name = format!(in alloc; "{text}, {binding}, {scenario}")?;
+    if let Some(keep) = keep {
+        name.push_str(&format!(in alloc; ", {keep}")?)?;
+    }
     if let Some(bus) = options.bus {
         name.push_str(&format!(in alloc; ", bus {bus}")?)?;
     }

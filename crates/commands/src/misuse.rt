@@ -26,7 +26,8 @@ pub(crate) fn check_invocation<R: Files>(
             let Some(to) = options.to else {
                 return Ok(());
             };
-            let reads = [files.text, files.binding, files.scenario];
+            let kept = files.keep.unwrap_or(files.scenario);
+            let reads = [files.text, files.binding, files.scenario, kept];
             check_paths(rt, alloc, &reads, &[over(to, "the picture")])
         }
         Invocation::Tool(tool) => check_tool(rt, alloc, tool),
@@ -105,7 +106,7 @@ fn check_live<R: Files>(
     let log = beside.log.filter(|path| *path != "-");
     let mut writes = Vec::new(alloc);
     add_written(&mut writes, log, "the log", Writing::Behind)?;
-    add_written(&mut writes, beside.record, "the record", Writing::Aside)?;
+    add_written(&mut writes, beside.record, "the record", Writing::AsideKept)?;
     add_written(&mut writes, beside.status, "the status", Writing::Whole)?;
     add_written(&mut writes, beside.keep, "what is kept", Writing::Aside)?;
     check_paths(rt, alloc, &reads, &writes)

@@ -2,11 +2,13 @@
 
 ghost use Rattle.std.specs.Prelude.{IfErr, IfOk};
 ghost use Rattle.wordlines.specs.Scenarios.{IsJudged};
+ghost use Rattle.commands.specs.Beginnings.{HasBegun};
 ghost use Rattle.commands.specs.Plays.{AreGiven, IsSetupOf, IsSetupUnder, IsStopUnder};
 ghost use Rattle.commands.specs.Plays.{IsTextStop, IsUnplayed};
 
+use crate::beginning::{Beginning, beginning_of};
 use crate::reading::Disk;
-use crate::serving::{Unserved, bytes_at};
+use crate::serving::{Unserved, bytes_at, named_at};
 use answers::{Stop, binding_of, check};
 use commandline::PlayFiles;
 use ilcompile::Setup;
@@ -20,9 +22,12 @@ pub(crate) struct Pages {
     pub binding: Vec<u8>,
     pub text: Vec<u8>,
     pub scenario: Vec<u8>,
+    /// The file of kept values, where one is named.
+    pub kept: Option<Vec<u8>>,
 }
 
 impl Model for Pages {
+    ghost use Rattle.std.specs.Prelude.{option_map};
     ghost use Rattle.commands.specs.Plays.{PlayBytes};
 
     ghost Value = { PlayBytes };
@@ -31,10 +36,12 @@ impl Model for Pages {
       binding = pages.binding.items;
       text = pages.text.items;
       scenario = pages.scenario.items;
+      file = option_map (λ bytes. bytes.items) pages.kept;
     } };
 }
 
-/// Reads the files that are named, the binding before the text and that before the scenario.
+/// Reads the files that are named, the binding before the text, that before the scenario, and that
+/// before the kept values.
 ///
 /// # Errors
 ///
@@ -51,6 +58,7 @@ pub(crate) fn read_pages<'a, D: Disk>(
         binding: bytes_at(alloc, disk, files.binding)?,
         text: bytes_at(alloc, disk, files.text)?,
         scenario: bytes_at(alloc, disk, files.scenario)?,
+        kept: named_at(alloc, disk, files.keep)?,
     })
 }
 
@@ -67,16 +75,30 @@ pub(crate) fn setup_of(alloc: Global, binding: &[u8], text: &[u8]) -> Result<Set
     check(alloc, &binding, text)
 }
 
-/// The setup of the text under the binding.
+/// The setup of the text under the binding, whose variables begin with the values of the file of kept
+/// ones, where one is named that can be used.
 ///
 /// # Errors
 ///
 /// The binding's fault, else what stands against the text.
-pub(crate) fn setup_in(alloc: Global, pages: &Pages) -> Result<Setup, Stop>
-    ensures setup { IfOk result (IsSetupOf pages.now) }
+pub(crate) fn beginning_in(alloc: Global, pages: &Pages) -> Result<Beginning, Stop>
+    ensures setup { IfOk result (λ begun. IsSetupOf pages.now begun.setup) }
     ensures stop { IfErr result (IsTextStop pages.now) }
 {
-    setup_of(alloc, &pages.binding, &pages.text)
+    let begun = begun_in(alloc, pages)?;
+    Ok(begun)
+}
+
+/// What a scenario begins with, by its files.
+///
+/// # Errors
+///
+/// Those of [`beginning_in`].
+fn begun_in(alloc: Global, pages: &Pages) -> Result<Beginning, Stop>
+    ensures begun { IfOk result (HasBegun pages.now.binding pages.now.text pages.now.file) }
+    ensures stop { IfErr result (IsTextStop pages.now) }
+{
+    beginning_of(alloc, &pages.binding, &pages.text, pages.kept.as_ref())
 }
 
 /// The scenario that bytes spell.

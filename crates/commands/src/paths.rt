@@ -66,6 +66,8 @@ pub(crate) enum Writing {
     Whole,
     /// So, and what was FILE may become FILE.old.
     Aside,
+    /// So, and the kept values beside it are FILE.keep, and may become FILE.old.keep.
+    AsideKept,
     /// Behind what is there, and FILE becomes FILE.1, and so on.
     Behind,
 }
@@ -277,6 +279,11 @@ fn names_beside(alloc: Global, path: &str, writing: Writing) -> Result<Vec<Strin
         Writing::Aside => {
             names.push(format!(in alloc; "{path}.new")?)?;
             names.push(format!(in alloc; "{path}.old")?)?;
+        }
+        Writing::AsideKept => {
+            for ending in &["new", "old", "keep", "keep.new", "old.keep"] {
+                names.push(format!(in alloc; "{path}.{ending}")?)?;
+            }
         }
         Writing::Behind => {
             for number in 1..=MOST_OLD {

@@ -6,15 +6,16 @@ ghost use Rattle.commands.specs.Plays.{IsPlayed, IsStarted, IsUnplayed, status_u
 ghost use Rattle.expectations.specs.Expected.{AreKnown};
 ghost use Rattle.watching.specs.Watched.{AreWatchable};
 
+use crate::beginning::{Beginning, KeptNote};
 use crate::brief::Brief;
-use crate::pages::{Pages, read_pages, scenario_of, setup_in};
+use crate::pages::{Pages, beginning_in, read_pages, scenario_of};
 use crate::reading::Disk;
 use crate::serving::Unserved;
 use crate::unknown::{write_unknown, write_unwatchable};
 use commandline::{ExpectedWord, PlayFiles, PlayShows};
 use exits::{ExitStatus, PlayStop};
 use expectations::{are_known, are_met, report_unmet};
-use plantload::scans_are_as_meant;
+use plantload::{kept_scans_are_as_meant, scans_are_as_meant};
 use plantplay::{FrameStyle, Installation, StartFault, open, play_watched, plays_are_by_scenario};
 use simbus::{Scenario, SimBus};
 use std::alloc::Global;
@@ -31,10 +32,11 @@ struct Asked<'a> {
     watched: &'a [&'a str],
 }
 
-/// Reads the files that are named, the binding before the text and that before the scenario, plays
-/// the scenario and prints what happens; the writer, which then has every line, and how the program
-/// ends. `complaints` gets what isn't as expected at the end, or the names, expected or watched, that
-/// the text does not have; then nothing is played.
+/// Reads the files that are named, the binding before the text, that before the scenario and that
+/// before the kept values, plays the scenario and prints what happens; the writer, which then has every
+/// line, and how the program ends. `complaints` gets what became of the file of kept values, and what
+/// isn't as expected at the end; or the names, expected or watched, that the text does not have; then
+/// nothing is played.
 ///
 /// # Errors
 ///
@@ -122,12 +124,14 @@ fn report<W: Write, E: Write>(
         asked.entry.watched.now) }
 {
     match start_watched(alloc, pages, limit, asked.watched) {
-        Ok((mut installation, scenario, watch)) => {
+        Ok((mut installation, scenario, note, watch)) => {
             if !knows(&installation, asked) {
                 report_names(alloc, complaints, &installation, asked);
                 return Ok(ExitStatus::Misused);
             }
+            let _told = write!(complaints, "{note}");
             scans_are_as_meant();
+            kept_scans_are_as_meant();
             plays_are_by_scenario();
             let ending = play_watched(alloc, out, style, watch, &mut installation, &scenario)?;
             out.flush()?;
@@ -201,7 +205,8 @@ fn unmet(status: ExitStatus) -> ExitStatus
     }
 }
 
-/// The plant of the text on the simulated buses of the scenario, and the scenario.
+/// The plant of the text on the simulated buses of the scenario, the scenario, and what became of the
+/// file of kept values.
 ///
 /// # Errors
 ///
@@ -211,18 +216,19 @@ pub(crate) fn start(
     alloc: Global,
     pages: &Pages,
     limit: u32,
-) -> Result<(Installation<SimBus>, Scenario), PlayStop>
+) -> Result<(Installation<SimBus>, Scenario, KeptNote), PlayStop>
     ensures started { IfOk result (λ made. IsStarted pages.now limit made.0 made.1) }
     ensures stop { IfErr result (IsPlayStop pages.now 1 limit) }
 {
-    let setup = setup_in(alloc, pages)?;
+    let begun = beginning_in(alloc, pages)?;
     let scenario = scenario_of(alloc, &pages.scenario)?;
+    let Beginning { setup, note, .. } = begun;
     let installation = open(alloc, setup, &scenario, u64::from(limit))?;
-    Ok((installation, scenario))
+    Ok((installation, scenario, note))
 }
 
-/// The plant of the text on the simulated buses of the scenario, the scenario, and the watch of the
-/// variables of these names, where there are any.
+/// The plant of the text on the simulated buses of the scenario, the scenario, what became of the file
+/// of kept values, and the watch of the variables of these names, where there are any.
 ///
 /// # Errors
 ///
@@ -232,13 +238,13 @@ pub(crate) fn start_watched(
     pages: &Pages,
     limit: u32,
     watched: &[&str],
-) -> Result<(Installation<SimBus>, Scenario, Option<Watch>), PlayStop>
+) -> Result<(Installation<SimBus>, Scenario, KeptNote, Option<Watch>), PlayStop>
     ensures started { IfOk result (λ made. IsStarted pages.now limit made.0 made.1) }
     ensures stop { IfErr result (IsPlayStop pages.now 1 limit) }
 {
-    let (installation, scenario) = start(alloc, pages, limit)?;
+    let (installation, scenario, note) = start(alloc, pages, limit)?;
     let watch = watch_of(alloc, pages, limit, watched)?;
-    Ok((installation, scenario, watch))
+    Ok((installation, scenario, note, watch))
 }
 
 /// The watch of the variables of these names, where there are any.
@@ -258,8 +264,8 @@ fn watch_of(
     if watched.is_empty() {
         return Ok(None);
     }
-    let setup = setup_in(alloc, pages)?;
-    match Watch::open(alloc, setup, u64::from(limit), watched) {
+    let begun = beginning_in(alloc, pages)?;
+    match Watch::open(alloc, begun.setup, u64::from(limit), watched) {
         Ok(watch) => Ok(Some(watch)),
         Err(fault) => Err(PlayStop::Start(StartFault::Plant(fault))),
     }

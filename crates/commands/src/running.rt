@@ -4,13 +4,14 @@ ghost use Rattle.std.specs.Prelude.{◌≡◌, IfErr, IfOk};
 ghost use Rattle.commands.specs.Plays.{IsPlayStop, IsUnplayed};
 ghost use Rattle.commands.specs.Runs.{IsRunServed, IsRunEnd, IsRunOut, status_of_run_end};
 
-use crate::pages::{Pages, read_pages, scenario_of, setup_in};
+use crate::beginning::Beginning;
+use crate::pages::{Pages, beginning_in, read_pages, scenario_of};
 use crate::reading::Disk;
 use crate::serving::Unserved;
 use commandline::{PlayFiles, RunSize};
 use driving::has_down;
 use exits::{ExitStatus, PlayStop};
-use plantload::scans_are_as_meant;
+use plantload::{kept_scans_are_as_meant, scans_are_as_meant};
 use plantrun::{run, write_run};
 use simbus::{ScriptedClock, SimBus};
 use std::alloc::Global;
@@ -24,18 +25,19 @@ use workers::Closed;
 /// What a run came to: what it left, or what stands against it. Only a run leaves a `Closed`.
 pub type RunEnd = Result<Closed<SimBus, ScriptedClock>, PlayStop>;
 
-/// Reads the files that are named, the binding before the text and that before the scenario, runs
-/// the scenario in threads and prints what it came to; the writer, which then has every line, and
-/// what it came to.
+/// Reads the files that are named, the binding before the text, that before the scenario and that
+/// before the kept values, runs the scenario in threads and prints what it came to; the writer, which
+/// then has every line, and what it came to. `complaints` gets what became of the file of kept values.
 ///
 /// # Errors
 ///
 /// The first file that isn't read, or the writer's error.
-pub fn serve_run<'a, D: Disk, W: Write + Drop, R: Threads + Wait + Timer + Sync>(
+pub fn serve_run<'a, D: Disk, W: Write + Drop, E: Write, R: Threads + Wait + Timer + Sync>(
     rt: &R,
     alloc: Global,
     disk: &D,
     to: W,
+    complaints: &mut E,
     files: PlayFiles<'a>,
     size: RunSize,
 ) -> Result<(W, RunEnd), Unserved<'a>>
@@ -43,7 +45,7 @@ pub fn serve_run<'a, D: Disk, W: Write + Drop, R: Threads + Wait + Timer + Sync>
     ensures unread { IfErr result (IsUnplayed (D.gives disk.now) (D.fails disk.now) files.entry) }
 {
     let pages = read_pages(alloc, disk, files)?;
-    Ok(print(rt, alloc, to, &pages, size)?)
+    Ok(print(rt, alloc, to, complaints, &pages, size)?)
 }
 
 /// How the program ends by what a run came to.
@@ -57,17 +59,18 @@ pub fn status_of_run(end: &RunEnd) -> ExitStatus
 }
 
 /// Runs the scenario, and prints what it came to through a buffer, of which nothing is left behind.
-fn print<W: Write + Drop, R: Threads + Wait + Timer + Sync>(
+fn print<W: Write + Drop, E: Write, R: Threads + Wait + Timer + Sync>(
     rt: &R,
     alloc: Global,
     to: W,
+    complaints: &mut E,
     pages: &Pages,
     size: RunSize,
 ) -> io::Result<(W, RunEnd)>
     ensures { IfOk result (λ done. IsRunEnd pages.now size done.1) }
 {
     let mut out = BufWriter::new(alloc, to)?;
-    let end = run_pages(rt, alloc, pages, size);
+    let end = run_pages(rt, alloc, complaints, pages, size);
     report(&mut out, &end)?;
     Ok((out.into_inner()?, end))
 }
@@ -86,19 +89,23 @@ fn report<W: Write>(out: &mut W, end: &RunEnd) -> io::Result<()> {
 ///
 /// The binding's fault, else what stands against the text, else the scenario's fault, else why the
 /// plant doesn't start.
-fn run_pages<R: Threads + Wait + Timer + Sync>(
+fn run_pages<E: Write, R: Threads + Wait + Timer + Sync>(
     rt: &R,
     alloc: Global,
+    complaints: &mut E,
     pages: &Pages,
     size: RunSize,
 ) -> RunEnd
     ensures run { IfOk result (IsRunOut pages.now size) }
     ensures stop { IfErr result (IsPlayStop pages.now size.workers size.limit) }
 {
-    let setup = setup_in(alloc, pages)?;
+    let begun = beginning_in(alloc, pages)?;
     let scenario = scenario_of(alloc, &pages.scenario)?;
+    let Beginning { setup, note, .. } = begun;
+    let _told = write!(complaints, "{note}");
     let limit = u64::from(size.limit);
     scans_are_as_meant();
+    kept_scans_are_as_meant();
     let left = run(rt, alloc, setup, &scenario, limit, size.workers as usize)?;
     Ok(left)
 }

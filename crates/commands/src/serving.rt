@@ -55,14 +55,14 @@ pub fn serve<'a, D: Disk, W: Write + Drop, E: Write>(
         (IsUnserved (D.gives disk.now) (D.fails disk.now) inquiry.entry) }
 {
     let files = inquiry.files();
-    let binding = binding_at(alloc, disk, files.binding)?;
+    let binding = named_at(alloc, disk, files.binding)?;
     let text = bytes_at(alloc, disk, files.text)?;
     let answer = respond(alloc, inquiry, binding.as_deref(), &text);
     Ok(report::print(alloc, to, complaints, &answer)?)
 }
 
-/// The bytes that the disk gives for the binding's path, where one is named.
-pub(crate) fn binding_at<'a, D: Disk>(
+/// The bytes that the disk gives for a path, where one is named.
+pub(crate) fn named_at<'a, D: Disk>(
     alloc: Global,
     disk: &D,
     path: Option<&'a str>,

@@ -102,7 +102,7 @@ where
             shows,
         } => serve_play(alloc, &disk, out, &mut complaints, files, limit, &shows),
         Invocation::Run { files, size } => {
-            match serve_run(threads, alloc, &disk, out, files, size) {
+            match serve_run(threads, alloc, &disk, out, &mut complaints, files, size) {
                 Ok((out, end)) => Ok((out, status_of_run(&end))),
                 Err(unserved) => Err(unserved),
             }

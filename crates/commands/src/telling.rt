@@ -2,7 +2,7 @@
 
 use crate::objects::{write_explained, write_noted, write_sizes, write_stop, write_words};
 use crate::reading::Disk;
-use crate::serving::{Unserved, binding_at, bytes_at};
+use crate::serving::{Unserved, bytes_at, named_at};
 use answers::{Stop, UnknownTask, binding_of, check};
 use commandline::{Files, Question};
 use exits::{ExitStatus, PlayStop};
@@ -86,9 +86,9 @@ pub fn serve_question<'a, D: Disk, W: Write + Drop, E: Write>(
         }
     }
     let sheets = Sheets {
-        binding: binding_at(alloc, disk, files.binding)?,
+        binding: named_at(alloc, disk, files.binding)?,
         text: bytes_at(alloc, disk, files.text)?,
-        scenario: binding_at(alloc, disk, asked.scenario())?,
+        scenario: named_at(alloc, disk, asked.scenario())?,
     };
     Ok(print(alloc, to, complaints, asked, &sheets)?)
 }

@@ -4,7 +4,7 @@
 use crate::living::Halted;
 use crate::pages::setup_of;
 use crate::reading::Disk;
-use crate::serving::{Unserved, binding_at, bytes_at};
+use crate::serving::{Unserved, bytes_at, named_at};
 use answers::binding_of;
 use building::{LineupFault, LiveStop, Site, SiteFault};
 use commandline::{LineWord, LiveFiles};
@@ -154,7 +154,7 @@ pub fn listen<'a, D: Disk, S: Site, W: Write, P: Write, R: Timer, E: StopConditi
     timer: &R,
     end: &ListenEnd<E>,
 ) -> Result<ToolEnd<'a>, Unserved<'a>> {
-    let bytes = binding_at(alloc, disk, binding)?;
+    let bytes = named_at(alloc, disk, binding)?;
     let binding = match &bytes {
         Some(bytes) => match binding_of(alloc, Some(bytes.as_slice())) {
             Ok(binding) => Some(binding),

@@ -1,3 +1,4 @@
+pub mod Beginnings
 pub mod BodyRuns
 pub mod BodyStarts
 pub mod BodyWords

@@ -1,6 +1,7 @@
 //! A plan with its verified codes.
 
 use ilplan::Plan;
+use iltypes::Value;
 use ilverify::Verified;
 use std::marker::Model;
 use std::sync::Arc;
@@ -39,6 +40,7 @@ impl Model for Setup {
 impl Setup {
     ghost use Rattle.std.specs.Prelude.{◌≡◌, ◌<◌, length, slice_get, IfSome, Some};
     ghost use Rattle.std.specs.Arc.{arc_value};
+    ghost use Rattle.ilplan.specs.Beginnings.{MayBegin, lists_of, plan_with};
     ghost use Rattle.ilcompile.specs.Loaded.{AreCodes, IsCodeOf, Loaded, accepted_of, loaded_of};
 
     /// The setup of a plan and its tasks' codes.
@@ -47,6 +49,17 @@ impl Setup {
         ensures { result ≡ loaded_of plan (accepted_of verified.items) }
     {
         Setup { plan, verified }
+    }
+
+    /// Lets the plan's variables begin with these values, as [`Plan::begin_with`] does. The codes
+    /// stay as they are: none has the value with which a variable begins.
+    pub fn begin_with(&mut self, globals: &[Value], slots: &[Vec<Value>])
+        requires { MayBegin self.old.plan globals.now (lists_of (λ values. values.items) slots.now) }
+        ensures { self.new ≡ loaded_of
+            (plan_with self.old.plan globals.now (lists_of (λ values. values.items) slots.now))
+            self.old.codes }
+    {
+        self.plan.begin_with(globals, slots);
     }
 
     /// The plan.

@@ -1,3 +1,6 @@
+pub mod Beginnings
+pub mod BegunPlans
+pub mod BegunScans
 pub mod CallsAdded
 pub mod Declared
 pub mod EachOnce

@@ -1,3 +1,4 @@
+pub mod Beginnings
 pub mod Constants
 pub mod Functions
 pub mod PlanMeaning

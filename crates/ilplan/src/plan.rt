@@ -1,5 +1,9 @@
 //! Plans.
 
+ghost use Rattle.std.specs.Prelude.{◌≡◌, length};
+ghost use Rattle.std.specs.List.{AllZip};
+ghost use Rattle.ilplan.specs.Beginnings.{each_with, global_with, task_with, lists_of};
+
 use crate::declared_name::{DeclaredName, SlotName};
 use crate::function::UserFunction;
 use crate::global::Global;
@@ -7,6 +11,7 @@ use crate::slot::SlotOwner;
 use crate::task::Task;
 use crate::usage::used_functions;
 use gearcmd::TaskKind;
+use iltypes::Value;
 use std::alloc::{AllocError, Global as GlobalAllocator};
 use std::marker::Model;
 use wordlines::{BoundSource, BusTries, tries_in};
@@ -66,6 +71,7 @@ impl Plan {
     ghost use Rattle.ilplan.specs.Plans.{Planned, KeepsLimits, IsLawful, plan_of, slot_at};
     ghost use Rattle.ilplan.specs.Plans.{first_values, task_kind, types_of, used_functions};
     ghost use Rattle.ilplan.specs.Plans.{IsTaskOf, IsThere, instance_name, variable_name};
+    ghost use Rattle.ilplan.specs.Beginnings.{MayBegin, plan_with, lists_of};
 
     /// The plan of these tasks and functions, whose names stand in `text`, on so many buses with
     /// these sources of events and these attempts.
@@ -92,6 +98,18 @@ impl Plan {
             functions,
             tasks,
         }
+    }
+
+    /// Lets its variables begin with these values: each global variable with one of its type, and
+    /// each slot of each task with one of its type, which for the slot of a global variable is the
+    /// one of that.
+    pub fn begin_with(&mut self, globals: &[Value], slots: &[Vec<Value>])
+        requires { MayBegin self.old globals.now (lists_of (λ values. values.items) slots.now) }
+        ensures { self.new
+            ≡ plan_with self.old globals.now (lists_of (λ values. values.items) slots.now) }
+    {
+        begin_globals(&mut self.globals, globals);
+        begin_tasks(&mut self.tasks, slots);
     }
 
     /// The text that its names and places are of.
@@ -246,5 +264,29 @@ impl Plan {
         DeclaredName {
             bytes: self.globals[global].name.text(&self.text),
         }
+    }
+}
+
+/// Lets global variables begin with these values, one for each.
+fn begin_globals(globals: &mut Vec<Global>, values: &[Value])
+    requires { length values.now ≡ length globals.old.items }
+    ensures { globals.new.items ≡ each_with global_with globals.old.items values.now }
+{
+    for i in 0..globals.len() {
+        let global = &mut globals[i];
+        global.initial = values[i];
+    }
+}
+
+/// Lets the slots of tasks begin with these values: for each task a list, and in it one for each
+/// slot.
+fn begin_tasks(tasks: &mut Vec<Task>, slots: &[Vec<Value>])
+    requires { AllZip (λ task values. length values ≡ length task.slots) tasks.old.items
+        (lists_of (λ values. values.items) slots.now) }
+    ensures { tasks.new.items ≡ each_with task_with tasks.old.items
+        (lists_of (λ values. values.items) slots.now) }
+{
+    for i in 0..tasks.len() {
+        tasks[i].begin_with(&slots[i]);
     }
 }

@@ -1,5 +1,8 @@
 //! Tasks.
 
+ghost use Rattle.std.specs.Prelude.{◌≡◌, length};
+ghost use Rattle.ilplan.specs.Beginnings.{each_with, slot_with};
+
 use crate::activation::Activation;
 use crate::constants::Constants;
 use crate::instance::{FunctionBlock, ProgramInstance};
@@ -60,6 +63,7 @@ impl Task {
     ghost use Rattle.std.specs.Prelude.{◌≡◌, ◌<◌, length, string_bytes, IfOk};
     ghost use Rattle.ilplan.specs.Plans.{PlannedTask, task_of, stores};
     ghost use Rattle.ilplan.specs.Plans.{first_value, first_values};
+    ghost use Rattle.ilplan.specs.Beginnings.{task_with};
 
     /// The task of these parts. That they keep the limits is asked of a plan, which has the
     /// functions.
@@ -159,6 +163,14 @@ impl Task {
         }
     }
 
+    /// Lets its variables begin with these values, one for each.
+    pub(crate) fn begin_with(&mut self, values: &[Value])
+        requires { length values.now ≡ length self.old.slots }
+        ensures { self.new ≡ task_with self.old values.now }
+    {
+        begin_slots(&mut self.slots, values);
+    }
+
     /// The block instances of its program instances, in declared order.
     pub fn blocks(&self) -> &[FunctionBlock]
         ensures value { result.now ≡ self.now.blocks }
@@ -179,5 +191,16 @@ impl Task {
         ensures value { result.now ≡ self.now.instances }
     {
         &self.instances
+    }
+}
+
+/// Lets slots begin with these values, one for each.
+fn begin_slots(slots: &mut Vec<Slot>, values: &[Value])
+    requires { length values.now ≡ length slots.old.items }
+    ensures { slots.new.items ≡ each_with slot_with slots.old.items values.now }
+{
+    for i in 0..slots.len() {
+        let slot = &mut slots[i];
+        slot.initial = values[i];
     }
 }

@@ -100,11 +100,12 @@ IsQuestion name found files Sizes =
 abbrev pub IsNoQuestion : Text → Type 0
 IsNoQuestion name = ¬ (name ≡ codes "notes") × ¬ (name ≡ codes "list") × ¬ (name ≡ codes "explain")
 
--- the files that are named for a scenario that is played or run
+-- the files that are named for a scenario that is played or run, with that of kept values, where one is given
 pub record ArePlayFiles (found : List Row) (files : PlayFiles) : Type 0 where
   pub text : files.text.now ≡ given (first_of (codes "TEXT") found)
   pub binding : files.binding.now ≡ given (first_of (codes "BIND") found)
   pub scenario : files.scenario.now ≡ given (first_of (codes "SCENARIO") found)
+  pub keep : IsGivenPath (first_of (codes "keep") found) files.keep
 
 -- the words for what is expected at a play's end
 abbrev pub expected_words : List Row → List Text
@@ -131,10 +132,11 @@ AreLookedAt None found files =
     (files.binding.now ≡ given (first_of (codes "BIND") found))
     × (files.scenario.now ≡ given (first_of (codes "SCENARIO") found))
 
--- the files that are named for a scenario that is looked at
+-- the files that are named for a scenario that is looked at, with that of kept values, where one is given
 pub record AreLookFiles (found : List Row) (files : PlayFiles) : Type 0 where
   pub text : files.text.now ≡ given (first_of (codes "TEXT") found)
   pub others : AreLookedAt (first_of (codes "bind") found) found files
+  pub keep : IsGivenPath (first_of (codes "keep") found) files.keep
 
 -- what of a scenario a picture shows, and where it goes: whether it is lines for a terminal, the path that it goes to,
 -- its bus, and the milliseconds at which it begins and ends, where they are given

@@ -18,6 +18,8 @@ pub struct PlayFiles<'a> {
     pub binding: &'a str,
     /// The path of the scenario.
     pub scenario: &'a str,
+    /// The path of the kept values with which it begins, where one is given.
+    pub keep: Option<&'a str>,
 }
 
 /// The files that a building is run from.

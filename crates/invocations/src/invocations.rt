@@ -13,14 +13,14 @@ use crate::watched_names::WatchedNames;
 pub enum Invocation<'a> {
     /// An answer to a text.
     Ask(Inquiry<'a>),
-    /// `play TEXT BIND SCENARIO [--limit N] [--names] [--brief] [--expect NAME=VALUE]..
-    /// [--watch NAME]..`
+    /// `play TEXT BIND SCENARIO [--keep FILE] [--limit N] [--names] [--brief]
+    /// [--expect NAME=VALUE].. [--watch NAME]..`
     Play {
         files: PlayFiles<'a>,
         limit: u32,
         shows: PlayShows<'a>,
     },
-    /// `run TEXT BIND SCENARIO [--limit N] [--workers W]`
+    /// `run TEXT BIND SCENARIO [--keep FILE] [--limit N] [--workers W]`
     Run {
         files: PlayFiles<'a>,
         size: RunSize,
@@ -35,7 +35,7 @@ pub enum Invocation<'a> {
     },
     /// What is done at one line.
     Tool(Tool<'a>),
-    /// `look TEXT BIND SCENARIO [--text] [--out FILE] [--bus B] [--from MS] [--to MS]
+    /// `look TEXT BIND SCENARIO [--keep FILE] [--text] [--out FILE] [--bus B] [--from MS] [--to MS]
     /// [--watch NAME]..`, or `look TEXT SCENARIO --bind FILE ..`
     Look {
         files: PlayFiles<'a>,

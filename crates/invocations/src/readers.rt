@@ -201,6 +201,7 @@ pub(crate) fn play_files_in<'a>(found: &ArgMatches<'a>) -> PlayFiles<'a>
         text: text_in(found, "TEXT"),
         binding: text_in(found, "BIND"),
         scenario: text_in(found, "SCENARIO"),
+        keep: word_in(found, "keep"),
     }
 }
 

@@ -84,6 +84,7 @@ fn look_files_in<'a>(found: &ArgMatches<'a>) -> PlayFiles<'a>
             text: text_in(found, "TEXT"),
             binding,
             scenario: text_in(found, "BIND"),
+            keep: word_in(found, "keep"),
         },
         None => play_files_in(found),
     }

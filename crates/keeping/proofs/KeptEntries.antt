@@ -1,6 +1,6 @@
--- What is kept of a building, one global variable after another.
+-- What is kept of a building, one variable after another.
 use Rattle.std.proofs.Common.{◌≡◌, ℕ, ◌+◌, ◌<◌, ◌≤◌, List, ◌∷◌, ◌++◌, drop, length, get_or, Some, ap, sym, ◌∙◌, arith}
-use Rattle.std.proofs.Common.{append_assoc, inl, inr, ◌⊎◌, None}
+use Rattle.std.proofs.Common.{append_assoc, inl, inr, ◌⊎◌, None, []}
 use Rattle.std.specs.Prelude.{slice_get}
 use Rattle.std.proofs.lemmas.List.{append-nil, drop_more, drop_all}
 use Rattle.std.proofs.lemmas.Option.{slice_get_cases}
@@ -60,3 +60,33 @@ all_kept text globals values number kept all over so_far =
     ∙ ap (λ (l : List GlobalVariable). kept ++ global_entries text l (drop number values))
     (sym (drop_all number globals over))
     ∙ so_far
+
+-- ---- slots and tasks
+
+-- where a list of pairs gives items, those so far and those of the pairs that are left
+module _ {X Y : Type 0} (given : X → Y → List KeptEntry) (rest : List X → List Y → List KeptEntry)
+    (cons : (x : X) (y : Y) (xs : List X) (ys : List Y) → rest (x ∷ xs) (y ∷ ys) ≡ given x y ++ rest xs ys) where
+  pub one_more : (xs : List X) (ys : List Y) (n : ℕ) (x : X) (y : Y) (before after all : List KeptEntry)
+      → n < length xs → n < length ys → x ≡ get_or xs n x → y ≡ get_or ys n y → after ≡ before ++ given x y
+      → before ++ rest (drop n xs) (drop n ys) ≡ all → after ++ rest (drop (n + 1) xs) (drop (n + 1) ys) ≡ all
+  one_more xs ys n x y before after all few within is at added so_far =
+      let more = rest (drop (n + 1) xs) (drop (n + 1) ys) in
+      let here : drop n xs ≡ x ∷ drop (n + 1) xs =
+      drop_more xs n x few ∙ ap (λ (z : X). z ∷ drop (n + 1) xs) (sym is) in
+      let there : drop n ys ≡ y ∷ drop (n + 1) ys =
+      drop_more ys n y within ∙ ap (λ (z : Y). z ∷ drop (n + 1) ys) (sym at) in
+      ap (λ (l : List KeptEntry). l ++ more) added
+      ∙ append_assoc before (given x y) more
+      ∙ ap (λ (l : List KeptEntry). before ++ l)
+      (sym (ap (λ (l : List X). rest l (drop n ys)) here
+      ∙ ap (λ (l : List Y). rest (x ∷ drop (n + 1) xs) l) there
+      ∙ cons x y (drop (n + 1) xs) (drop (n + 1) ys)))
+      ∙ so_far
+
+  pub none_left : (xs : List X) (ys : List Y) (n : ℕ) (kept all : List KeptEntry) → ((l : List Y) → rest [] l ≡ [])
+      → length xs ≤ n → kept ++ rest (drop n xs) (drop n ys) ≡ all → kept ≡ all
+  none_left xs ys n kept all empty over so_far =
+      sym (append-nil kept)
+      ∙ ap (λ (l : List KeptEntry). kept ++ l)
+      (sym (ap (λ (l : List X). rest l (drop n ys)) (drop_all n xs over) ∙ empty (drop n ys)))
+      ∙ so_far

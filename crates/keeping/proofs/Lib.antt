@@ -1,8 +1,9 @@
-mod BegunGlobals
-mod BegunLists
+mod Begun
 mod ChangedSums
+mod HeldLists
 mod KeptEntries
 mod PrintedFiles
 mod ReadFiles
+mod TakenLists
 mod WrittenFiles
 mod WrittenLines

@@ -1,24 +1,36 @@
--- What is kept of a building (profile): the value of each global variable that is no input, in the plan's order.
-use Rattle.std.specs.Prelude.{ℕ, List, [], ◌∷◌, ◌++◌, Bool, false, if◌then◌else◌}
-use Rattle.std.specs.Option.{option_map_or}
+-- What is kept of a building (profile): the value of each global variable but the triggers, in the plan's order, and
+-- then, task by task, that of each variable of a program instance.
+use Rattle.std.specs.Prelude.{ℕ, List, [], ◌∷◌, ◌++◌, if◌then◌else◌}
 use Rattle.iltypes.specs.declared.value.Value.{Value}
-use Rattle.ilsource.specs.Names.{text_of}
 use Rattle.ilplan.specs.declared.global.Global.{Global as GlobalVariable}
-use Rattle.ilplan.specs.Plans.{Planned, is_input}
+use Rattle.ilplan.specs.declared.slot.Slot.{Slot}
+use Rattle.ilplan.specs.declared.slot.SlotOwner.{SlotOwner}
+use Rattle.ilplan.specs.declared.slot.SlotOwner.TheVariants.{Global, Own}
+use Rattle.ilplan.specs.Plans.{Planned, PlannedTask}
 use Rattle.keeping.specs.KeptFiles.{KeptEntry, entry_of}
+use Rattle.keeping.specs.KeptPlans.{global_name, own_name, is_trigger}
 
--- no program stores to it
-abbrev pub is_only_read : GlobalVariable → Bool
-is_only_read g = option_map_or is_input g.location false
-
--- what is kept of a variable that has this value
+-- what is kept of a global variable that has this value
 abbrev pub entries_for : List ℕ → GlobalVariable → Value → List KeptEntry
-entries_for text g value = if is_only_read g then [] else entry_of (text_of text g.name) value ∷ []
+entries_for text g value = if is_trigger g.location then [] else entry_of (global_name text g) value ∷ []
 
 abbrev pub global_entries : List ℕ → List GlobalVariable → List Value → List KeptEntry
 global_entries text (g ∷ globals) (value ∷ values) = entries_for text g value ++ global_entries text globals values
 global_entries text _ _ = []
 
--- what is kept where the global variables of the plan have these values
-abbrev pub entries_of : Planned → List Value → List KeptEntry
-entries_of plan values = global_entries plan.text plan.globals values
+-- of the variable in a slot: that of a global one is kept already
+abbrev pub entries_by : List ℕ → SlotOwner → Value → List KeptEntry
+entries_by text (Global number) value = []
+entries_by text (Own instance name) value = entry_of (own_name text instance name) value ∷ []
+
+abbrev pub slot_entries : List ℕ → List Slot → List Value → List KeptEntry
+slot_entries text (s ∷ slots) (value ∷ values) = entries_by text s.variable value ++ slot_entries text slots values
+slot_entries text _ _ = []
+
+abbrev pub task_entries : List ℕ → List PlannedTask → List (List Value) → List KeptEntry
+task_entries text (task ∷ tasks) (values ∷ more) = slot_entries text task.slots values ++ task_entries text tasks more
+task_entries text _ _ = []
+
+-- what is kept where the global variables of the plan, and the slots of each task, have these values
+abbrev pub entries_of : Planned → List Value → List (List Value) → List KeptEntry
+entries_of plan globals slots = global_entries plan.text plan.globals globals ++ task_entries plan.text plan.tasks slots

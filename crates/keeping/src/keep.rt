@@ -1,28 +1,50 @@
 //! What is kept of a building.
 
 ghost use Rattle.std.specs.Prelude.{◌≡◌, ◌<◌, ◌++◌, IfOk, OnOk, Some, length, slice_get};
-ghost use Rattle.keeping.specs.KeptStates.{entries_for, entries_of, is_only_read};
+ghost use Rattle.std.specs.List.{AllZip};
+ghost use Rattle.ilplan.specs.Beginnings.{lists_of};
+ghost use Rattle.keeping.specs.KeptStates.{entries_by, entries_for, entries_of, global_entries};
+ghost use Rattle.keeping.specs.KeptStates.{slot_entries};
 ghost use Rattle.ilplan.specs.declared.global.Global.{Global as GlobalVariable};
 
+use crate::first_values::{is_trigger, own_name};
 use crate::value::KeptValue;
-use ilplan::{Global as GlobalVariable, Plan};
+use ilplan::{Plan, Slot, SlotOwner, Task};
 use iltypes::Value;
 use std::alloc::{AllocError, Global};
 
-/// What is kept where the global variables of a plan have these values, one for each in its order:
-/// that of each variable which is no input.
+/// What is kept where the variables of a plan have these values, one for each global variable, and
+/// for each task one for each of its slots: that of each global variable but the triggers, and
+/// then, task by task, that of each variable of a program instance.
 ///
 /// # Errors
 ///
 /// The allocator is out of memory.
-#[tactic(auto, using(crate::proofs::KeptEntries::all_kept))]
 pub fn kept_values(
     alloc: Global,
     plan: &Plan,
-    values: &[Value],
+    globals: &[Value],
+    slots: &[Vec<Value>],
 ) -> Result<Vec<KeptValue>, AllocError>
+    requires globals { length globals.now ≡ length plan.now.globals }
+    requires slots { AllZip (λ task values. length values ≡ length task.slots) plan.now.tasks
+        (lists_of (λ values. values.items) slots.now) }
+    ensures { IfOk result (λ kept. kept.items
+        ≡ entries_of plan.now globals.now (lists_of (λ values. values.items) slots.now)) }
+{
+    let mut kept = kept_globals(alloc, plan, globals)?;
+    for task in 0..plan.tasks() {
+        keep_slots(alloc, &mut kept, plan.text(), plan.task(task), &slots[task])?;
+    }
+    Ok(kept)
+}
+
+/// What is kept where the global variables of a plan have these values, one for each.
+#[tactic(auto, using(crate::proofs::KeptEntries::all_kept))]
+fn kept_globals(alloc: Global, plan: &Plan, values: &[Value]) -> Result<Vec<KeptValue>, AllocError>
     requires { length values.now ≡ length plan.now.globals }
-    ensures { IfOk result (λ kept. kept.items ≡ entries_of plan.now values.now) }
+    ensures { IfOk result (λ kept.
+        kept.items ≡ global_entries plan.now.text plan.now.globals values.now) }
 {
     let mut kept = Vec::new(alloc);
     for global in 0..plan.globals() {
@@ -31,7 +53,7 @@ pub fn kept_values(
     Ok(kept)
 }
 
-/// Keeps this value of the global variable of this number, where it is no input.
+/// Keeps this value of the global variable of this number, where it is no trigger.
 fn keep(
     alloc: Global,
     kept: &mut Vec<KeptValue>,
@@ -43,19 +65,46 @@ fn keep(
     ensures { OnOk result ((g : GlobalVariable) → slice_get plan.now.globals global ≡ Some g
         → kept.new.items ≡ kept.old.items ++ entries_for plan.now.text g value) }
 {
-    if !is_only_read(plan.global(global)) {
+    if !is_trigger(plan.global(global).location) {
         let name = plan.global_name(global);
         kept.push(KeptValue::new(alloc, name.bytes, value)?)?;
     }
     Ok(())
 }
 
-/// Whether no program stores to a global variable.
-fn is_only_read(global: &GlobalVariable) -> bool
-    ensures { result ≡ is_only_read global.now }
+/// Keeps these values of the slots of a task, one for each: those of program instances.
+fn keep_slots(
+    alloc: Global,
+    kept: &mut Vec<KeptValue>,
+    text: &[u8],
+    task: &Task,
+    values: &[Value],
+) -> Result<(), AllocError>
+    requires { length values.now ≡ length task.now.slots }
+    ensures { OnOk result (kept.new.items
+        ≡ kept.old.items ++ slot_entries text.now task.now.slots values.now) }
 {
-    match global.location {
-        Some(location) => location.is_input(),
-        None => false,
+    let slots = task.slots();
+    for i in 0..slots.len() {
+        keep_slot(alloc, kept, text, slots[i], values[i])?;
     }
+    Ok(())
+}
+
+/// Keeps this value of the variable in a slot, where it is one of a program instance.
+fn keep_slot(
+    alloc: Global,
+    kept: &mut Vec<KeptValue>,
+    text: &[u8],
+    slot: Slot,
+    value: Value,
+) -> Result<(), AllocError>
+    ensures { OnOk result (kept.new.items
+        ≡ kept.old.items ++ entries_by text.now slot.variable value) }
+{
+    if let SlotOwner::Own { instance, name } = slot.variable {
+        let name = own_name(alloc, text, instance, name)?;
+        kept.push(KeptValue::new(alloc, &name, value)?)?;
+    }
+    Ok(())
 }

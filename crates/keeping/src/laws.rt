@@ -1,10 +1,6 @@
-//! What is so of every file of kept values, and of every source program that begins with them.
+//! What is so of every file of kept values.
 
-ghost use Rattle.std.specs.List.{AllByRecursion};
 ghost use Rattle.std.specs.Prelude.{◌++◌, ◌∷◌, ◌≢◌, ◌<◌, ℕ, List, Some};
-ghost use Rattle.ilsource.specs.SourceTrees.{Tree};
-ghost use Rattle.ilscope.specs.Configured.{declared_globals_of, types_of_text};
-ghost use Rattle.keeping.specs.Beginning.{AreGlobalsBegun, BeginsWith, IsTyped};
 ghost use Rattle.keeping.specs.CheckSums.{sum_of};
 ghost use Rattle.keeping.specs.KeptFiles.{IsKeptFile, IsSummed, KeptEntry, state_of, sum_line};
 ghost use Rattle.keeping.specs.Printed.{AreKeepable, printed_file};
@@ -28,12 +24,4 @@ pub fn a_changed_byte_breaks_the_seal()
     ensures { (front back : List ℕ) (byte other sum : ℕ) → byte < 256 → other < 256 → byte ≢ other
         → IsSummed (front ++ byte ∷ (back ++ sum_line sum)) sum
         → ¬ IsSummed (front ++ other ∷ (back ++ sum_line sum)) sum }
-{}
-
-/// Where no declaration of global variables has a fault of its type or initial value, each variable
-/// is what it was, in the same order, but that it begins with its kept value, where it has one.
-pub fn kept_values_begin()
-    ensures { (kept : List KeptEntry) (old new : Tree) → BeginsWith kept old new
-        → AllByRecursion (IsTyped (types_of_text old)) (declared_globals_of old)
-        → AreGlobalsBegun kept old new }
 {}

@@ -1,21 +1,21 @@
 //! Kept values with which no variable begins.
 
-ghost use Rattle.std.specs.Prelude.{◌≡◌, IfOk};
-ghost use Rattle.std.specs.List.{list_any};
-ghost use Rattle.ilscope.specs.Configured.{globals_of};
-ghost use Rattle.keeping.specs.Beginning.{is_left_out, left_out, takes};
+ghost use Rattle.std.specs.Prelude.{◌≡◌, ◌++◌, IfOk, OnOk, flat_map};
+ghost use Rattle.keeping.specs.KeptPlans.{global_taken, left_out_of, slot_taken, taken, taken_by};
+ghost use Rattle.keeping.specs.KeptPlans.{task_taken};
 
-use crate::begun::kept_value;
+use crate::first_values::{is_trigger, kept_value, own_name};
 use crate::kept::Kept;
+use crate::reading::has_name;
 use crate::value::KeptValue;
-use ilscope::DeclaredGlobal;
-use ilsource::Source;
+use ilplan::{Global as GlobalVariable, Plan, Slot, SlotOwner, Task};
+use iltypes::IlType;
 use std::alloc::{AllocError, Global};
 use std::fmt;
 use std::marker::Model;
 
-/// A kept value with which no global variable begins: none has its name, the one that has it is an
-/// input, or the value isn't one of its type.
+/// A kept value with which no variable begins: none has its name, the one that has it is a trigger,
+/// or the value isn't one of its type.
 #[derive(Drop)]
 pub struct LeftOut {
     kept: KeptValue,
@@ -65,19 +65,18 @@ impl fmt::Debug for LeftOut {
     }
 }
 
-/// The kept values with which none of a source program's global variables begins, in their order.
-pub(crate) fn left_out_of(
-    alloc: Global,
-    source: &Source,
-    globals: &[DeclaredGlobal],
-    kept: &Kept,
-) -> Result<Vec<LeftOut>, AllocError>
-    requires { globals.now ≡ globals_of source.now }
-    ensures { IfOk result (λ v. v.items ≡ left_out source.now kept.now.values) }
+/// The kept values with which no variable of a plan begins, in their order.
+///
+/// # Errors
+///
+/// The allocator is out of memory.
+pub fn left_out_of(alloc: Global, plan: &Plan, kept: &Kept) -> Result<Vec<LeftOut>, AllocError>
+    ensures { IfOk result (λ left. left.items ≡ left_out_of kept.now.values plan.now) }
 {
+    let taken = taken(alloc, plan, kept)?;
     let mut left = Vec::new(alloc);
     for value in kept.values() {
-        if is_left_out(source, globals, kept, value) {
+        if !has_name(&taken, value.name()) {
             let value = KeptValue::new(alloc, value.name(), value.value())?;
             left.push(LeftOut::new(value))?;
         }
@@ -85,24 +84,104 @@ pub(crate) fn left_out_of(
     Ok(left)
 }
 
-/// Whether no global variable begins with a value.
-fn is_left_out(source: &Source, globals: &[DeclaredGlobal], kept: &Kept, value: &KeptValue) -> bool
-    requires { globals.now ≡ globals_of source.now }
-    ensures { result ≡ is_left_out source.now kept.now.values value.now }
+/// Of what was kept that with which the variables of a plan begin.
+#[tactic(auto, using(crate::proofs::TakenLists::flat_at))]
+fn taken(alloc: Global, plan: &Plan, kept: &Kept) -> Result<Vec<KeptValue>, AllocError>
+    ensures { IfOk result (λ values. values.items ≡ taken kept.now.values plan.now) }
 {
-    !is_taken(source.text(), globals, kept, value.name())
+    let mut taken = globals_taken(alloc, plan, kept)?;
+    for task in 0..plan.tasks() {
+        take_slots(alloc, &mut taken, plan.text(), kept, plan.task(task))?;
+    }
+    Ok(taken)
 }
 
-/// Whether a variable of this name begins with a kept value.
-fn is_taken(text: &[u8], globals: &[DeclaredGlobal], kept: &Kept, name: &[u8]) -> bool
-    ensures { result ≡ list_any (takes text.now kept.now.values name.now) globals.now }
+/// That with which the global variables begin.
+#[tactic(auto, using(crate::proofs::TakenLists::flat_at))]
+fn globals_taken(alloc: Global, plan: &Plan, kept: &Kept) -> Result<Vec<KeptValue>, AllocError>
+    ensures { IfOk result (λ values. values.items
+        ≡ flat_map (global_taken plan.now.text kept.now.values) plan.now.globals) }
 {
-    globals.iter().any(|global| takes(text, kept, name, global))
+    let mut taken = Vec::new(alloc);
+    for global in 0..plan.globals() {
+        take_global(alloc, &mut taken, plan.text(), kept, plan.global(global))?;
+    }
+    Ok(taken)
 }
 
-/// Whether a variable has this name, and begins with a kept value.
-fn takes(text: &[u8], kept: &Kept, name: &[u8], global: &DeclaredGlobal) -> bool
-    ensures { result ≡ takes text.now kept.now.values name.now global.now }
+/// Adds that with which a global variable begins.
+fn take_global(
+    alloc: Global,
+    taken: &mut Vec<KeptValue>,
+    text: &[u8],
+    kept: &Kept,
+    global: &GlobalVariable,
+) -> Result<(), AllocError>
+    ensures { OnOk result (taken.new.items
+        ≡ taken.old.items ++ global_taken text.now kept.now.values global.now) }
 {
-    global.name.text(text) == name && kept_value(text, kept, global).is_some()
+    if is_trigger(global.location) {
+        return Ok(());
+    }
+    take(
+        alloc,
+        taken,
+        kept,
+        global.name.text(text),
+        global.value_type,
+    )
+}
+
+/// Adds that with which the variables of a task's program instances begin.
+fn take_slots(
+    alloc: Global,
+    taken: &mut Vec<KeptValue>,
+    text: &[u8],
+    kept: &Kept,
+    task: &Task,
+) -> Result<(), AllocError>
+    ensures { OnOk result (taken.new.items
+        ≡ taken.old.items ++ task_taken text.now kept.now.values task.now) }
+{
+    for slot in task.slots() {
+        take_slot(alloc, taken, text, kept, *slot)?;
+    }
+    Ok(())
+}
+
+/// Adds that with which the variable in a slot begins, where it is one of a program instance.
+fn take_slot(
+    alloc: Global,
+    taken: &mut Vec<KeptValue>,
+    text: &[u8],
+    kept: &Kept,
+    slot: Slot,
+) -> Result<(), AllocError>
+    ensures { OnOk result (taken.new.items
+        ≡ taken.old.items ++ slot_taken text.now kept.now.values slot) }
+{
+    match slot.variable {
+        SlotOwner::Global(_) => Ok(()),
+        SlotOwner::Own { instance, name } => {
+            let name = own_name(alloc, text, instance, name)?;
+            take(alloc, taken, kept, &name, slot.value_type)
+        }
+    }
+}
+
+/// Adds that with which a variable of this name and type begins.
+fn take(
+    alloc: Global,
+    taken: &mut Vec<KeptValue>,
+    kept: &Kept,
+    name: &[u8],
+    value_type: IlType,
+) -> Result<(), AllocError>
+    ensures { OnOk result (taken.new.items
+        ≡ taken.old.items ++ taken_by kept.now.values name.now value_type) }
+{
+    if let Some(value) = kept_value(kept, name, value_type) {
+        taken.push(KeptValue::new(alloc, name, value)?)?;
+    }
+    Ok(())
 }

@@ -145,7 +145,7 @@ fn after_head(at: Option<KeptAt>) -> Stage
 }
 
 /// Whether one of the values is of this name.
-fn has_name(values: &[KeptValue], name: &[u8]) -> bool
+pub(crate) fn has_name(values: &[KeptValue], name: &[u8]) -> bool
     ensures { result ≡ has_name values.now name.now }
 {
     values.iter().any(|kept| kept.name() == name)

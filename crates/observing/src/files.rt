@@ -6,6 +6,7 @@ ghost use Rattle.observing.specs.Trying.{IsServed};
 
 use crate::history::History;
 use crate::keep::Keeper;
+use crate::opening::Opening;
 use crate::page::{Pace, Page, is_wanted};
 use crate::record::RecordEnd;
 use crate::status::{Status, write_json, write_lines};
@@ -14,9 +15,8 @@ use crate::told::{tell, try_page};
 use invocations::Beside;
 use jiff::Timestamp;
 use keeping::KeptAt;
-use std::alloc::Global;
+use std::alloc::{AllocError, Global};
 use std::io;
-use std::io::ErrorKind;
 
 /// The files beside a building that are written whole, of those that are wanted.
 #[derive(Drop)]
@@ -26,26 +26,35 @@ pub(crate) struct Files<'a> {
     pub(crate) status: Option<Page<'a>>,
     pub(crate) keep: Option<Page<'a>>,
     pub(crate) record: Option<Page<'a>>,
-    /// The path of the record of the start before, until it is put aside.
-    before: Option<&'a str>,
+    /// What is done before the record is written, until it is done.
+    opening: Option<Opening<'a>>,
     /// Whether it was told that the record has ended.
     has_ended: bool,
     keeper: Keeper,
 }
 
 impl<'a> Files<'a> {
-    /// The files that are wanted beside a building. None was tried yet.
-    pub(crate) fn new(alloc: Global, beside: &Beside<'a>) -> Files<'a> {
-        Files {
+    /// The files that are wanted beside a building that begins with the values of this file, where
+    /// there is one. None was tried yet.
+    ///
+    /// # Errors
+    ///
+    /// The allocator is out of memory.
+    pub(crate) fn new(
+        alloc: Global,
+        beside: &Beside<'a>,
+        kept: Option<&[u8]>,
+    ) -> Result<Files<'a>, AllocError> {
+        Ok(Files {
             alloc,
             is_json: beside.is_json,
             status: page_at(beside.status, Pace::EachSecond, Care::Passing),
             keep: page_at(beside.keep, Pace::EachTenSeconds, Care::Private),
             record: page_at(beside.record, Pace::EachMinute, Care::Lasting),
-            before: beside.record,
+            opening: opening_of(alloc, beside.record, kept)?,
             has_ended: false,
             keeper: Keeper::new(alloc),
-        }
+        })
     }
 
     /// Tries each file that is due at the building's moment, or each at all. A record is tried too once
@@ -72,7 +81,7 @@ impl<'a> Files<'a> {
             &mut self.record,
             now,
             history,
-            &mut self.before,
+            &mut self.opening,
         );
         if let Some(end) = end {
             tell(storage, ended_since(end));
@@ -141,20 +150,36 @@ fn serve_keep<S: Storage>(
     }
 }
 
-/// Tries the record, where it is wanted, once that of the start before is put aside.
+/// What is done before the record at this path is written, where one is wanted.
+///
+/// # Errors
+///
+/// The allocator is out of memory.
+fn opening_of<'a>(
+    alloc: Global,
+    path: Option<&'a str>,
+    kept: Option<&[u8]>,
+) -> Result<Option<Opening<'a>>, AllocError> {
+    match path {
+        Some(path) => Ok(Some(Opening::new(alloc, path, kept)?)),
+        None => Ok(None),
+    }
+}
+
+/// Tries the record, where it is wanted, once what is done before it is done.
 fn serve_record<S: Storage>(
     alloc: Global,
     storage: &S,
     page: &mut Option<Page>,
     at_once: bool,
     history: &History,
-    before: &mut Option<&str>,
+    opening: &mut Option<Opening>,
 )
     ensures { IsServed (S.replaced storage.now) (S.unwritten storage.now) at_once
         history.now.moment page.old page.new }
 {
     if is_wanted(page, at_once, history.moment) {
-        let bytes = record_bytes(alloc, storage, history, before);
+        let bytes = record_bytes(alloc, storage, history, opening);
         try_page(alloc, storage, page, history.moment, bytes.ok());
     }
 }
@@ -186,47 +211,24 @@ fn status_bytes<S: Storage>(
     Ok(bytes)
 }
 
-/// The bytes of a record, once that of the start before is put aside.
+/// The bytes of a record, once what is done before it is done.
 ///
 /// # Errors
 ///
-/// That one can't be renamed, or the allocator is out of memory.
+/// It can't be done, or the allocator is out of memory.
 fn record_bytes<S: Storage>(
     alloc: Global,
     storage: &S,
     history: &History,
-    before: &mut Option<&str>,
+    opening: &mut Option<Opening>,
 ) -> io::Result<Vec<u8>> {
-    if let Some(path) = *before {
-        put_aside(alloc, storage, path)?;
-        *before = None;
+    if let Some(to_do) = &*opening {
+        to_do.serve(alloc, storage)?;
+        *opening = None;
     }
     match &history.record {
         Some(record) => Ok(record.bytes(alloc)?),
         None => Ok(Vec::new(alloc)),
-    }
-}
-
-/// Gives the file at a path the name FILE.old, unless it is a record of no event.
-///
-/// # Errors
-///
-/// It can't be renamed, or the allocator is out of memory.
-fn put_aside<S: Storage>(alloc: Global, storage: &S, path: &str) -> io::Result<()> {
-    match storage.read(alloc, path) {
-        Ok(bytes) if is_uneventful(&bytes) => return Ok(()),
-        Err(error) if error.kind() == ErrorKind::NotFound => return Ok(()),
-        _ => {}
-    }
-    let old = format!(in alloc; "{path}.old")?;
-    storage.rename(path, &old)
-}
-
-/// Whether these are the bytes of a record of no event: it has gear and ticks.
-fn is_uneventful(bytes: &[u8]) -> bool {
-    match str::from_utf8(bytes) {
-        Ok(text) => text.lines().all(|line| line.starts_with("gear ") || line.starts_with("tick ")),
-        Err(_) => false,
     }
 }
 

@@ -1,9 +1,12 @@
 //! The values that a building keeps.
 
 ghost use Rattle.std.specs.Prelude.{◌≡◌, ◌≤◌, IfOk, length};
+ghost use Rattle.std.specs.List.{AllZip};
 ghost use Rattle.limits.specs.Limits.{most_bytes};
+ghost use Rattle.ilplan.specs.Beginnings.{lists_of};
 ghost use Rattle.keeping.specs.Printed.{printed_file};
 
+use iltypes::Value;
 use keeping::{KeptAt, KeptValue, kept_file, kept_values};
 use limits::MOST_BYTES;
 use plant::Plant;
@@ -76,12 +79,33 @@ fn are_same(values: &[KeptValue], others: &[KeptValue]) -> bool {
 ///
 /// The allocator is out of memory.
 fn values_of(alloc: Global, plant: &Plant) -> io::Result<Vec<KeptValue>> {
-    let plan = plant.setup().plan();
+    let globals = globals_of(alloc, plant)?;
+    let slots = slots_of(alloc, plant)?;
+    Ok(kept_values(alloc, plant.setup().plan(), &globals, &slots)?)
+}
+
+/// The values of a plant's global variables.
+fn globals_of(alloc: Global, plant: &Plant) -> io::Result<Vec<Value>>
+    ensures { IfOk result (λ values.
+        length values.items ≡ length plant.now.plant.plan.globals) }
+{
     let mut values = Vec::new(alloc);
-    for global in 0..plan.globals() {
+    for global in 0..plant.setup().plan().globals() {
         values.push(plant.value(global))?;
     }
-    Ok(kept_values(alloc, plan, &values)?)
+    Ok(values)
+}
+
+/// The values in the slots of a plant's tasks.
+fn slots_of(alloc: Global, plant: &Plant) -> io::Result<Vec<Vec<Value>>>
+    ensures { IfOk result (λ slots. AllZip (λ task values. length values ≡ length task.slots)
+        plant.now.plant.plan.tasks (lists_of (λ values. values.items) slots.items)) }
+{
+    let mut slots = Vec::new(alloc);
+    for task in 0..plant.setup().plan().tasks() {
+        slots.push(plant.slot_values(alloc, task)?)?;
+    }
+    Ok(slots)
 }
 
 /// The file of these values, which were kept then.

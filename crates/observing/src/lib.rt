@@ -11,7 +11,7 @@
 //! `IsServed` (specs/Trying.antt), when a file is tried.
 //!
 //! ```text
-//! let observer = BuildingObserver::open(rt, alloc, &storage, &beside, setup, workers)?;
+//! let observer = BuildingObserver::open(rt, alloc, &storage, &beside, setup, kept, workers)?;
 //! // the building runs, with the observer as its gate
 //! observer.finish();
 //! ```
@@ -26,6 +26,7 @@ mod levels;
 mod log;
 mod log_lines;
 mod observer;
+mod opening;
 mod page;
 mod pages;
 mod record;

@@ -20,8 +20,9 @@ pub struct BuildingObserver<'o, 'a, S: Storage, R: Wait> {
 }
 
 impl<'o, 'a, S: Storage, R: Wait> BuildingObserver<'o, 'a, S, R> {
-    /// Who writes the files that are wanted beside a building of this setup. None is written
-    /// before the first tick, so that the lights come first.
+    /// Who writes the files that are wanted beside a building of this setup, and which begins with the
+    /// values of a file of these bytes, where there is one. None is written before the first tick, so
+    /// that the lights come first.
     ///
     /// # Errors
     ///
@@ -32,9 +33,10 @@ impl<'o, 'a, S: Storage, R: Wait> BuildingObserver<'o, 'a, S, R> {
         storage: &'o S,
         beside: &Beside<'a>,
         setup: Setup,
+        kept: Option<&[u8]>,
         workers: usize,
     ) -> Result<BuildingObserver<'o, 'a, S, R>, AllocError> {
-        let pages = Pages::open(alloc, beside, setup, workers)?;
+        let pages = Pages::open(alloc, beside, setup, kept, workers)?;
         Ok(BuildingObserver {
             rt,
             storage,

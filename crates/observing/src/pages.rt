@@ -27,7 +27,8 @@ pub(crate) struct Pages<'a> {
 }
 
 impl<'a> Pages<'a> {
-    /// What is wanted beside a building to which nothing has happened. No file is tried yet.
+    /// What is wanted beside a building to which nothing has happened, and which begins with the values
+    /// of this file, where there is one. No file is tried yet.
     ///
     /// # Errors
     ///
@@ -36,15 +37,16 @@ impl<'a> Pages<'a> {
         alloc: Global,
         beside: &Beside<'a>,
         setup: Setup,
+        kept: Option<&[u8]>,
         workers: usize,
     ) -> Result<Pages<'a>, AllocError> {
-        let record = opened_record(alloc, beside, &setup)?;
+        let record = opened_record(alloc, beside, &setup, kept.is_some())?;
         let is_logged = beside.log.is_some();
         Ok(Pages {
             alloc,
             history: History::open(alloc, setup, workers, record, is_logged)?,
             log: opened_log(alloc, beside),
-            files: Files::new(alloc, beside),
+            files: Files::new(alloc, beside, kept)?,
             follows: true,
         })
     }
@@ -107,11 +109,12 @@ fn opened_record(
     alloc: Global,
     beside: &Beside,
     setup: &Setup,
+    begins_kept: bool,
 ) -> Result<Option<Record>, AllocError> {
     if beside.record.is_none() {
         return Ok(None);
     }
-    match Record::new(alloc, setup.plan()) {
+    match Record::new(alloc, setup.plan(), begins_kept) {
         Ok(record) => Ok(Some(record)),
         Err(_) => Err(AllocError),
     }

@@ -10,6 +10,10 @@ use std::io::Write;
 use transact::{Mark, Outcome, Reply, Report};
 use turns::Happened;
 
+/// The first line of a record that begins with kept values. FILE is the record, whichever name it has.
+pub(crate) const KEPT_LINE: &str = "# this FILE begins with the values that FILE.keep keeps: \
+    dalictl play TEXT BIND FILE --keep FILE.keep";
+
 /// What is known of a bus.
 #[derive(Drop)]
 struct BusRecord {
@@ -50,12 +54,13 @@ pub(crate) struct Record {
 }
 
 impl Record {
-    /// The record of a building to which nothing has come: the gear of its levels.
+    /// The record of a building to which nothing has come: whether it begins with kept values, and the
+    /// gear of its levels.
     ///
     /// # Errors
     ///
     /// The allocator is out of memory.
-    pub(crate) fn new(alloc: Global, plan: &Plan) -> io::Result<Record> {
+    pub(crate) fn new(alloc: Global, plan: &Plan, begins_kept: bool) -> io::Result<Record> {
         let mut buses = Vec::new(alloc);
         for _ in 0..plan.buses() {
             buses.push(BusRecord {
@@ -74,6 +79,9 @@ impl Record {
             owes_tick: false,
             end: None,
         };
+        if begins_kept {
+            writeln!(record.head, "{KEPT_LINE}")?;
+        }
         record.note_levels(plan)?;
         Ok(record)
     }

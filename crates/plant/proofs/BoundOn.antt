@@ -13,6 +13,8 @@ use Rattle.std.specs.List.{position, position_from}
 use Rattle.wordlines.specs.declared.sources.BoundSource.{BoundSource}
 use Rattle.plantevents.specs.declared.event.Event.{Event}
 use Rattle.plantevents.specs.declared.event.Event.TheVariants.{Heard}
+use Rattle.ilplan.specs.declared.global.Global.{Global as GlobalVariable}
+use Rattle.plantevents.specs.Plants.{first_count}
 use Rattle.plantevents.specs.Histories.{messages}
 use Rattle.plant.specs.IndexSteps.{numbers_on}
 use Rattle.plant.specs.InputSteps.{is_bound_at}
@@ -94,18 +96,21 @@ other_messages : (bound : BoundSource) (b f : ℕ) (h : List Event) → (bound.b
     → messages bound.bus bound.source (Heard b f ∷ h) ≡ messages bound.bus bound.source h
 other_messages bound b f h other = rw (flip bound.bus b other) refl
 
-other_counted : (bound : BoundSource) (b f count : ℕ) (h : List Event) → (bound.bus == b) ≡ false
-    → IsCount bound h count → IsCount bound (Heard b f ∷ h) count
-other_counted bound b f count h other was =
-    record { counted = was.counted ∙ ap (λ (n : ℕ). n % 2 ^ 16) (sym (other_messages bound b f h other)) }
+other_counted : (globals : List GlobalVariable) (bound : BoundSource) (b f count : ℕ) (h : List Event) → (bound.bus == b) ≡ false
+    → IsCount globals bound h count → IsCount globals bound (Heard b f ∷ h) count
+other_counted globals bound b f count h other was =
+    record {
+      counted = was.counted ∙ ap (λ (n : ℕ). (first_count globals bound.bus bound.number + n) % 2 ^ 16)
+          (sym (other_messages bound b f h other));
+    }
 
 -- the counts of the sources below a number are right, once a frame was heard, and those from it on are as they were
 pub record AreCounted (sources : List BoundSource) (numbers : List ℕ) (b f j : ℕ) (first counts : List ℕ) : Type 0 where
   pub count : length counts ≡ length first
   pub reached : ℕ
   pub left : drop j numbers ≡ numbers_on b reached (drop reached sources)
-  pub done : (i : ℕ) (h : List Event) → i < reached → IsCount (source_in sources i) h (slice_index_or first i 0)
-      → IsCount (source_in sources i) (Heard b f ∷ h) (slice_index_or counts i 0)
+  pub done : (globals : List GlobalVariable) (i : ℕ) (h : List Event) → i < reached → IsCount globals (source_in sources i) h (slice_index_or first i 0)
+      → IsCount globals (source_in sources i) (Heard b f ∷ h) (slice_index_or counts i 0)
   pub rest : (i : ℕ) → reached ≤ i → slice_index_or counts i 0 ≡ slice_index_or first i 0
 
 pub counted_start : (sources : List BoundSource) (numbers : List ℕ) (b f : ℕ) (counts : List ℕ)
@@ -114,7 +119,7 @@ counted_start sources numbers b f counts is = record {
   count = refl;
   reached = 0;
   left = is;
-  done = λ i h lt. absurd (omega arith);
+  done = λ globals i h lt. absurd (omega arith);
   rest = λ i le. refl;
 }
 
@@ -129,26 +134,26 @@ between sources b reached skipped i others le lt =
     get_or-drop reached sources m no_source ∙ ap (source_in sources) here in
     subst (λ (s : BoundSource). (s.bus == b) ≡ false) same (others m (omega arith))
 
-counted_below : (sources : List BoundSource) (numbers : List ℕ) (b f j skipped i : ℕ) (first counts : List ℕ)
+counted_below : (globals : List GlobalVariable) (sources : List BoundSource) (numbers : List ℕ) (b f j skipped i : ℕ) (first counts : List ℕ)
     (h : List Event) (was : AreCounted sources numbers b f j first counts)
     → ((m : ℕ) → m < skipped → ((source_in (drop was.reached sources) m).bus == b) ≡ false)
-    → i < was.reached + skipped → IsCount (source_in sources i) h (slice_index_or first i 0)
-    → IsCount (source_in sources i) (Heard b f ∷ h) (slice_index_or counts i 0)
-counted_below sources numbers b f j skipped i first counts h was others lt before =
+    → i < was.reached + skipped → IsCount globals (source_in sources i) h (slice_index_or first i 0)
+    → IsCount globals (source_in sources i) (Heard b f ∷ h) (slice_index_or counts i 0)
+counted_below globals sources numbers b f j skipped i first counts h was others lt before =
     ⊎_elim
     (λ (k : (leb was.reached i ≡ true) × (was.reached ≤ i)).
-    other_counted (source_in sources i) b f (slice_index_or counts i 0) h
+    other_counted globals (source_in sources i) b f (slice_index_or counts i 0) h
     (between sources b was.reached skipped i others k.1 lt)
-    (subst (IsCount (source_in sources i) h) (sym (was.rest i k.1)) before))
-    (λ (k : (leb was.reached i ≡ false) × (i < was.reached)). was.done i h k.1 before)
+    (subst (IsCount globals (source_in sources i) h) (sym (was.rest i k.1)) before))
+    (λ (k : (leb was.reached i ≡ false) × (i < was.reached)). was.done globals i h k.1 before)
     (leb_tells was.reached i)
 
 -- one number more
 pub counted_turn : (sources : List BoundSource) (numbers : List ℕ) (b f j n : ℕ) (first counts after : List ℕ)
     → AreCounted sources numbers b f j first counts → drop j numbers ≡ n ∷ drop (j + 1) numbers
     → length after ≡ length counts
-    → ((h : List Event) → IsCount (source_in sources n) h (slice_index_or counts n 0)
-    → IsCount (source_in sources n) (Heard b f ∷ h) (slice_index_or after n 0))
+    → ((globals : List GlobalVariable) (h : List Event) → IsCount globals (source_in sources n) h (slice_index_or counts n 0)
+    → IsCount globals (source_in sources n) (Heard b f ∷ h) (slice_index_or after n 0))
     → ((k : ℕ) → k ≢ n → slice_index_or after k 0 ≡ slice_index_or counts k 0)
     → AreCounted sources numbers b f (j + 1) first after
 counted_turn sources numbers b f j n first counts after was at many here others =
@@ -159,27 +164,28 @@ counted_turn sources numbers b f j n first counts after was at many here others 
       left = next.later
           ∙ ap (numbers_on b (n + 1)) (drop-drop (next.skipped + 1) was.reached sources
           ∙ ap (λ (m : ℕ). drop m sources) (omega arith));
-      done = λ i h lt before. below_more (λ i. IsCount (source_in sources i) h (slice_index_or first i 0)
-          → IsCount (source_in sources i) (Heard b f ∷ h) (slice_index_or after i 0)) n
-          (λ i below first_count.
+      done = λ globals i h lt before. below_more (λ i. IsCount globals (source_in sources i) h (slice_index_or first i 0)
+          → IsCount globals (source_in sources i) (Heard b f ∷ h) (slice_index_or after i 0)) n
+          (λ i below before.
           let other : i ≢ n = omega arith in
-          subst (IsCount (source_in sources i) (Heard b f ∷ h)) (sym (others i other))
-          (counted_below sources numbers b f j next.skipped i first counts h was next.others (omega arith)
-          first_count))
-          (λ first_count. here h (subst (IsCount (source_in sources n) h) (sym (was.rest n (omega arith))) first_count))
+          subst (IsCount globals (source_in sources i) (Heard b f ∷ h)) (sym (others i other))
+          (counted_below globals sources numbers b f j next.skipped i first counts h was next.others (omega arith)
+          before))
+          (λ before. here globals h
+          (subst (IsCount globals (source_in sources n) h) (sym (was.rest n (omega arith))) before))
           i lt before;
       rest = λ i le. let other : i ≢ n = omega arith in others i other ∙ was.rest i (omega arith);
     }
 
-pub counted_all : (sources : List BoundSource) (numbers : List ℕ) (b f j : ℕ) (first counts : List ℕ) (h : List Event)
-    → length numbers ≤ j → AreCounted sources numbers b f j first counts → CountsFollow sources h first
-    → CountsFollow sources (Heard b f ∷ h) counts
-counted_all sources numbers b f j first counts h past was before = (
+pub counted_all : (globals : List GlobalVariable) (sources : List BoundSource) (numbers : List ℕ) (b f j : ℕ) (first counts : List ℕ) (h : List Event)
+    → length numbers ≤ j → AreCounted sources numbers b f j first counts → CountsFollow globals sources h first
+    → CountsFollow globals sources (Heard b f ∷ h) counts
+counted_all globals sources numbers b f j first counts h past was before = (
   was.count ∙ before.0,
   λ i lt.
       let none = sym was.left ∙ drop_all j numbers past in
       let left = length-drop was.reached sources in
-      counted_below sources numbers b f j (length (drop was.reached sources)) i first counts h was
+      counted_below globals sources numbers b f j (length (drop was.reached sources)) i first counts h was
       (none_on b was.reached (drop was.reached sources) none) (omega (arith, left)) (before.1 i lt),
 )
 

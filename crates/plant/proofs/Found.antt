@@ -10,13 +10,14 @@ use Rattle.std.specs.List.{position, find, position_or_len}
 use Rattle.iltypes.specs.declared.value.Value.{Value}
 use Rattle.dalievent.specs.declared.messages.EventSource.{EventSource}
 use Rattle.wordlines.specs.declared.sources.BoundSource.{BoundSource}
+use Rattle.ilplan.specs.declared.global.Global.{Global as GlobalVariable}
 use Rattle.ilplan.specs.declared.global.Location.{Location}
 use Rattle.ilplan.specs.declared.global.Location.TheVariants.{Level, GearAnswer, DeviceAnswer, Information, Count}
 use Rattle.ilplan.specs.declared.global.Location.TheVariants.{Trigger}
 use Rattle.ilimage.specs.Images.{ImageVariable, Global, Own}
 use Rattle.plantevents.specs.declared.event.Event.{Event}
 use Rattle.plantevents.specs.declared.event.Event.TheVariants.{Heard}
-use Rattle.plantevents.specs.Plants.{Plant, location}
+use Rattle.plantevents.specs.Plants.{Plant, location, first_count}
 use Rattle.dalievent.specs.Messages.{is_message, information}
 use Rattle.plantevents.specs.Histories.{message_count}
 use Rattle.plantevents.specs.Variables.{whole, write_of, heard_write, speaker, information_by, count_by}
@@ -70,27 +71,31 @@ information_same sources bus b f number (Some i) s by =
     ∙ sym (ap (λ (s : Option BoundSource). information_by f
     (speaker bus b f (option_map (λ (x : BoundSource). x.source) s))) by.1)
 
-on_bus : (bus number : ℕ) (bound : BoundSource) → is_bound_at bus number bound ≡ true → bound.bus ≡ bus
-on_bus bus number bound is = grind (arith, common_steps)
+at_place : (bus number : ℕ) (bound : BoundSource) → is_bound_at bus number bound ≡ true
+    → (bound.bus ≡ bus) × (bound.number ≡ number)
+at_place bus number bound is = (grind (arith, common_steps), grind (arith, common_steps))
 
-count_same : (sources : List BoundSource) (counts : List ℕ) (bus b f number : ℕ) (h : List Event) (o : Option ℕ)
-    (s : Option BoundSource) → CountsFollow sources h counts → FoundBy (is_bound_at bus number) sources o s
+count_same : (globals : List GlobalVariable) (sources : List BoundSource) (counts : List ℕ) (bus b f number : ℕ) (h : List Event) (o : Option ℕ)
+    (s : Option BoundSource) → CountsFollow globals sources h counts → FoundBy (is_bound_at bus number) sources o s
     → option_and_then (count_of sources counts bus b f) o
-    ≡ count_by bus h (speaker bus b f (option_map (λ (x : BoundSource). x.source) s))
-count_same sources counts bus b f number h None s follow by =
-    sym (ap (λ (s : Option BoundSource). count_by bus h (speaker bus b f
+    ≡ count_by (first_count globals bus number) bus h (speaker bus b f (option_map (λ (x : BoundSource). x.source) s))
+count_same globals sources counts bus b f number h None s follow by =
+    sym (ap (λ (s : Option BoundSource). count_by (first_count globals bus number) bus h (speaker bus b f
     (option_map (λ (x : BoundSource). x.source) s))) by)
-count_same sources counts bus b f number h (Some i) s follow by =
+count_same globals sources counts bus b f number h (Some i) s follow by =
     let bound = source_in sources i in let source = bound.source in
     let counted = (follow.1 i by.0).counted in
-    let here = ap (λ (m : ℕ). message_count m source h) (on_bus bus number bound by.2) in
+    let first = first_count globals bus number in
+    let at = at_place bus number bound by.2 in
+    let here = ap (λ (m : ℕ). message_count (first_count globals m bound.number) m source h) at.0
+    ∙ ap (λ (n : ℕ). message_count (first_count globals bus n) bus source h) at.1 in
     ap (λ (n : ℕ). if eqb b bus && is_message source f then Some (whole n) else None) (counted ∙ here)
-    ∙ (either_way (eqb b bus && is_message source f) source (λ (x : EventSource). whole (message_count bus x h))
-    ∙ sym (ap (λ (s : Option BoundSource). count_by bus h (speaker bus b f
+    ∙ (either_way (eqb b bus && is_message source f) source (λ (x : EventSource). whole (message_count first bus x h))
+    ∙ sym (ap (λ (s : Option BoundSource). count_by (first_count globals bus number) bus h (speaker bus b f
     (option_map (λ (x : BoundSource). x.source) s))) by.1))
 
 place_same : (p : Plant) (b f : ℕ) (h : List Event) (counts : List ℕ)
-    → CountsFollow p.plan.sources (Heard b f ∷ h) counts → (o : Option Location)
+    → CountsFollow p.plan.globals p.plan.sources (Heard b f ∷ h) counts → (o : Option Location)
     → option_and_then (written_by p.plan.sources counts b f) o ≡ heard_write p b f h o
 place_same p b f h counts follow None = refl
 place_same p b f h counts follow (Some (Level bus a)) = refl
@@ -100,11 +105,11 @@ place_same p b f h counts follow (Some (Trigger bus number)) = refl
 place_same p b f h counts follow (Some (Information bus number)) =
     information_same p.plan.sources bus b f number _ _ (found (is_bound_at bus number) p.plan.sources)
 place_same p b f h counts follow (Some (Count bus number)) =
-    count_same p.plan.sources counts bus b f number (Heard b f ∷ h) _ _ follow
+    count_same p.plan.globals p.plan.sources counts bus b f number (Heard b f ∷ h) _ _ follow
     (found (is_bound_at bus number) p.plan.sources)
 
 pub writes_same : (p : Plant) (b f : ℕ) (h : List Event) (counts : List ℕ)
-    → CountsFollow p.plan.sources (Heard b f ∷ h) counts
+    → CountsFollow p.plan.globals p.plan.sources (Heard b f ∷ h) counts
     → (v : ImageVariable) → input_at p.plan counts b f v ≡ write_of p v (Heard b f) h
 writes_same p b f h counts follow (Global number) = place_same p b f h counts follow (location p number)
 writes_same p b f h counts follow (Own t number) = refl

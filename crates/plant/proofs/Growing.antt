@@ -177,7 +177,7 @@ pub heard_says : (p : Shown) (k : KeptPlant) (b f : ℕ) (tasks : TaskSet) (imag
     → is_full_for (Bus b) p ≡ false
     → after + (if slice_index_or p.reserved.buses b false then 1 else 0) ≡ k.kept
     → Follows p.plant (Heard b f ∷ p.history) tasks → ImageFollows p.plant (Heard b f ∷ p.history) image
-    → CountsFollow p.plant.plan.sources (Heard b f ∷ p.history) counts
+    → CountsFollow p.plant.plan.globals p.plant.plan.sources (Heard b f ∷ p.history) counts
     → BusesFollow p.plant (Heard b f ∷ p.history) buses
     → Says (grown p (Heard b f))
     (record k { tasks = tasks; image = image; counts = counts; buses = buses; length = k.length + 1; kept = after })

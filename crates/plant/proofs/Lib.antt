@@ -4,6 +4,7 @@ pub mod Choosing
 pub mod Committing
 pub mod Counting
 pub mod Dropping
+pub mod FirstCounts
 pub mod FirstHandouts
 pub mod FirstImages
 pub mod Found
@@ -19,5 +20,6 @@ pub mod Refusing
 pub mod Reporting
 pub mod Reports
 pub mod Starting
+pub mod States
 pub mod Taking
 pub mod Written

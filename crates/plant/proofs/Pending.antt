@@ -21,7 +21,7 @@ event_small : (a : Option Activator) (b f : ℕ) (h : List Event) → activates 
     → (pending_event a b f h).information ≤ 1023
 event_small None b f h is = absurd (cc)
 event_small (Some (Interval milliseconds)) b f h is = absurd (cc)
-event_small (Some (Messages bus source)) b f h is = within (first_message source) f (eqb b bus) is
+event_small (Some (Messages bus source first)) b f h is = within (first_message source) f (eqb b bus) is
 
 heard_small : (a : Option Activator) (b f t : ℕ) (h : List Event) (e : PendingEvent) (x : Bool) → activates a b f ≡ x
     → ((e : PendingEvent) → Has (pending a t h) e → e.information ≤ 1023)

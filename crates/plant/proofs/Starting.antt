@@ -17,7 +17,7 @@ use Rattle.plantbuses.specs.declared.owed.OwedLevels.{OwedLevels}
 use Rattle.plantbuses.specs.KeptSteps.{KeptBus, BusesFollow, ImageFollows, AreFresh, AreIdle}
 use Rattle.plant.specs.Shown.{opened, plant_of, kept, count_below, count_true, IsWorkerCount, IsLimit}
 use Rattle.plant.specs.OpeningSteps.{as_planned}
-use Rattle.plant.specs.KeptSteps.{Says}
+use Rattle.plant.specs.KeptSteps.{CountsFollow, Says}
 
 -- ---- how many places are kept
 
@@ -40,17 +40,19 @@ kept_at_first setup workers limit =
 
 -- ---- all that is kept
 
-pub opened_says : (setup : Loaded) (workers limit : ℕ) (tasks : TaskSet) (scans : List (Option OpenScan))
+pub opened_says : (setup : Loaded) (workers limit : ℕ) (tasks : TaskSet) (counts : List ℕ)
+    (scans : List (Option OpenScan))
     (buses : List KeptBus) (inputs : List FromBus) (outputs : List (List (Option LevelOutput)))
     (owed : List OwedLevels) → IsWorkerCount workers → IsLimit limit
     → setup.plan.buses ≤ most_buses
-    → Follows (plant_of setup workers) [] tasks → AreIdle workers scans → AreFresh setup.plan.buses buses
+    → Follows (plant_of setup workers) [] tasks → CountsFollow setup.plan.globals setup.plan.sources [] counts
+    → AreIdle workers scans → AreFresh setup.plan.buses buses
     → InputsFollow setup.plan inputs → OutputsFollow (planned setup.plan) outputs
     → OwedFollow (plant_of setup workers) [] owed
     → Says (opened setup workers limit) (record {
       tasks = tasks;
       image = opening (plant_of setup workers);
-      counts = replicate (length setup.plan.sources) 0;
+      counts = counts;
       takes = replicate (length setup.plan.tasks) 0;
       scans = scans;
       buses = buses;
@@ -61,17 +63,14 @@ pub opened_says : (setup : Loaded) (workers limit : ℕ) (tasks : TaskSet) (scan
       length = 0;
       kept = setup.plan.buses;
     })
-opened_says setup workers limit tasks scans buses inputs outputs owed some within few follows idle fresh heard located
-    owes =
+opened_says setup workers limit tasks counts scans buses inputs outputs owed some within few follows counted idle fresh
+    heard located owes =
     record {
       most = let m = within.1 in omega arith;
       legal = tt;
       each_task = follows;
       each_variable = record { laid = refl; values = λ v. refl; instances = λ t. refl };
-      each_source = (
-        length-replicate (length setup.plan.sources) 0,
-        λ i lt. record { counted = get_or-replicate (length setup.plan.sources) i 0 0 lt },
-      );
+      each_source = counted;
       each_take = (
         length-replicate (length setup.plan.tasks) 0,
         λ t lt. get_or-replicate (length setup.plan.tasks) t 0 0 lt,
@@ -108,7 +107,7 @@ pub kept_says : (setup : Loaded) (workers limit : ℕ) (history : List Event) (p
     → IsWorkerCount workers → IsLimit limit → setup.plan.buses ≤ most_buses → history ≡ [] → places ≡ replicate
     setup.plan.buses false
     → Follows (plant_of setup workers) [] tasks → image ≡ opening (as_planned setup)
-    → counts ≡ replicate (length setup.plan.sources) 0 → takes ≡ replicate (length setup.plan.tasks) 0
+    → CountsFollow setup.plan.globals setup.plan.sources [] counts → takes ≡ replicate (length setup.plan.tasks) 0
     → AreIdle workers scans → AreFresh setup.plan.buses buses → InputsFollow setup.plan inputs
     → OutputsFollow (planned setup.plan) outputs → OwedFollow (plant_of setup workers) [] owed → places_kept ≡ setup.plan.buses
     → Says (record {
@@ -131,6 +130,6 @@ pub kept_says : (setup : Loaded) (workers limit : ℕ) (history : List Event) (p
       kept = places_kept;
     })
 kept_says setup workers limit history places tasks image counts takes scans buses inputs outputs owed places_kept some
-    within few none back follows first zeros untaken idle fresh heard located owes up =
-    rw (none, back, first, zeros, untaken, up) (opened_says setup workers limit tasks scans buses inputs outputs owed
-    some within few follows idle fresh heard located owes)
+    within few none back follows first counted untaken idle fresh heard located owes up =
+    rw (none, back, first, untaken, up) (opened_says setup workers limit tasks counts scans buses inputs outputs owed
+    some within few follows counted idle fresh heard located owes)

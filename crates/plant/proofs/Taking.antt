@@ -38,7 +38,7 @@ use Rattle.plant.proofs.Refusing.{not_below}
 
 -- ---- the snapshot
 
-code_of : (tasks : List PlannedTask) (codes : List Accepted) (t : ℕ) (code : Accepted)
+pub code_of : (tasks : List PlannedTask) (codes : List Accepted) (t : ℕ) (code : Accepted)
     → option_map (λ (l : TaskLayout). l.verified) (slice_get
     (map (λ (k : TaskImage). k.layout) (first_tasks tasks codes)) t) ≡ Some code
     → slice_get codes t ≡ Some code

@@ -4,8 +4,10 @@ use Rattle.std.specs.Prelude.{Option}
 use Rattle.limits.specs.Limits.{most_total}
 use Rattle.wordlines.specs.declared.sources.BoundSource.{BoundSource}
 use Rattle.daliframe.specs.declared.schemes.EventScheme.TheVariants.{Instance}
+use Rattle.ilplan.specs.declared.global.Global.{Global as GlobalVariable}
 use Rattle.ilimage.specs.Images.{ProcessImage}
 use Rattle.plantevents.specs.declared.event.Event.{Event}
+use Rattle.plantevents.specs.Plants.{first_count}
 use Rattle.plantevents.specs.Histories.{OpenScan, moment, message_count}
 use Rattle.plantevents.specs.Legal.{AreLegal}
 use Rattle.taskset.specs.TaskSets.{TaskSet, Follows}
@@ -19,9 +21,9 @@ use Rattle.plant.specs.Shown.{Shown, kept}
 
 -- ---- sources
 
--- the count of a source
-pub record IsCount (bound : BoundSource) (h : List Event) (count : ℕ) : Type 0 where
-  pub counted : count ≡ message_count bound.bus bound.source h
+-- the count of a source, among these global variables
+pub record IsCount (globals : List GlobalVariable) (bound : BoundSource) (h : List Event) (count : ℕ) : Type 0 where
+  pub counted : count ≡ message_count (first_count globals bound.bus bound.number) bound.bus bound.source h
 
 -- what stands past the end of the list
 abbrev pub no_source : BoundSource
@@ -31,10 +33,10 @@ abbrev pub source_in : List BoundSource → ℕ → BoundSource
 source_in sources i = slice_index_or sources i no_source
 
 -- the count of each source
-abbrev pub CountsFollow : List BoundSource → List Event → List ℕ → Type 0
-CountsFollow sources h counts =
+abbrev pub CountsFollow : List GlobalVariable → List BoundSource → List Event → List ℕ → Type 0
+CountsFollow globals sources h counts =
     (length counts ≡ length sources)
-    × ((i : ℕ) → i < length sources → IsCount (source_in sources i) h (slice_index_or counts i 0))
+    × ((i : ℕ) → i < length sources → IsCount globals (source_in sources i) h (slice_index_or counts i 0))
 
 -- ---- the plant
 
@@ -59,7 +61,7 @@ pub record Says (p : Shown) (k : KeptPlant) : Type 0 where
   pub legal : AreLegal p.plant p.history
   pub each_task : Follows p.plant p.history k.tasks
   pub each_variable : ImageFollows p.plant p.history k.image
-  pub each_source : CountsFollow p.plant.plan.sources p.history k.counts
+  pub each_source : CountsFollow p.plant.plan.globals p.plant.plan.sources p.history k.counts
   pub each_take : TakesFollow p.plant p.history k.takes
   pub each_worker : ScansFollow p.plant p.history k.scans
   pub each_bus : BusesFollow p.plant p.history k.buses

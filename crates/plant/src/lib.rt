@@ -16,6 +16,7 @@
 #![tactic(auto)]
 
 mod answers;
+mod first_counts;
 mod index;
 mod inputs;
 mod laws;

@@ -20,6 +20,7 @@ mod readers;
 mod reporting;
 mod taking;
 
+use crate::first_counts::first_counts;
 use crate::index::{BusInputs, inputs_of};
 use crate::inputs::write_message;
 use crate::messages::count_message;
@@ -53,7 +54,7 @@ pub struct Plant {
     history: Trace<Event>,
     tasks: Tasks,
     image: Image,
-    /// How many messages of each source were heard, modulo 65,536.
+    /// The count of each source.
     counts: Vec<u16>,
     /// How often each task was taken.
     takes: Vec<u64>,
@@ -174,7 +175,7 @@ impl Plant {
         let setups = task_setups(alloc, setup.plan())?;
         let tasks = Tasks::new(alloc, &setups)?;
         let image = first_image(alloc, &setup)?;
-        let counts = vec![in alloc; 0u16; setup.plan().sources().len()]?;
+        let counts = first_counts(alloc, setup.plan())?;
         let takes = vec![in alloc; 0u64; setup.plan().tasks()]?;
         let scans = idle_workers(alloc, workers)?;
         let states = fresh_buses(alloc, buses)?;

@@ -6,6 +6,7 @@ ghost use Rattle.taskset.specs.TaskSets.{AreSetups, HasInterval};
 ghost use Rattle.plant.specs.InputSteps.{is_bound_at};
 ghost use Rattle.plant.specs.TakingSteps.{trigger_place};
 
+use crate::first_counts::first_count;
 use dalievent::EventSource;
 use ilplan::{Activation, Location, Plan};
 use plantevents::Activator;
@@ -24,7 +25,8 @@ fn bound_source(sources: &[BoundSource], bus: u8, number: u8) -> Option<EventSou
     Some(bound.source)
 }
 
-/// What activates a task: the clock, or the messages of its trigger's source.
+/// What activates a task: the clock, or the messages of its trigger's source, with what their count
+/// begins at.
 fn activator_of(plan: &Plan, task: usize) -> Option<Activator>
     requires { task < length plan.now.tasks }
     ensures value { (p : Made) → p.plan ≡ plan.now → result ≡ activator p task }
@@ -36,8 +38,9 @@ fn activator_of(plan: &Plan, task: usize) -> Option<Activator>
         }),
         Activation::Event { trigger } => match plan.global(trigger).location {
             Some(Location::Trigger { bus, source }) => {
+                let first = first_count(plan, bus, source);
                 let source = bound_source(plan.sources(), bus, source)?;
-                Some(Activator::Messages { bus, source })
+                Some(Activator::Messages { bus, source, first })
             }
             _ => None,
         },

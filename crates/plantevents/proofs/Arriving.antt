@@ -126,42 +126,43 @@ first_of_both : (x y : Bool) → (x && y) ≡ true → x ≡ true
 first_of_both true y e = refl
 first_of_both false y e = absurd (cc)
 
-some_pending : (bus : ℕ) (source : EventSource) (t : ℕ) (h : List Event) → ready (Some (Messages bus source)) t h ≡ true
-    → 0 < length (pending (Some (Messages bus source)) t h)
-some_pending bus source t h is = ltb-true 0 (length (pending (Some (Messages bus source)) t h)) is
+some_pending : (bus first : ℕ) (source : EventSource) (t : ℕ) (h : List Event)
+    → ready (Some (Messages bus source first)) t h ≡ true
+    → 0 < length (pending (Some (Messages bus source first)) t h)
+some_pending bus first source t h is = ltb-true 0 (length (pending (Some (Messages bus source first)) t h)) is
 
-taken_some : (p : Plant) (bus : ℕ) (source : EventSource) (u t : ℕ) (h : List Event)
-    → activator p t ≡ Some (Messages bus source)
+taken_some : (p : Plant) (bus first : ℕ) (source : EventSource) (u t : ℕ) (h : List Event)
+    → activator p t ≡ Some (Messages bus source first)
     → (ready (activator p u) u h && not (is_scanned u h)) ≡ true → (u == t) ≡ true
-    → 0 < length (pending (Some (Messages bus source)) t h)
-taken_some p bus source u t h is free same =
+    → 0 < length (pending (Some (Messages bus source first)) t h)
+taken_some p bus first source u t h is free same =
     let task : u ≡ t =
     ⊎_elim (λ (k : (eqb u t ≡ true) × (u ≡ t)). k.1) (λ (k : (eqb u t ≡ false) × (u ≢ t)).
     absurd (cc)) (eqb_tells u t) in
     let now : ready (activator p t) t h ≡ true =
     subst (λ (v : ℕ). ready (activator p v) v h ≡ true) task
     (first_of_both (ready (activator p u) u h) (not (is_scanned u h)) free) in
-    some_pending bus source t h (subst (λ (a : Option Activator). ready a t h ≡ true) is now)
+    some_pending bus first source t h (subst (λ (a : Option Activator). ready a t h ≡ true) is now)
 
-pub left_in : (p : Plant) (bus : ℕ) (source : EventSource) (t : ℕ) (h : List Event)
-    → activator p t ≡ Some (Messages bus source)
-    → AreLegal p h → LeftIn (Some (Messages bus source)) t h
-left_in p bus source t [] is legal = record { within = omega arith; are = refl }
-left_in p bus source t (Tick m ∷ h) is legal = left_in p bus source t h is legal.1
-left_in p bus source t (Heard b f ∷ h) is legal =
-    heard_in (Some (Messages bus source)) t b f h (activates (Some (Messages bus source)) b f) _ refl
-    (left_in p bus source t h is legal.1)
-left_in p bus source t (Take w u s ∷ h) is legal =
-    took_in (Some (Messages bus source)) t h (u == t) (taken_some p bus source u t h is legal.0.next.free)
-    (left_in p bus source t h is legal.1)
-left_in p bus source t (Commit w n r ∷ h) is legal = left_in p bus source t h is legal.1
-left_in p bus source t (Hand b s x ∷ h) is legal = left_in p bus source t h is legal.1
-left_in p bus source t (Done b n r ∷ h) is legal = left_in p bus source t h is legal.1
-left_in p bus source t (Down b ∷ h) is legal = left_in p bus source t h is legal.1
-left_in p bus source t (Up b ∷ h) is legal = left_in p bus source t h is legal.1
+pub left_in : (p : Plant) (bus first : ℕ) (source : EventSource) (t : ℕ) (h : List Event)
+    → activator p t ≡ Some (Messages bus source first)
+    → AreLegal p h → LeftIn (Some (Messages bus source first)) t h
+left_in p bus first source t [] is legal = record { within = omega arith; are = refl }
+left_in p bus first source t (Tick m ∷ h) is legal = left_in p bus first source t h is legal.1
+left_in p bus first source t (Heard b f ∷ h) is legal =
+    heard_in (Some (Messages bus source first)) t b f h (activates (Some (Messages bus source first)) b f) _ refl
+    (left_in p bus first source t h is legal.1)
+left_in p bus first source t (Take w u s ∷ h) is legal =
+    took_in (Some (Messages bus source first)) t h (u == t) (taken_some p bus first source u t h is legal.0.next.free)
+    (left_in p bus first source t h is legal.1)
+left_in p bus first source t (Commit w n r ∷ h) is legal = left_in p bus first source t h is legal.1
+left_in p bus first source t (Hand b s x ∷ h) is legal = left_in p bus first source t h is legal.1
+left_in p bus first source t (Done b n r ∷ h) is legal = left_in p bus first source t h is legal.1
+left_in p bus first source t (Down b ∷ h) is legal = left_in p bus first source t h is legal.1
+left_in p bus first source t (Up b ∷ h) is legal = left_in p bus first source t h is legal.1
 
-pub pending_in_order : (p : Plant) (bus : ℕ) (source : EventSource) (t : ℕ) (h : List Event)
-    → activator p t ≡ Some (Messages bus source) → AreLegal p h
-    → pending (Some (Messages bus source)) t h
-    ≡ drop (lost (Some (Messages bus source)) t h + scans t h) (arrivals (Some (Messages bus source)) h)
-pending_in_order p bus source t h is legal = (left_in p bus source t h is legal).are
+pub pending_in_order : (p : Plant) (bus first : ℕ) (source : EventSource) (t : ℕ) (h : List Event)
+    → activator p t ≡ Some (Messages bus source first) → AreLegal p h
+    → pending (Some (Messages bus source first)) t h
+    ≡ drop (lost (Some (Messages bus source first)) t h + scans t h) (arrivals (Some (Messages bus source first)) h)
+pending_in_order p bus first source t h is legal = (left_in p bus first source t h is legal).are

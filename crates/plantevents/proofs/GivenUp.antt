@@ -34,11 +34,11 @@ counted arrived left gone before new true false are most is =
     let within = are.within in
     (λ k. (refl, omega arith), λ k. refl)
 
-pub given_up : (p : Plant) (bus : ℕ) (source : EventSource) (t b f : ℕ) (h : List Event)
-    → activator p t ≡ Some (Messages bus source) → AreLegal p h
-    → (lost (Some (Messages bus source)) t (Heard b f ∷ h) ≡ lost (Some (Messages bus source)) t h + 1)
-    ↔ GivesUp (Some (Messages bus source)) t b f h
-given_up p bus source t b f h is legal =
-    let a = Some (Messages bus source) in
+pub given_up : (p : Plant) (bus first : ℕ) (source : EventSource) (t b f : ℕ) (h : List Event)
+    → activator p t ≡ Some (Messages bus source first) → AreLegal p h
+    → (lost (Some (Messages bus source first)) t (Heard b f ∷ h) ≡ lost (Some (Messages bus source first)) t h + 1)
+    ↔ GivesUp (Some (Messages bus source first)) t b f h
+given_up p bus first source t b f h is legal =
+    let a = Some (Messages bus source first) in
     counted (arrivals a h) (pending a t h) (lost a t h + scans t h) (lost a t h) (pending_event a b f h)
-    (activates a b f) _ (left_in p bus source t h is legal) (few_pending a t h) refl
+    (activates a b f) _ (left_in p bus first source t h is legal) (few_pending a t h) refl

@@ -1,5 +1,6 @@
 pub mod Arriving
 pub mod ComingUp
+pub mod Counts
 pub mod Dropped
 pub mod Dropping
 pub mod GivenUp

@@ -24,9 +24,9 @@ messages bus source (Heard b f ∷ h) =
     if b == bus && is_message source f then messages bus source h + 1 else messages bus source h
 messages bus source (e ∷ h) = messages bus source h
 
--- the count of a source, which has 16 bits
-abbrev pub message_count : ℕ → EventSource → List Event → ℕ
-message_count bus source h = messages bus source h % 2 ^ 16
+-- the count of a source, which has 16 bits: what it begins at, and the messages that were heard since
+abbrev pub message_count : ℕ → ℕ → EventSource → List Event → ℕ
+message_count first bus source h = (first + messages bus source h) % 2 ^ 16
 
 -- ---- scans
 

@@ -1,16 +1,19 @@
 -- What a plant is made of, as its histories speak of it (IEC 61131-3, 2.4.3 and 2.7, and profile).
-use Rattle.std.specs.Prelude.{ℕ, ◌+◌, ◌==◌, ◌&&◌, Bool, false, List, [], ◌∷◌, ◌++◌, map, filter_map, find, slice_get}
-use Rattle.std.specs.Prelude.{Option, None, Some, option_map, option_and_then, option_to_list, unwrap_or, if◌then◌else◌}
+use Rattle.std.specs.Prelude.{ℕ, pos, ◌+◌, ◌^◌, ◌==◌, ◌&&◌, Bool, false, List, [], ◌∷◌, ◌++◌, map, filter_map, find}
+use Rattle.std.specs.Prelude.{slice_get, nat_lt, Option, None, Some, option_map, option_and_then, option_to_list}
+use Rattle.std.specs.Prelude.{unwrap_or, if◌then◌else◌}
 use Rattle.std.specs.List.{list_any}
 use Rattle.iltypes.specs.declared.value.Value.{Value}
+use Rattle.iltypes.specs.declared.value.Value.TheVariants as values
 use Rattle.wordlines.specs.Wirings.{tries_in}
 use Rattle.dalievent.specs.declared.messages.EventSource.{EventSource}
 use Rattle.gearcmd.specs.declared.requests.TaskKind as kinds
 use Rattle.gearcmd.specs.declared.requests.TaskKind.TheVariants as kind
 use Rattle.ilplan.specs.declared.activation.Activation as activations
 use Rattle.ilplan.specs.declared.activation.Activation.TheVariants.{Cyclic, Event}
+use Rattle.ilplan.specs.declared.global.Global.{Global as GlobalVariable}
 use Rattle.ilplan.specs.declared.global.Location.{Location}
-use Rattle.ilplan.specs.declared.global.Location.TheVariants.{Level, Trigger}
+use Rattle.ilplan.specs.declared.global.Location.TheVariants.{Level, Count, Trigger}
 use Rattle.ilplan.specs.declared.slot.Slot.{Slot}
 use Rattle.ilplan.specs.declared.slot.SlotOwner as slots
 use Rattle.ilplan.specs.declared.slot.SlotOwner.TheVariants as slot
@@ -38,6 +41,21 @@ abbrev pub source_at : Plant → ℕ → ℕ → Option EventSource
 source_at p bus number =
     option_map (λ bound. bound.source) (find (λ bound. bound.bus == bus && bound.number == number) p.plan.sources)
 
+-- the value, where it is a count, which has 16 bits, else 0
+abbrev pub count_in : Value → ℕ
+count_in (values.Int (pos number)) = if nat_lt number (2 ^ 16) then number else 0
+count_in _ = 0
+
+abbrev pub is_count_at : ℕ → ℕ → Option Location → Bool
+is_count_at bus number (Some (Count b n)) = b == bus && n == number
+is_count_at bus number _ = false
+
+-- what the count of the source at this place of a bus begins at: the initial value of the global variable that is located
+-- at it, and 0 where none is
+abbrev pub first_count : List GlobalVariable → ℕ → ℕ → ℕ
+first_count globals bus number =
+    unwrap_or (option_map (λ g. count_in g.initial) (find (λ g. is_count_at bus number g.location) globals)) 0
+
 -- the attempts that a bus has for a transaction
 abbrev pub tries_of : Plant → ℕ → ℕ
 tries_of p bus = tries_in p.plan.tries bus
@@ -57,7 +75,8 @@ trigger_of p t = option_and_then (λ task. trigger_by p task.activation) (task_a
 
 -- the messages of the source whose trigger is located there
 abbrev pub messages_at : Plant → Location → Option Activator
-messages_at p (Trigger bus number) = option_map (λ source. Messages bus source) (source_at p bus number)
+messages_at p (Trigger bus number) =
+    option_map (λ source. Messages bus source (first_count p.plan.globals bus number)) (source_at p bus number)
 messages_at p _ = None
 
 abbrev pub activator_by : Plant → activations.Activation → Option Activator

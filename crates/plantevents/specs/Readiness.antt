@@ -23,16 +23,16 @@ last_take t (e ∷ h) = last_take t h
 
 -- the frame, heard on the bus, activates such a task
 abbrev pub activates : Option Activator → ℕ → ℕ → Bool
-activates (Some (Messages bus source)) b f = b == bus && is_message source f
+activates (Some (Messages bus source first)) b f = b == bus && is_message source f
 activates _ b f = false
 
 -- the pending event by it: what the source's information and count are just after it
 abbrev pub pending_event : Option Activator → ℕ → ℕ → List Event → PendingEvent
-pending_event (Some (Messages bus source)) b f h =
+pending_event (Some (Messages bus source first)) b f h =
     record {
       place = length h;
       information = information source f;
-      count = message_count bus source (Heard b f ∷ h);
+      count = message_count first bus source (Heard b f ∷ h);
     }
 pending_event _ b f h = record { place = length h; information = 0; count = 0 }
 
@@ -60,7 +60,7 @@ is_due interval m (Some before) = nat_lt (before / interval) (m / interval)
 -- by the moment, that of the last Take, and what is pending
 abbrev pub ready_by : Option Activator → ℕ → Option ℕ → List PendingEvent → Bool
 ready_by (Some (Interval interval)) m before waiting = is_due interval m before
-ready_by (Some (Messages bus source)) m before waiting = nat_lt 0 (length waiting)
+ready_by (Some (Messages bus source first)) m before waiting = nat_lt 0 (length waiting)
 ready_by None m before waiting = false
 
 -- whether task t is ready

@@ -54,13 +54,14 @@ abbrev pub global : Option Location → IlType → Value → GlobalVariable
 global location value_type initial =
     record { name = word; location = location; value_type = value_type; initial = initial }
 
-abbrev pub globals : List GlobalVariable
-globals =
+-- the globals, where the count begins at this number
+abbrev pub globals_from : ℕ → List GlobalVariable
+globals_from count =
     global None number (whole 0)
     ∷ global None number (whole 1)
     ∷ global (Some (Trigger 0 0)) types.Bool (values.Bool false)
     ∷ global (Some (Information 0 0)) number (whole 0)
-    ∷ global (Some (Count 0 0)) number (whole 0)
+    ∷ global (Some (Count 0 0)) number (whole count)
     ∷ global (Some (Level 0 5)) number (whole 0)
     ∷ global (Some (GearAnswer 0 63)) number (whole 258)
     ∷ []
@@ -103,13 +104,16 @@ code t = record { code = listing_of 1 [] (types_of t) [] [] [] [] []; bound = 0 
 abbrev pub button : EventSource
 button = record { scheme = DeviceInstance; a = 5; b = 2 }
 
-abbrev pub house : Plant
-house =
+abbrev pub house_from : ℕ → Plant
+house_from count =
     record {
-      plan = plan_of [] 1 (record { bus = 0; number = 0; source = button } ∷ []) [] globals [] tasks;
+      plan = plan_of [] 1 (record { bus = 0; number = 0; source = button } ∷ []) [] (globals_from count) [] tasks;
       codes = map code tasks;
       workers = 2;
     }
+
+abbrev pub house : Plant
+house = house_from 0
 
 -- ---- events
 

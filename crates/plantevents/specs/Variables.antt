@@ -23,7 +23,7 @@ use Rattle.plantevents.specs.declared.event.Origin.TheVariants.{Queued, Output}
 use Rattle.plantevents.specs.declared.event.Event.{Event}
 use Rattle.plantevents.specs.declared.event.Event.TheVariants.{Heard, Commit, Done}
 use Rattle.dalievent.specs.Messages.{is_message, information}
-use Rattle.plantevents.specs.Plants.{Plant, location, source_at, activator, trigger_of, opening, layout}
+use Rattle.plantevents.specs.Plants.{Plant, location, source_at, first_count, activator, trigger_of, opening, layout}
 use Rattle.plantevents.specs.Histories.{OpenScan, OpenHand, moment, message_count, scan, is_of, hand}
 use Rattle.plantevents.specs.Readiness.{pending}
 
@@ -46,12 +46,13 @@ speaker bus b f None = None
 abbrev pub information_by : ℕ → Option EventSource → Option Value
 information_by f source = option_map (λ s. whole (information s f)) source
 
-abbrev pub count_by : ℕ → List Event → Option EventSource → Option Value
-count_by bus h source = option_map (λ s. whole (message_count bus s h)) source
+abbrev pub count_by : ℕ → ℕ → List Event → Option EventSource → Option Value
+count_by first bus h source = option_map (λ s. whole (message_count first bus s h)) source
 
 abbrev pub heard_write : Plant → ℕ → ℕ → List Event → Option Location → Option Value
 heard_write p b f h (Some (Information bus number)) = information_by f (speaker bus b f (source_at p bus number))
-heard_write p b f h (Some (Count bus number)) = count_by bus (Heard b f ∷ h) (speaker bus b f (source_at p bus number))
+heard_write p b f h (Some (Count bus number)) =
+    count_by (first_count p.plan.globals bus number) bus (Heard b f ∷ h) (speaker bus b f (source_at p bus number))
 heard_write p b f h _ = None
 
 -- an answer's byte, 256 for none, 257 for a damaged one

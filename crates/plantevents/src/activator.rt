@@ -6,9 +6,16 @@ use dalievent::EventSource;
 #[derive(Clone, Copy)]
 pub enum Activator {
     /// The clock, every so many milliseconds, 1 or more.
-    Interval { milliseconds: u32 },
+    Interval {
+        milliseconds: u32,
+    },
     /// The event messages of a source that are heard on a bus.
-    Messages { bus: u8, source: EventSource },
+    Messages {
+        bus: u8,
+        source: EventSource,
+        /// What the count of the source begins at.
+        first: u16,
+    },
 }
 
 /// An event message that activated a task, which has not been taken for it yet.
@@ -18,6 +25,7 @@ pub struct PendingEvent {
     pub place: u64,
     /// The information of the message, 0 to 1023.
     pub information: u16,
-    /// The number of messages of its source up to this one, modulo 65,536.
+    /// What the count of its source begins at and the messages of the source up to this one, modulo
+    /// 65,536.
     pub count: u16,
 }

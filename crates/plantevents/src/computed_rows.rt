@@ -14,7 +14,8 @@ ghost use Rattle.plantevents.specs.Variables.{value, snapshot_value, whole};
 ghost use Rattle.plantevents.specs.Waiting.{waiting, dropped, owed, handouts};
 ghost use Rattle.plantevents.specs.Legal.{AreLegal};
 ghost use Rattle.plantevents.specs.LegalRows.{working_house, one_of_each};
-ghost use Rattle.plantevents.specs.Rows.{house, overlapping, lit, second_turn, crowded, pushes};
+ghost use Rattle.plantevents.specs.Rows.{house, house_from, overlapping, lit, second_turn};
+ghost use Rattle.plantevents.specs.Rows.{crowded, pushes};
 ghost use Rattle.plantevents.specs.Rows.{asking, answered, hand_lamp, lamp_on, hand_reading};
 ghost use Rattle.plantevents.specs.Rows.{reading, read_frames, level, lost_bus, back};
 
@@ -35,6 +36,19 @@ fn many_pushes()
     ensures taken_information { snapshot_value house 2 (pushes 33) (Global 3) ≡ Some (whole 2) }
     ensures taken_count { snapshot_value house 2 (pushes 33) (Global 4) ≡ Some (whole 2) }
     ensures others { snapshot_value house 2 (pushes 33) (Global 1) ≡ Some (whole 1) }
+{}
+
+/// A count goes on from the first value of its variable, and after 65,535 comes 0. What is no count
+/// begins at 0.
+fn counts_that_begin()
+    ensures first { value (house_from 3) (Global 4) [] ≡ Some (whole 3) }
+    ensures next { value (house_from 3) (Global 4) (pushes 1) ≡ Some (whole 4) }
+    ensures taken { snapshot_value (house_from 3) 2 (pushes 1) (Global 4) ≡ Some (whole 4) }
+    ensures last { value (house_from 65535) (Global 4) (pushes 1) ≡ Some (whole 0) }
+    ensures taken_last { snapshot_value (house_from 65535) 2 (pushes 1) (Global 4)
+        ≡ Some (whole 0) }
+    ensures no_count { value (house_from 65536) (Global 4) (pushes 1) ≡ Some (whole 1) }
+    ensures others { value (house_from 3) (Global 3) (pushes 1) ≡ Some (whole 1) }
 {}
 
 /// Who has been ready longest goes first.

@@ -2,7 +2,7 @@
 
 ghost use Rattle.std.specs.Prelude.{◌≡◌, ◌≢◌, ◌↔◌, ◌⊎◌, ℕ, ◌≤◌, true, List, [], Option};
 ghost use Rattle.std.specs.Prelude.{Some, None};
-ghost use Rattle.std.specs.Prelude.{map, drop, length, slice_get, ◌+◌, ◌++◌, ◌∷◌};
+ghost use Rattle.std.specs.Prelude.{map, drop, length, slice_get, ◌+◌, ◌%◌, ◌^◌, ◌++◌, ◌∷◌};
 ghost use Rattle.iltypes.specs.declared.value.Value.{Value};
 ghost use Rattle.dalievent.specs.declared.messages.EventSource.{EventSource};
 ghost use Rattle.gearcmd.specs.FrameLists.{FrameList, IsLegal};
@@ -25,7 +25,7 @@ ghost use Rattle.plantevents.specs.Plants.{Plant, task_at, source_at, trigger_of
 ghost use Rattle.plantevents.specs.Slots.{IsSlotOf};
 ghost use Rattle.plantevents.specs.Histories.{moment, scans, scan, is_scanned, hand, is_down};
 ghost use Rattle.plantevents.specs.Histories.{sent_in, heard_in, downs_in, ups_in, given_in};
-ghost use Rattle.plantevents.specs.Histories.{frames, heards};
+ghost use Rattle.plantevents.specs.Histories.{frames, heards, message_count, messages};
 ghost use Rattle.plantevents.specs.Readiness.{ready, since, pending, lost, most_pending};
 ghost use Rattle.plantevents.specs.Arrivals.{arrivals, GivesUp};
 ghost use Rattle.plantevents.specs.Waiting.{OwedLevel, Handout, waiting, dropped};
@@ -108,6 +108,16 @@ pub fn the_last_write_counts()
     ensures { (p : Plant) (v : ImageVariable) (h : List Event) → HasLast p v h ⊎ HasFirst p v h }
 {}
 
+/// A count goes on: after one history and then another it is what the second one alone makes of the
+/// count that the first one left. Where it begins at 0 it is the number of messages, modulo 65,536.
+pub fn counts_go_on()
+    ensures after { (first bus : ℕ) (source : EventSource) (later front : List Event)
+        → message_count first bus source (later ++ front)
+        ≡ message_count (message_count first bus source front) bus source later }
+    ensures from_zero { (bus : ℕ) (source : EventSource) (h : List Event)
+        → message_count 0 bus source h ≡ messages bus source h % 2 ^ 16 }
+{}
+
 /// A pending event of an event task is a message of its trigger's source, and has the information
 /// and the count as they are just after it.
 pub fn what_is_pending()
@@ -117,11 +127,11 @@ pub fn what_is_pending()
         → Has (pending (activator p t) t h) a → IsPendingEvent p bus number source h a }
 
     // They are all that arrived, in order, without as many first ones as were given up or taken.
-    ensures order { (p : Plant) (bus : ℕ) (source : EventSource) (t : ℕ) (h : List Event)
-        → activator p t ≡ Some (Messages bus source) → AreLegal p h
-        → pending (Some (Messages bus source)) t h
-        ≡ drop (lost (Some (Messages bus source)) t h + scans t h)
-        (arrivals (Some (Messages bus source)) h) }
+    ensures order { (p : Plant) (bus first : ℕ) (source : EventSource) (t : ℕ) (h : List Event)
+        → activator p t ≡ Some (Messages bus source first) → AreLegal p h
+        → pending (Some (Messages bus source first)) t h
+        ≡ drop (lost (Some (Messages bus source first)) t h + scans t h)
+        (arrivals (Some (Messages bus source first)) h) }
     ensures few { (a : Option Activator) (t : ℕ) (h : List Event)
         → length (pending a t h) ≤ most_pending }
 {}
@@ -129,11 +139,11 @@ pub fn what_is_pending()
 /// An event of an event task is given up exactly where 32 later ones of the task came before it was
 /// taken: where a message comes with which 32 came after the oldest that is left.
 pub fn what_is_given_up()
-    ensures { (p : Plant) (bus : ℕ) (source : EventSource) (t b f : ℕ) (h : List Event)
-        → activator p t ≡ Some (Messages bus source) → AreLegal p h
-        → (lost (Some (Messages bus source)) t (Heard b f ∷ h)
-        ≡ lost (Some (Messages bus source)) t h + 1)
-        ↔ GivesUp (Some (Messages bus source)) t b f h }
+    ensures { (p : Plant) (bus first : ℕ) (source : EventSource) (t b f : ℕ) (h : List Event)
+        → activator p t ≡ Some (Messages bus source first) → AreLegal p h
+        → (lost (Some (Messages bus source first)) t (Heard b f ∷ h)
+        ≡ lost (Some (Messages bus source first)) t h + 1)
+        ↔ GivesUp (Some (Messages bus source first)) t b f h }
 {}
 
 /// Each request is accepted or dropped.

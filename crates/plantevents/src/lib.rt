@@ -21,11 +21,12 @@ mod role;
 pub use activator::{Activator, PendingEvent};
 pub use event::{Event, Origin};
 pub use laws::{
-    each_event_is_in_one_part, one_take_is_legal, requests_are_accepted_or_dropped, since_is_least,
-    slots_are_those_of_the_plan, the_last_write_counts, what_a_bus_has_open_that_is_down,
-    what_a_part_shows, what_a_part_shows_of_links, what_a_scan_writes, what_coming_up_changes,
-    what_is_counted, what_is_given_up, what_is_handed_out, what_is_in_a_legal_history,
-    what_is_owed, what_is_pending, what_is_scanned, what_waits,
+    counts_go_on, each_event_is_in_one_part, one_take_is_legal, requests_are_accepted_or_dropped,
+    since_is_least, slots_are_those_of_the_plan, the_last_write_counts,
+    what_a_bus_has_open_that_is_down, what_a_part_shows, what_a_part_shows_of_links,
+    what_a_scan_writes, what_coming_up_changes, what_is_counted, what_is_given_up,
+    what_is_handed_out, what_is_in_a_legal_history, what_is_owed, what_is_pending, what_is_scanned,
+    what_waits,
 };
 pub use noted::{NotedResult, NotedSnapshot};
 pub use role::Role;

@@ -3,4 +3,3 @@ mod KeptSetups
 mod MeantCodes
 mod MeantScans
 pub mod OneAnswer
-mod OneKeptAnswer

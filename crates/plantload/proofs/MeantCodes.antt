@@ -15,8 +15,6 @@ use Rattle.ilcompile.specs.Loaded.{AreCodes, IsCodeOf, Loaded, scan_of}
 use Rattle.ilcompile.specs.Meant.{IsMeant}
 use Rattle.ilcompile.proofs.CodeLemmas.{code_at}
 use Rattle.ilsource.specs.SourceTrees.{Tree}
-use Rattle.keeping.specs.KeptFiles.{KeptEntry}
-use Rattle.plantload.specs.KeptLoading.{IsKeptSetup}
 use Rattle.plantload.specs.Loading.{AreMeant, IsSetup}
 use Rattle.plantload.specs.declared.fault.LoadFault.{LoadFault}
 
@@ -50,12 +48,6 @@ codes_of_tree_meant wiring tree setup resolved codes number task code is_task is
 pub codes_meant : (wiring : Wiring) (bytes : List ℕ) (setup : Loaded) (is : IsSetup wiring bytes setup)
     → AreMeant is.plan.tree wiring.buses setup.codes
 codes_meant wiring bytes setup is = codes_of_tree_meant wiring is.plan.tree setup is.plan.resolved is.codes
-
--- the same where global variables begin with kept values
-pub kept_codes_meant : (wiring : Wiring) (bytes : List ℕ) (kept : List KeptEntry) (setup : Loaded)
-    (is : IsKeptSetup wiring bytes kept setup) → AreMeant is.plan.tree wiring.buses setup.codes
-kept_codes_meant wiring bytes kept setup is =
-    codes_of_tree_meant wiring is.plan.tree setup is.plan.resolved is.codes
 
 -- whatever was loaded
 pub all_meant : (wiring : Wiring) (bytes : List ℕ) (r : Result Loaded LoadFault)

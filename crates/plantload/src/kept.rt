@@ -1,31 +1,26 @@
-//! Loading a text whose global variables begin with kept values.
+//! Loading a text whose variables begin with kept values.
 
-ghost use Rattle.std.specs.Prelude.{◌≡◌, IfErr, IfOk, Result};
-ghost use Rattle.iltext.specs.Parsing.{IsText};
-ghost use Rattle.ilsyms.specs.Faults.{IsWellNamed};
-ghost use Rattle.plantload.specs.Loading.{AreMeant, IsLoadFaultOrMemory, IsPlanFault};
+ghost use Rattle.std.specs.Prelude.{◌≡◌, ℕ, List, IfErr, IfOk, Result};
+ghost use Rattle.wordlines.specs.Wirings.{Wiring};
+ghost use Rattle.keeping.specs.KeptPlans.{left_out_of};
+ghost use Rattle.plantload.specs.Loading.{AreMeant, IsLoadFault, IsLoadFaultOrMemory, IsSetup};
 ghost use Rattle.ilcompile.specs.Loaded.{Loaded};
-ghost use Rattle.plantload.specs.KeptLoading.{AreLeftOut, IsKeptLoadFault, IsKeptLoaded};
-ghost use Rattle.plantload.specs.KeptLoading.{IsKeptPlan, IsKeptPlanFault, IsKeptSetup};
+ghost use Rattle.plantload.specs.KeptLoading.{AreLeftOut, IsKeptLoaded, IsKeptSetup};
 ghost use Rattle.plantload.specs.declared.fault.LoadFault.{LoadFault};
 
 use crate::fault::LoadFault;
-use crate::loading::{setup_of, source_and_plan};
+use crate::loading::load;
 use ilcompile::Setup;
-use ilplan::Plan;
-use ilsource::Source;
-use ilsyms::resolve;
-use keeping::{Kept, LeftOut, with_kept};
-use std::alloc::Global;
+use keeping::{Kept, LeftOut, first_values_of, left_out_of};
+use std::alloc::{AllocError, Global};
 use wordlines::Binding;
 
-/// The plan of a text whose global variables begin with kept values, with the verified code of each
-/// of its tasks; and the kept values that are left out, in their order.
+/// The plan of a text whose variables begin with kept values, with the verified code of each of its
+/// tasks; and the kept values that are left out, in their order.
 ///
 /// # Errors
 ///
-/// The text's own fault, as [`crate::load`] reports it; one of the source program that begins so;
-/// or that the allocator is out of memory.
+/// The text's own fault, as [`crate::load`] reports it; or that the allocator is out of memory.
 pub fn load_kept(
     alloc: Global,
     text: &[u8],
@@ -34,10 +29,10 @@ pub fn load_kept(
 ) -> Result<(Setup, Vec<LeftOut>), LoadFault>
     ensures setup { IfOk result (λ loaded.
         IsKeptSetup binding.now text.now kept.now.values loaded.0) }
-    ensures left_out { IfOk result (λ loaded. AreLeftOut text.now kept.now.values loaded.1.items) }
-    ensures fault { IfErr result
-        (IsLoadFaultOrMemory (IsKeptLoadFault binding.now text.now kept.now.values)) }
-    // The runs of each task's code are the scans of the source program that begins so, both ways.
+    ensures left_out { IfOk result (λ loaded.
+        AreLeftOut binding.now text.now kept.now.values loaded.1.items) }
+    ensures fault { IfErr result (IsLoadFaultOrMemory (IsLoadFault binding.now text.now)) }
+    // The runs of each task's code are the scans of the text's own source program, both ways.
     ensures meant { IfOk result (λ loaded.
         (is : IsKeptSetup binding.now text.now kept.now.values loaded.0)
         → AreMeant is.plan.tree binding.now.buses loaded.0.codes) }
@@ -46,42 +41,30 @@ pub fn load_kept(
         → IsKeptLoaded binding.now text.now kept.now.values a
         → IsKeptLoaded binding.now text.now kept.now.values b → a ≡ b }
 {
-    let (plan, left_out) = plan_of_kept(alloc, text, binding, kept)?;
-    let setup = setup_of(alloc, plan)?;
-    Ok((setup, left_out))
+    let setup = load(alloc, text, binding)?;
+    Ok(begin_kept(alloc, setup, kept)?)
 }
 
-/// The plan of a text whose global variables begin with kept values; and the kept values that are
-/// left out, in their order.
+/// A setup whose variables begin with kept values; and those of them that are left out, in their
+/// order. The codes are the same.
 ///
 /// # Errors
 ///
-/// The text's own fault, as [`crate::plan_of`] reports it; one of the source program that begins
-/// so; or that the allocator is out of memory.
-pub fn plan_of_kept(
+/// The allocator is out of memory.
+pub fn begin_kept(
     alloc: Global,
-    text: &[u8],
-    binding: &Binding,
+    setup: Setup,
     kept: &Kept,
-) -> Result<(Plan, Vec<LeftOut>), LoadFault>
-    ensures plan { IfOk result (λ loaded.
-        IsKeptPlan binding.now text.now kept.now.values loaded.0) }
-    ensures left_out { IfOk result (λ loaded. AreLeftOut text.now kept.now.values loaded.1.items) }
-    ensures fault { IfErr result
-        (IsLoadFaultOrMemory (IsKeptPlanFault binding.now text.now kept.now.values)) }
+) -> Result<(Setup, Vec<LeftOut>), AllocError>
+    ensures setup { IfOk result (λ begun. (wiring : Wiring) (bytes : List ℕ)
+        → IsSetup wiring bytes setup
+        → IsKeptSetup wiring bytes kept.now.values begun.0) }
+    ensures left_out { IfOk result (λ begun.
+        begun.1.items ≡ left_out_of kept.now.values setup.plan) }
 {
-    let source = source_of(alloc, text, binding)?;
-    let (source, left_out) = with_kept(alloc, source, binding, kept)?;
-    let plan = resolve(alloc, &source, binding)?;
-    Ok((plan, left_out))
-}
-
-/// The source program of a text, which has no fault of names.
-fn source_of(alloc: Global, text: &[u8], binding: &Binding) -> Result<Source, LoadFault>
-    ensures spelled { IfOk result (IsText text.now) }
-    ensures named { IfOk result (λ source. IsWellNamed source binding.now) }
-    ensures fault { IfErr result (IsLoadFaultOrMemory (IsPlanFault binding.now text.now)) }
-{
-    let (source, _plan) = source_and_plan(alloc, text, binding)?;
-    Ok(source)
+    let mut begun = setup;
+    let left_out = left_out_of(alloc, begun.plan(), kept)?;
+    let values = first_values_of(alloc, begun.plan(), kept)?;
+    begun.begin_with(&values.globals, &values.slots);
+    Ok((begun, left_out))
 }

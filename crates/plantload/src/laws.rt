@@ -25,8 +25,8 @@ pub fn scans_are_as_meant()
         → AreAsMeant loaded.plan.tree wiring.buses h }
 {}
 
-/// The same of a setup whose global variables begin with kept values: the runs of each task's code
-/// are the scans of the source program that begins so, both ways.
+/// The same of a setup whose variables begin with kept values: the runs of each task's code are the
+/// scans of the text's own source program, both ways.
 pub fn kept_runs_are_as_meant()
     ensures { (wiring : Wiring) (bytes : List ℕ) (kept : List KeptEntry) (setup : Loaded)
         (is : IsKeptSetup wiring bytes kept setup)
@@ -34,7 +34,7 @@ pub fn kept_runs_are_as_meant()
 {}
 
 /// The same of a plant that was opened with the plan of such a setup: each scan came to what the
-/// source program that begins so means of the snapshot that it took.
+/// text's own source program means of the snapshot that it took.
 pub fn kept_scans_are_as_meant()
     ensures { (wiring : Wiring) (bytes : List ℕ) (kept : List KeptEntry) (setup : Loaded)
         (loaded : IsKeptSetup wiring bytes kept setup) (p : Plant) (h : List Event)

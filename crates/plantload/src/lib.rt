@@ -10,9 +10,8 @@
 //! Two laws say what a setup does, by its source program: [`runs_are_as_meant`] of the runs of its
 //! codes, and [`scans_are_as_meant`] of the scans of every plant of it.
 //!
-//! [`load_kept`] loads a text whose global variables begin with values that were kept
-//! (`IsKeptSetup`, specs/KeptLoading.antt); its laws are [`kept_runs_are_as_meant`] and
-//! [`kept_scans_are_as_meant`].
+//! [`load_kept`] loads a text whose variables begin with values that were kept (`IsKeptSetup`,
+//! specs/KeptLoading.antt), and [`begin_kept`] lets a setup begin so; the laws are [`kept_runs_are_as_meant`] and [`kept_scans_are_as_meant`].
 //!
 //! ```text
 //! let setup = load(alloc, text, &binding)?;
@@ -25,7 +24,7 @@ mod laws;
 mod loading;
 
 pub use fault::{LoadFault, RefusedTask};
-pub use kept::{load_kept, plan_of_kept};
+pub use kept::{begin_kept, load_kept};
 pub use laws::{
     kept_runs_are_as_meant, kept_scans_are_as_meant, runs_are_as_meant, scans_are_as_meant,
 };

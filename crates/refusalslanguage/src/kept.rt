@@ -1,15 +1,16 @@
 //! Files of kept values.
 
 ghost use Rattle.std.specs.Prelude.{◌≡◌, ◌≢◌, [], ◌∷◌, IfErr, IfOk, OnOk, Some, codes, pos};
-ghost use Rattle.keeping.specs.Beginning.{left_out};
 ghost use Rattle.keeping.specs.Faults.{AreTorn};
 ghost use Rattle.keeping.specs.KeptFiles.{entry_of};
+ghost use Rattle.keeping.specs.KeptPlans.{global_firsts, left_out_of};
 
-use ilsource::Source;
+use ilplan::Plan;
 use iltypes::Value;
-use keeping::{Kept, KeptAt, KeptFault, KeptValue, LeftOut, kept_file, with_kept};
+use keeping::{
+    Kept, KeptAt, KeptFault, KeptValue, LeftOut, first_values_of, kept_file, left_out_of,
+};
 use std::alloc::{AllocError, Global};
-use wordlines::Binding;
 
 /// `the_last_value_is_skipped`: the last value of a file was not found under its name.
 pub fn last_value_is_found(kept: &Kept, last: &KeptValue) -> Option<Value>
@@ -29,20 +30,33 @@ pub fn torn_file_is_refused(alloc: Global, bytes: &[u8]) -> Result<Kept, KeptFau
     Kept::parse(alloc, bytes)
 }
 
-/// `input_word_kept`, `zero_is_a_value_of_each_type`: a variable began with a value that it may not
-/// begin with.
+/// `used_though_left_out`, `zero_is_a_value_of_each_type`: a value that no variable may begin with
+/// was not reported.
 pub fn value_that_no_variable_takes_is_left_out(
     alloc: Global,
-    source: Source,
-    binding: &Binding,
+    plan: &Plan,
     kept: &Kept,
     value: &KeptValue,
 ) -> Result<Vec<LeftOut>, AllocError>
-    requires { left_out source kept.now.values ≡ value.now ∷ [] }
+    requires { left_out_of kept.now.values plan.now ≡ value.now ∷ [] }
     ensures { IfOk result (λ left. left.items ≡ value.now ∷ []) }
 {
-    let (_, left) = with_kept(alloc, source, binding, kept)?;
-    Ok(left)
+    left_out_of(alloc, plan, kept)
+}
+
+/// `a_count_is_not_kept`, `dropped_though_it_fits`: a variable began with its own first value,
+/// though another one was kept.
+pub fn kept_value_begins(
+    alloc: Global,
+    plan: &Plan,
+    kept: &Kept,
+    value: Value,
+) -> Result<Vec<Value>, AllocError>
+    requires { global_firsts plan.now kept.now.values ≡ value ∷ [] }
+    ensures { IfOk result (λ values. values.items ≡ value ∷ []) }
+{
+    let begun = first_values_of(alloc, plan, kept)?;
+    Ok(begun.globals)
 }
 
 /// `date_and_moment_exchanged`, `an_empty_file_has_no_values`, `the_sum_forgets_the_order`: the

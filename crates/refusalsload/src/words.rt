@@ -1,6 +1,7 @@
 //! What the words of the command line ask for.
 
-ghost use Rattle.std.specs.Prelude.{◌≡◌, ◌≢◌, IfSome, None, Some, codes, false, length, true};
+ghost use Rattle.std.specs.Prelude.{◌≡◌, ◌≢◌, IfSome, None, Some, codes, false, length, option_map};
+ghost use Rattle.std.specs.Prelude.{true};
 ghost use Rattle.clap.specs.Words.{first_of, found_of, one_of, rows_of};
 ghost use Rattle.invocations.specs.Invocations.{expected_words, watched_words};
 
@@ -55,6 +56,19 @@ pub fn scenario_stands_behind_the_text<'a>(found: &ArgMatches<'a>) -> Option<Pla
 {
     match invocation_of("look", found) {
         Ok(Invocation::Look { files, .. }) => Some(files),
+        _ => None,
+    }
+}
+
+/// `the_kept_values_of_a_play_are_dropped`: of a play with a file of kept values another file was read,
+/// or none.
+pub fn kept_values_of_a_play_are_named<'a>(found: &ArgMatches<'a>) -> Option<PlayFiles<'a>>
+    requires { first_of (codes "keep") (rows_of (found_of found.now)) ≡ Some (codes "kept") }
+    ensures { IfSome result (λ files.
+        option_map (λ path. path.now) files.keep ≡ Some (codes "kept")) }
+{
+    match invocation_of("play", found) {
+        Ok(Invocation::Play { files, .. }) => Some(files),
         _ => None,
     }
 }

@@ -47,9 +47,9 @@ pub not_due : (a : Option Activator) (m : ℕ) (last : Option ℕ) (events : Lis
 not_due a m last events cyclic moment taken = rw (cyclic, moment, taken) refl
 
 -- a message of bus 1 leaves a task alone whose source is on bus 0
-pub other_bus : (a : Option Activator) (source : EventSource) (f : ℕ) (h : List Event) → a ≡ Some (Messages 0 source)
-    → pending a 2 h ≡ [] → ready a 2 (Heard 1 f ∷ h) ≡ false
-other_bus a source f h is none =
+pub other_bus : (a : Option Activator) (first : ℕ) (source : EventSource) (f : ℕ) (h : List Event)
+    → a ≡ Some (Messages 0 source first) → pending a 2 h ≡ [] → ready a 2 (Heard 1 f ∷ h) ≡ false
+other_bus a first source f h is none =
     ap (λ (b : Option Activator). ready b 2 (Heard 1 f ∷ h)) is
     ∙ ap (λ (events : List PendingEvent). nat_lt 0 (length events))
     (ap (λ (b : Option Activator). pending b 2 h) (sym is) ∙ none)

@@ -118,12 +118,13 @@ pub fn message_of_another_bus_activates_nothing(
     place: u64,
     frame: Frame24,
     source: EventSource,
+    first: u16,
 ) -> bool
     requires known { 2 < length tasks.old.tasks }
     requires follows { Follows plant.now.plant plant.now.history tasks.old }
     requires place { place ≡ length plant.now.history }
     requires small { place + 1 < 2 ^ 64 }
-    requires bus { activator plant.now.plant 2 ≡ Some (Activator.Messages 0 source) }
+    requires bus { activator plant.now.plant 2 ≡ Some (Activator.Messages 0 source first) }
     requires none { pending (activator plant.now.plant 2) 2 plant.now.history ≡ [] }
     ensures { result ≡ false }
 {

@@ -59,11 +59,11 @@ one_kept p h m t tasks e s all still here other = record {
 
 -- at an event that is no message
 count_still : (a : Option Activator) (e : Event) (h : List Event)
-    → ((bus : ℕ) (source : EventSource) → message_count bus source (e ∷ h) ≡ message_count bus source h)
+    → ((first bus : ℕ) (source : EventSource) → message_count first bus source (e ∷ h) ≡ message_count first bus source h)
     → count_for a (e ∷ h) ≡ count_for a h
 count_still None e h still = refl
 count_still (Some (Interval milliseconds)) e h still = refl
-count_still (Some (Messages bus source)) e h still = still bus source
+count_still (Some (Messages bus source first)) e h still = still first bus source
 
 -- a Take of another task
 pub others_at_take : (h : List Event) (w t : ℕ) (start : ScanStart) (setup : TaskSetup) (u : ℕ) (r : KeptTask) → u ≢ t
@@ -74,7 +74,7 @@ others_at_take h w t start setup u r ne f =
       declared_so = f.declared_so;
       last_take = rw no f.last_take;
       pending = rw no f.pending;
-      count = f.count ∙ sym (count_still setup.activator (Take w t start) h (λ bus source. refl));
+      count = f.count ∙ sym (count_still setup.activator (Take w t start) h (λ first bus source. refl));
       lost = f.lost;
       few = let e = f.few in omega arith;
       since = rw no (λ is. rw is (f.since is));
@@ -91,7 +91,7 @@ others_at_commit h w n t result running setup u r is of ne f =
       declared_so = f.declared_so;
       last_take = f.last_take;
       pending = f.pending;
-      count = f.count ∙ sym (count_still setup.activator (Commit w n result) h (λ bus source. refl));
+      count = f.count ∙ sym (count_still setup.activator (Commit w n result) h (λ first bus source. refl));
       lost = f.lost;
       few = let e = f.few in omega arith;
       since = λ so. rw so (f.since so);

@@ -10,7 +10,7 @@ use Rattle.taskset.specs.TaskSets.{KeptTask, task_at}
 
 -- the information of a message for such a task
 abbrev pub information_for : Option Activator → ℕ → ℕ
-information_for (Some (Messages bus source)) frame = information source frame
+information_for (Some (Messages bus source first)) frame = information source frame
 information_for _ frame = 0
 
 -- the task is ready at this moment

@@ -15,7 +15,7 @@ use Rattle.taskset.specs.declared.setup.TaskSetup.{TaskSetup}
 -- an interval has 1 millisecond or more
 abbrev pub HasInterval : Option Activator → Type 0
 HasInterval (Some (Interval milliseconds)) = 1 ≤ milliseconds
-HasInterval (Some (Messages bus source)) = ⊤
+HasInterval (Some (Messages bus source first)) = ⊤
 HasInterval None = ⊤
 
 -- what task t of a plant is declared with
@@ -41,7 +41,7 @@ pub record KeptTask : Type 0 where
 
 -- the count of its source, if messages activate it
 abbrev pub count_for : Option Activator → List Event → ℕ
-count_for (Some (Messages bus source)) h = message_count bus source h
+count_for (Some (Messages bus source first)) h = message_count first bus source h
 count_for _ h = 0
 
 -- What is kept of task t, which is declared so, is what the history says of it; each event that was lost is one of the

@@ -10,7 +10,7 @@ ghost use Rattle.taskset.specs.declared.setup.TaskSetup.{TaskSetup as Setup};
 ghost use Rattle.taskset.specs.TaskSets.{HasInterval, TaskFollows};
 ghost use Rattle.taskset.specs.TaskSetSteps.{is_ready};
 
-use crate::activation::activation_by;
+use crate::activation::{activation_by, first_count};
 use crate::setup::TaskSetup;
 use circular_buffer::HeapCircularBuffer;
 use daliframe::Frame24;
@@ -26,7 +26,7 @@ pub(crate) struct TaskState {
     /// The moment of its last Take.
     last_take: Option<u64>,
     pending: HeapCircularBuffer<PendingEvent>,
-    /// How many messages of its source were heard, modulo 65,536.
+    /// The count of its source.
     count: u16,
     /// How many activations were given up.
     lost: u64,
@@ -67,7 +67,7 @@ impl TaskState {
             setup,
             last_take: None,
             pending: HeapCircularBuffer::with_capacity(alloc, MOST_PENDING)?,
-            count: 0,
+            count: first_count(setup.activator),
             lost: 0,
             since: 0,
             is_scanned: false,

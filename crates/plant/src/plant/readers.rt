@@ -1,10 +1,11 @@
 //! What is read of a plant.
 
-ghost use Rattle.std.specs.Prelude.{◌≡◌, ◌+◌, ◌≤◌, ◌<◌, length, option_map, Some};
+ghost use Rattle.std.specs.Prelude.{◌≡◌, ℕ, ◌+◌, ◌≤◌, ◌<◌, length, option_map, Some};
+ghost use Rattle.std.specs.Prelude.{IfOk, IfSome, option_and_then, slice_get};
 ghost use Rattle.limits.specs.Limits.{AreTries, most_total};
-ghost use Rattle.ilimage.specs.Images.{Global as GlobalVariable};
+ghost use Rattle.ilimage.specs.Images.{Global as GlobalVariable, variable_in};
 ghost use Rattle.busqueue.specs.Queues.{class_number};
-ghost use Rattle.plantevents.specs.Plants.{activator, tries_of};
+ghost use Rattle.plantevents.specs.Plants.{activator, layout, tries_of};
 ghost use Rattle.plantevents.specs.Histories.{frames, hand, heards, is_down, scans};
 ghost use Rattle.plantevents.specs.Readiness.{lost};
 ghost use Rattle.plantevents.specs.Variables.{value};
@@ -15,8 +16,10 @@ ghost use Rattle.plant.specs.Shown.{is_full, is_reserved, kept, used};
 use super::Plant;
 use busqueue::Class;
 use ilcompile::Setup;
+use ilrows::ValueRow;
 use iltypes::Value;
 use plantevents::Role;
+use std::alloc::{AllocError, Global};
 
 impl Plant {
     /// The plan with its verified codes.
@@ -124,6 +127,26 @@ impl Plant {
         self.image.value(global)
     }
 
+    /// The value of the variable in each slot of a task: what was written to it last, else its
+    /// initial value.
+    ///
+    /// # Errors
+    ///
+    /// The allocator is out of memory.
+    pub fn slot_values(&self, alloc: Global, task: usize) -> Result<Vec<Value>, AllocError>
+        requires { task < length self.now.plant.plan.tasks }
+        ensures each { IfOk result (λ values. IfSome (slice_get self.now.plant.plan.tasks task)
+            (λ t. length values.items ≡ length t.slots)) }
+        ensures values { IfOk result (λ values. (slot : ℕ) → slice_get values.items slot
+            ≡ option_and_then (λ v. value self.now.plant v self.now.history)
+            (variable_in (layout self.now.plant) task slot)) }
+    {
+        let _codes = self.setup.plan();
+        let state = self.image.take(task, self.moment)?;
+        let copies = state.copy_lasting()?;
+        row_values(alloc, &copies.0)
+    }
+
     /// How many requests of a class wait for a bus, at most 64.
     pub fn waiting(&self, bus: u8, class: Class) -> usize
         requires { bus < self.now.plant.plan.buses }
@@ -173,4 +196,16 @@ impl Plant {
     {
         self.takes[task]
     }
+}
+
+/// The values of a row.
+#[tactic(auto, using(crate::proofs::States::take_at))]
+fn row_values(alloc: Global, row: &ValueRow) -> Result<Vec<Value>, AllocError>
+    ensures { IfOk result (λ values. values.items ≡ row.now) }
+{
+    let mut values = Vec::new(alloc);
+    for slot in 0..row.len() {
+        values.push(row.get(slot))?;
+    }
+    Ok(values)
 }

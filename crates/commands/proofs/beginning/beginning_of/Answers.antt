@@ -1,11 +1,14 @@
-use Rattle.std.proofs.Common.{rules, ◌≡◌, ◌∙◌, ℕ, List, Some, option_map, ap, subst, sym}
-use Rattle.keeping.specs.KeptFiles.{IsKeptFile}
+use Rattle.std.proofs.Common.{rules, ◌≡◌, ◌∙◌, ℕ, List, Option, Some, option_map, ap, subst, sym}
+use Rattle.keeping.specs.KeptFiles.{IsKeptFile, KeptState}
 use Rattle.keeping.specs.Faults.{IsKeptFaultOrMemory}
 use Rattle.keeping.specs.declared.fault.KeptFault.TheVariants.{Empty, Torn}
-use Rattle.commands.specs.Beginnings.{IsFileOf}
-use Rattle.commands.proofs.LivesOut.{if_left}
+use Rattle.commands.specs.Beginnings.{AreUsed, IsFileOf}
 use Rattle.commands.proofs.UnusedValues.{begun_without, unusable_unused}
 use Rattle.commands.proofs.beginning.beginning_of.Goals as goal
+
+pub returns-in-Ok-clause-begun : goal.returns-in-Ok-clause-begun
+returns-in-Ok-clause-begun c =
+    c.in_ok-begun_with.ensures.begun c.args.binding.now c.args.text.now c.in_ok-setup.ensures.setup
 
 pub returns-in-Ok-clause-used : goal.returns-in-Ok-clause-used
 returns-in-Ok-clause-used c =
@@ -15,8 +18,8 @@ returns-in-Ok-clause-used c =
     subst (λ (b : List ℕ). IsKeptFile b kept) bytes c.in-Ok.ensures.kept in
     let file : IsFileOf (option_map (λ bytes. bytes.now.items) c.args.file) kept =
     subst (λ f. IsFileOf (option_map (λ bytes. bytes.now.items) f) kept) (sym c.in-Some.is) read in
-    if_left _ _ (λ b used. used (option_map (λ bytes. bytes.now.items) c.args.file) file) c.begun_with.result
-    c.begun_with.ensures.used
+    subst (λ (k : Option KeptState). AreUsed (option_map (λ bytes. bytes.now.items) c.args.file) k)
+    (sym c.in_ok-begun_with.ensures.kept) file
 
 pub returns-in-Err-Empty-clause-begun : goal.returns-in-Err-Empty-clause-begun
 returns-in-Err-Empty-clause-begun c =
@@ -26,7 +29,7 @@ returns-in-Err-Empty-clause-begun c =
 pub returns-in-Err-Empty-clause-used : goal.returns-in-Err-Empty-clause-used
 returns-in-Err-Empty-clause-used c =
     let bytes : c.deref.result.now ≡ c.in-Some.bytes.now.items = search rules in
-    unusable_unused c.args.binding.now c.args.text.now c.deref.result.now
+    unusable_unused c.deref.result.now
     (option_map (λ bytes. bytes.now.items) c.args.file) c.without.result Empty
     (ap (λ file. option_map (λ bytes. bytes.now.items) file) c.in-Some.is ∙ ap Some (sym bytes)) c.without.ensures.kept
     (subst (IsKeptFaultOrMemory c.deref.result.now) c.in-Err-Empty.field-0-is c.in-Err-Empty.ensures.fault)
@@ -39,7 +42,7 @@ returns-in-Err-Torn-clause-begun c =
 pub returns-in-Err-Torn-clause-used : goal.returns-in-Err-Torn-clause-used
 returns-in-Err-Torn-clause-used c =
     let bytes : c.deref.result.now ≡ c.in-Some.bytes.now.items = search rules in
-    unusable_unused c.args.binding.now c.args.text.now c.deref.result.now
+    unusable_unused c.deref.result.now
     (option_map (λ bytes. bytes.now.items) c.args.file) c.without-in-Err-Torn.result Torn
     (ap (λ file. option_map (λ bytes. bytes.now.items) file) c.in-Some.is ∙ ap Some (sym bytes)) c.without-in-Err-Torn.ensures.kept
     (subst (IsKeptFaultOrMemory c.deref.result.now) c.in-Err-Torn.field-0-is c.in-Err-Torn.ensures.fault)

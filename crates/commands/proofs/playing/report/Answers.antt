@@ -21,7 +21,8 @@ returns-in_ok-flush-in-Ok g c =
     let same = c.of_play-status.ensures ∙ ap (status_of_play ending) c.has_down.ensures in
     inr (inr (
     played_under c.args.pages.now c.args.limit c.in-Ok.installation left c.in-Ok.scenario ending
-    c.scans_are_as_meant.ensures c.plays_are_by_scenario.ensures c.in-Ok.ensures.started
+    c.scans_are_as_meant.ensures c.kept_scans_are_as_meant.ensures c.plays_are_by_scenario.ensures
+    c.in-Ok.ensures.started
     c.in_ok-ending-in-Ok.ensures.played c.in_ok-ending-in-Ok.ensures.legal c.args.asked.expected.now
     c.args.asked.watched.now c.judged.result (c.knows.ensures.0 t)
     (judged_by (status_of_played ending left) c.of_play-status.result left.plant c.args.asked.expected.now

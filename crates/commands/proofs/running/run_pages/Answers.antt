@@ -10,5 +10,6 @@ returns-clause-run g c =
     let scenario = c.in_ok-scenario.scenario in
     let spelled : IsScenario c.args.pages.now.scenario scenario =
     subst (λ (bytes : List ℕ). IsScenario bytes scenario) read c.in_ok-scenario.ensures in
-    run_out c.args.pages.now c.args.size c.in_ok-setup.setup scenario c.from-limit.result c.in_ok-left.left
-    c.scans_are_as_meant.ensures c.in_ok-setup.ensures.setup spelled same c.in_ok-left.ensures.run
+    run_out c.args.pages.now c.args.size c.in_ok-begun.begun.setup scenario c.from-limit.result c.in_ok-left.left
+    c.scans_are_as_meant.ensures c.kept_scans_are_as_meant.ensures c.in_ok-begun.ensures.setup spelled same
+    c.in_ok-left.ensures.run

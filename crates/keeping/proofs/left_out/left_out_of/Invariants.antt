@@ -1,8 +1,11 @@
-use Rattle.std.proofs.Common.{◌≡◌, take}
+use Rattle.std.proofs.Common.{◌≡◌, take, not}
 use Rattle.std.specs.Prelude.{filter}
-use Rattle.keeping.specs.Beginning.{is_left_out}
+use Rattle.keeping.specs.KeptFiles.{KeptEntry, has_name}
+use Rattle.keeping.specs.KeptPlans.{taken}
 use Rattle.keeping.proofs.left_out.left_out_of.Given as goal
 
 abbrev pub invariant-loop-value : goal.invariant-loop-value
 invariant-loop-value l =
-    l.left.items ≡ filter (is_left_out l.fn.source l.fn.kept.values) (take l.value-index l.fn.kept.values)
+    l.left.items
+    ≡ filter (λ (entry : KeptEntry). not (has_name (taken l.fn.kept.values l.fn.plan) entry.name))
+    (take l.value-index l.fn.kept.values)

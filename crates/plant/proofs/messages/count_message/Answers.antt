@@ -26,6 +26,6 @@ loop-number-preserved c =
     c.count_for.ensures.others
 
 pub returns-clause-follow : goal.returns-clause-follow
-returns-clause-follow c = λ h before.
-    counted_all c.args.sources.now c.args.numbers.now c.args.bus c.args.frame c.loop-number.number-index
+returns-clause-follow c = λ globals h before.
+    counted_all globals c.args.sources.now c.args.numbers.now c.args.bus c.args.frame c.loop-number.number-index
     c.args.counts.now.items c.loop-number.counts.items h (omega arith) c.loop-number.invariant before

@@ -1,4 +1,4 @@
-use Rattle.plantload.proofs.MeantCodes.{kept_codes_meant}
+use Rattle.plantload.proofs.KeptSetups.{kept_codes_meant}
 use Rattle.plantload.proofs.laws.kept_runs_are_as_meant.Goals as goal
 
 pub returns : goal.returns

@@ -18,4 +18,4 @@ returns c =
     let p = c.args.plant.now in
     let heard = c.note_frame.ensures.follows p.plant p.history c.requires.follows c.requires.place in
     c.ready.ensures.value p.plant (Heard 1 c.args.frame ∷ p.history) heard
-    ∙ other_bus (activator p.plant 2) c.args.source c.args.frame p.history c.requires.bus c.requires.none
+    ∙ other_bus (activator p.plant 2) c.args.first c.args.source c.args.frame p.history c.requires.bus c.requires.none

@@ -1,4 +1,4 @@
-use Rattle.std.proofs.Common.{arith, ◌≡◌, ◌≤◌, ℕ, List, length, replicate, false, sym, subst, ap, ◌∙◌, rules}
+use Rattle.std.proofs.Common.{arith, ◌≡◌, ◌≤◌, ℕ, List, [], length, replicate, false, sym, subst, ap, ◌∙◌, rules}
 use Rattle.ilplan.specs.Plans.{Planned, IsLawful}
 use Rattle.limits.specs.Limits.{most_buses, most_tasks}
 use Rattle.taskset.specs.declared.setup.TaskSetup.{TaskSetup}
@@ -6,6 +6,7 @@ use Rattle.taskset.specs.TaskSets.{AreSetups}
 use Rattle.plantbuses.specs.KeptSteps.{AreFresh}
 use Rattle.plantbuses.specs.OutputSteps.{planned, OutputsFollow}
 use Rattle.plant.specs.IndexSteps.{InputsFollow}
+use Rattle.plant.specs.KeptSteps.{CountsFollow}
 use Rattle.plant.specs.Shown.{plant_of}
 use Rattle.plant.proofs.Starting.{first_owes, kept_says}
 use Rattle.plant.proofs.plant.Plant.fresh.Goals as goal
@@ -41,7 +42,8 @@ invariant_of-result c =
     let buses : c.buses-buses.result ≡ plan.buses = c.buses-buses.ensures.value ∙ ap (λ (p : Planned). p.buses)
     c.plan.ensures.value in
     let back : c.in_ok-bus_places.bus_places.items ≡ replicate plan.buses false = search rules in
-    let zeros : c.in_ok-counts.counts.items ≡ replicate (length plan.sources) 0 = search rules in
+    let counted = subst (λ (x : Planned). CountsFollow x.globals x.sources [] c.in_ok-counts.counts.items)
+    c.plan-3.ensures.value c.in_ok-counts.ensures in
     let untaken : c.in_ok-takes.takes.items ≡ replicate (length plan.tasks) 0 = search rules in
     let up : c.from-2.result ≡ plan.buses = c.from-2.ensures ∙ buses in
     let few : plan.buses ≤ most_buses = lawful.wiring.buses.last in
@@ -59,4 +61,4 @@ invariant_of-result c =
     (c.in_ok-setups.ensures.setups (plant_of setup c.args.workers) (sym c.plan-2.ensures.value))) in
     kept_says setup c.args.workers c.args.limit _ _ _ _ _ _ _ _ _ _ _ _ c.requires.workers c.requires.limit few
     c.new-2.ensures back
-    follows c.in_ok-image.ensures zeros untaken c.in_ok-scans.ensures fresh heard located owes up
+    follows c.in_ok-image.ensures counted untaken c.in_ok-scans.ensures fresh heard located owes up

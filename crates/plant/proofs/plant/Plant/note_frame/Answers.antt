@@ -57,9 +57,10 @@ invariant_of-self c =
     let room = subst (λ (p : Shown). is_full_for (Bus b) p ≡ false) (sym c.self.view_is)
     c.in_ok-allows_frame.ensures.room in
     let sources = c.sources.ensures.value ∙ ap (λ (x : Planned). x.sources) c.plan.ensures.value in
-    let counted : CountsFollow plant.plan.sources (Heard b f ∷ h) c.count_message.new.counts.items =
-    subst (λ (s : List BoundSource). CountsFollow s (Heard b f ∷ h) c.count_message.new.counts.items) sources
-    (c.count_message.ensures.follow h (subst (λ (s : List BoundSource). CountsFollow s h p.counts.items)
+    let globals = plant.plan.globals in
+    let counted : CountsFollow globals plant.plan.sources (Heard b f ∷ h) c.count_message.new.counts.items =
+    subst (λ (s : List BoundSource). CountsFollow globals s (Heard b f ∷ h) c.count_message.new.counts.items) sources
+    (c.count_message.ensures.follow globals h (subst (λ (s : List BoundSource). CountsFollow globals s h p.counts.items)
     (sym sources)
     says.each_source)) in
     let imaged = image_heard plant b f h c.count_message.new.counts.items p.image c.write_message.new.image

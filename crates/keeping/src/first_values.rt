@@ -1,0 +1,167 @@
+//! With which values the variables of a plan begin.
+
+ghost use Rattle.std.specs.Prelude.{◌≡◌, IfOk, unwrap_or};
+ghost use Rattle.ilplan.specs.Beginnings.{MayBegin, lists_of};
+ghost use Rattle.keeping.specs.KeptPlans.{fitting, global_first, global_firsts};
+ghost use Rattle.keeping.specs.KeptPlans.{is_trigger, kept_value, own_name, slot_first};
+ghost use Rattle.keeping.specs.KeptPlans.{slot_firsts, task_firsts};
+
+use crate::kept::Kept;
+use ilplan::{Global as GlobalVariable, Location, Plan, Slot, SlotOwner, Task};
+use ilsource::Name;
+use iltypes::{IlType, Value};
+use std::alloc::{AllocError, Global};
+
+/// With which values the variables of a plan begin.
+#[derive(Drop)]
+pub struct FirstValues {
+    /// One for each global variable.
+    pub globals: Vec<Value>,
+    /// For each task one for each of its slots.
+    pub slots: Vec<Vec<Value>>,
+}
+
+/// With which values the variables of a plan begin: each with the value that was kept under its
+/// name, where that is one of its type, else with its own first value. A trigger begins with its
+/// own.
+///
+/// # Errors
+///
+/// The allocator is out of memory.
+pub fn first_values_of(alloc: Global, plan: &Plan, kept: &Kept) -> Result<FirstValues, AllocError>
+    ensures globals { IfOk result (λ begun.
+        begun.globals.items ≡ global_firsts plan.now kept.now.values) }
+    ensures slots { IfOk result (λ begun.
+        lists_of (λ values. values.items) begun.slots.items
+        ≡ slot_firsts plan.now kept.now.values) }
+    // So the plan may begin with them.
+    ensures may_begin { IfOk result (λ begun. MayBegin plan.now begun.globals.items
+        (lists_of (λ values. values.items) begun.slots.items)) }
+{
+    let _lawful = plan.buses();
+    let globals = globals_first(alloc, plan, kept)?;
+    let slots = slots_first(alloc, plan, kept)?;
+    Ok(FirstValues { globals, slots })
+}
+
+/// What each global variable begins with.
+#[tactic(auto, using(crate::proofs::TakenLists::map_at))]
+fn globals_first(alloc: Global, plan: &Plan, kept: &Kept) -> Result<Vec<Value>, AllocError>
+    ensures { IfOk result (λ values. values.items ≡ global_firsts plan.now kept.now.values) }
+{
+    let mut values = Vec::new(alloc);
+    for global in 0..plan.globals() {
+        values.push(global_first(plan.text(), kept, plan.global(global)))?;
+    }
+    Ok(values)
+}
+
+/// What the slots of each task begin with.
+#[tactic(auto, using(crate::proofs::TakenLists::map_at))]
+fn slots_first(alloc: Global, plan: &Plan, kept: &Kept) -> Result<Vec<Vec<Value>>, AllocError>
+    ensures { IfOk result (λ slots. lists_of (λ values. values.items) slots.items
+        ≡ slot_firsts plan.now kept.now.values) }
+{
+    let mut slots = Vec::new(alloc);
+    for task in 0..plan.tasks() {
+        slots.push(task_first(alloc, plan, kept, plan.task(task))?)?;
+    }
+    Ok(slots)
+}
+
+/// What the slots of a task begin with.
+fn task_first(
+    alloc: Global,
+    plan: &Plan,
+    kept: &Kept,
+    task: &Task,
+) -> Result<Vec<Value>, AllocError>
+    ensures { IfOk result (λ values.
+        values.items ≡ task_firsts plan.now kept.now.values task.now) }
+{
+    let mut values = Vec::new(alloc);
+    for slot in task.slots() {
+        values.push(slot_first(alloc, plan, kept, *slot)?)?;
+    }
+    Ok(values)
+}
+
+/// What a slot begins with: that of a global variable as that does, that of a program instance's
+/// variable with its kept value, where it has one of its type.
+fn slot_first(alloc: Global, plan: &Plan, kept: &Kept, slot: Slot) -> Result<Value, AllocError>
+    ensures { IfOk result (λ value. value ≡ slot_first plan.now kept.now.values slot) }
+{
+    match slot.variable {
+        SlotOwner::Global(number) if number < plan.globals() => {
+            Ok(global_first(plan.text(), kept, plan.global(number)))
+        }
+        SlotOwner::Global(_) => Ok(slot.initial),
+        SlotOwner::Own { instance, name } => {
+            let name = own_name(alloc, plan.text(), instance, name)?;
+            Ok(kept_or(kept_value(kept, &name, slot.value_type), slot.initial))
+        }
+    }
+}
+
+/// What a global variable begins with: its kept value, where it has one of its type and is no
+/// trigger, else its own first one.
+fn global_first(text: &[u8], kept: &Kept, global: &GlobalVariable) -> Value
+    ensures { result ≡ global_first text.now kept.now.values global.now }
+{
+    if is_trigger(global.location) {
+        return global.initial;
+    }
+    let value = kept_value(kept, global.name.text(text), global.value_type);
+    kept_or(value, global.initial)
+}
+
+/// The kept value, else the first one.
+fn kept_or(kept: Option<Value>, initial: Value) -> Value
+    ensures { result ≡ unwrap_or kept initial }
+{
+    match kept {
+        Some(value) => value,
+        None => initial,
+    }
+}
+
+/// Whether a variable is located at the trigger of a source.
+pub(crate) fn is_trigger(location: Option<Location>) -> bool
+    ensures { result ≡ is_trigger location }
+{
+    matches!(location, Some(Location::Trigger { .. }))
+}
+
+/// The value that was kept under a name, where a variable of the type may have it.
+pub(crate) fn kept_value(kept: &Kept, name: &[u8], value_type: IlType) -> Option<Value>
+    ensures { result ≡ kept_value kept.now.values name.now value_type }
+{
+    fitting(value_type, kept.under(name))
+}
+
+/// The value, where a variable of the type may have it.
+fn fitting(value_type: IlType, value: Option<Value>) -> Option<Value>
+    ensures { result ≡ fitting value_type value }
+{
+    let value = value?;
+    if value_type.holds(value) {
+        Some(value)
+    } else {
+        None
+    }
+}
+
+/// The name of a program instance's variable, as it is kept: `light.seen`.
+pub(crate) fn own_name(
+    alloc: Global,
+    text: &[u8],
+    instance: Name,
+    name: Name,
+) -> Result<Vec<u8>, AllocError>
+    ensures { IfOk result (λ own. own.items ≡ own_name text.now instance name) }
+{
+    let mut own = Vec::from_slice(alloc, instance.text(text))?;
+    own.extend_from_slice(b".")?;
+    own.extend_from_slice(name.text(text))?;
+    Ok(own)
+}
