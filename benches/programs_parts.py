@@ -13,8 +13,8 @@ import time
 from typing import Any, Callable, Iterator, List, Optional
 
 HERE = pathlib.Path(__file__).resolve().parent.parent
-INTERFACES = HERE / 'examples/interfaces'
-PROGRAM = HERE / 'crates/dalictl/out/dalictl'
+INTERFACES = HERE / "examples/interfaces"
+PROGRAM = HERE / "crates/dalictl/out/dalictl"
 sys.path.insert(0, str(INTERFACES))
 sys.dont_write_bytecode = True
 
@@ -27,7 +27,7 @@ class Bench:
         self.wrong: List[str] = []
 
     def same(self, what: str, found: Any, wanted: Any) -> None:
-        self.hold(found == wanted, f'{what}: found {found!r}, wanted {wanted!r}')
+        self.hold(found == wanted, f"{what}: found {found!r}, wanted {wanted!r}")
 
     def hold(self, holds: bool, what: str) -> None:
         if not holds:
@@ -43,15 +43,13 @@ class Bench:
     def interface(self, link: pathlib.Path, *words: Any, **options: Any) -> subprocess.Popen[str]:
         """A program of examples/interfaces behind a pseudo terminal, once that is there."""
         link.unlink(missing_ok=True)
-        process = self.start(INTERFACES / words[0], '--pty', link, *words[1:], **options)
-        self.hold(wait_for(link.exists), f'{words[0]} makes no line')
+        process = self.start(INTERFACES / words[0], "--pty", link, *words[1:], **options)
+        self.hold(wait_for(link.exists), f"{words[0]} makes no line")
         return process
 
     def run(self, *words: Any, seconds: float = 60) -> subprocess.CompletedProcess[str]:
         """A process that ends by itself, with what it printed."""
-        return subprocess.run(
-            [str(word) for word in words], capture_output=True, text=True, timeout=seconds
-        )
+        return subprocess.run([str(word) for word in words], capture_output=True, text=True, timeout=seconds)
 
     def end(self, process: Optional[subprocess.Popen[str]] = None) -> None:
         """Ends a process that was started, or all of them."""
@@ -77,7 +75,7 @@ def wait_for(holds: Callable[[], Any], seconds: float = 10.0) -> bool:
 @contextlib.contextmanager
 def bench(seconds: int) -> Iterator[Bench]:
     """A bench that ends by itself after this time, and says `ok` or `otherwise` in its last line."""
-    signal.signal(signal.SIGALRM, lambda *_: sys.exit(f'otherwise: not done in {seconds} seconds'))
+    signal.signal(signal.SIGALRM, lambda *_: sys.exit(f"otherwise: not done in {seconds} seconds"))
     signal.alarm(seconds)
     with tempfile.TemporaryDirectory() as folder:
         it = Bench(pathlib.Path(folder))
@@ -85,7 +83,7 @@ def bench(seconds: int) -> Iterator[Bench]:
             yield it
         finally:
             it.end()
-    print('otherwise' if it.wrong else 'ok')
+    print("otherwise" if it.wrong else "ok")
     sys.exit(1 if it.wrong else 0)
 
 
@@ -94,5 +92,5 @@ def program_of(words: List[str]) -> Optional[pathlib.Path]:
     path = pathlib.Path(words[0]) if words else PROGRAM
     if os.access(path, os.X_OK):
         return path
-    print(f'{path} is not there: what needs the program is left out')
+    print(f"{path} is not there: what needs the program is left out")
     return None

@@ -1,5 +1,6 @@
 """What the help of a built program says, which is made from the tables of crates/commandline/src/tables.rt."""
-import re, subprocess
+import re
+import subprocess
 
 # The groups of commands in the help.
 GROUPS = ["At the desk:", "Trying:", "On a bus:", "By hand:"]
@@ -23,7 +24,7 @@ def rows_below(lines, title):
     if title not in lines:
         return []
     rows = []
-    for line in lines[lines.index(title) + 1:]:
+    for line in lines[lines.index(title) + 1 :]:
         if not line.startswith(" "):
             break
         rows.append(re.split(r" {2,}", line.strip(), maxsplit=1))

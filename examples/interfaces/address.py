@@ -35,7 +35,7 @@ from typing import List
 from controller import Controller, LineFailed
 from searching import ADDRESSES, MASK, QUERY_PRESENT, QUIET, YES, Gone, Refused, Search, Wire
 
-NOT_PROVED = 'address.py is not proved, and was tried on simulated gear alone: look at what it did'
+NOT_PROVED = "address.py is not proved, and was tried on simulated gear alone: look at what it did"
 BITS = 24
 
 
@@ -43,16 +43,16 @@ class Picture:
     """The short addresses in a line of the terminal. Where there is none, it draws nothing."""
 
     def __init__(self) -> None:
-        self.cells = ['.'] * ADDRESSES
+        self.cells = ["."] * ADDRESSES
         self.is_drawn = sys.stderr.isatty()
 
-    def draw(self, words: str = '') -> None:
+    def draw(self, words: str = "") -> None:
         if self.is_drawn:
-            print(f'\r{"".join(self.cells)} {words:14}', end='', file=sys.stderr, flush=True)
+            print(f'\r{"".join(self.cells)} {words:14}', end="", file=sys.stderr, flush=True)
 
     def watch(self, low: int, high: int) -> None:
         """How many bits of the random address are known by now."""
-        self.draw(f'{BITS - (high - low).bit_length():2} of {BITS} bits')
+        self.draw(f"{BITS - (high - low).bit_length():2} of {BITS} bits")
 
     def say(self, line: str) -> None:
         """A line for itself, above the picture."""
@@ -67,7 +67,7 @@ class Picture:
 
     def wipe(self) -> None:
         if self.is_drawn:
-            print(f'\r{" " * (ADDRESSES + 15)}\r', end='', file=sys.stderr, flush=True)
+            print(f'\r{" " * (ADDRESSES + 15)}\r', end="", file=sys.stderr, flush=True)
 
 
 class Commissioning:
@@ -80,21 +80,19 @@ class Commissioning:
         """Asks each short address whether gear is there."""
         for address in range(ADDRESSES):
             came = self.wire.query(address, QUERY_PRESENT)
-            self.picture.cells[address] = {QUIET: '.', YES: 'o'}.get(came, '?')
-            self.picture.draw('asking')
+            self.picture.cells[address] = {QUIET: ".", YES: "o"}.get(came, "?")
+            self.picture.draw("asking")
 
     def free(self, first: int = 0) -> List[int]:
-        return [
-            address for address in range(first, ADDRESSES) if self.picture.cells[address] == '.'
-        ]
+        return [address for address in range(first, ADDRESSES) if self.picture.cells[address] == "."]
 
     def list(self) -> bool:
         self.survey()
         self.picture.wipe()
-        print(''.join(self.picture.cells))
-        twice = [address for address, cell in enumerate(self.picture.cells) if cell == '?']
+        print("".join(self.picture.cells))
+        twice = [address for address, cell in enumerate(self.picture.cells) if cell == "?"]
         for address in twice:
-            print(f'more than one gear has short address {address}: take it away, and find')
+            print(f"more than one gear has short address {address}: take it away, and find")
         return not twice
 
     def find(self, first: int) -> bool:
@@ -104,29 +102,25 @@ class Commissioning:
     def find_free(self, free: List[int]) -> bool:
         """Gives these short addresses. Returns whether no gear is left without one."""
         if not free:
-            raise Refused('no short address is free')
+            raise Refused("no short address is free")
         is_done = Search(self.wire, free, self.picture.watch).rounds(self.given, self.equal)
         if not is_done:
-            self.picture.say('there is gear left without a short address')
+            self.picture.say("there is gear left without a short address")
         self.picture.wipe()
-        print(''.join(self.picture.cells))
+        print("".join(self.picture.cells))
         return is_done
 
     def given(self, short: int, random: int) -> None:
-        self.picture.cells[short] = '#'
-        self.picture.say(
-            f'short address {short} given to the gear with random address {random:06X}'
-        )
+        self.picture.cells[short] = "#"
+        self.picture.say(f"short address {short} given to the gear with random address {random:06X}")
 
     def equal(self, random: int) -> None:
-        self.picture.note(
-            f'several gear have random address {random:06X}: they wait for the next round'
-        )
+        self.picture.note(f"several gear have random address {random:06X}: they wait for the next round")
 
     def give(self, old: int, new: int) -> bool:
         self.need_one(old)
         if self.wire.is_there(new):
-            raise Refused(f'short address {new} is taken')
+            raise Refused(f"short address {new} is taken")
         self.move(old, new)
         return self.is_moved(new)
 
@@ -136,7 +130,7 @@ class Commissioning:
         Where none is free, one gear has no address meanwhile.
         """
         if one == other:
-            raise Refused('these are one short address')
+            raise Refused("these are one short address")
         self.need_one(one)
         self.need_one(other)
         self.survey()
@@ -147,54 +141,50 @@ class Commissioning:
             self.move(free[-1], other)
             return self.is_moved(one) and self.is_moved(other)
         if Search(self.wire, [], self.picture.watch).is_missing():
-            raise Refused('no short address is free, and other gear has none: find it one first')
+            raise Refused("no short address is free, and other gear has none: find it one first")
         self.wire.set_address(one, MASK)
         self.move(other, one)
         return self.find_free([other])
 
     def take(self, address: int) -> bool:
         if not self.wire.is_there(address):
-            raise Refused(f'no gear has short address {address}')
+            raise Refused(f"no gear has short address {address}")
         self.wire.set_address(address, MASK)
         is_gone = not self.wire.is_there(address)
-        print(
-            f'short address {address} taken away'
-            if is_gone
-            else f'gear {address} keeps its address'
-        )
+        print(f"short address {address} taken away" if is_gone else f"gear {address} keeps its address")
         return is_gone
 
     def need_one(self, address: int) -> None:
         if not self.wire.is_one(address):
-            raise Refused(f'there is not just one gear at short address {address}')
+            raise Refused(f"there is not just one gear at short address {address}")
 
     def move(self, old: int, new: int) -> None:
         self.wire.set_address(old, new << 1 | 1)
-        self.picture.note(f'gear {old} was sent the short address {new}')
+        self.picture.note(f"gear {old} was sent the short address {new}")
 
     def is_moved(self, new: int) -> bool:
         is_one = self.wire.is_one(new)
-        print(f'gear {new} answers' if is_one else f'gear {new} does not answer as one')
+        print(f"gear {new} answers" if is_one else f"gear {new} does not answer as one")
         return is_one
 
 
 def short_address(text: str) -> int:
     if not text.isdecimal() or int(text) >= ADDRESSES:
-        raise argparse.ArgumentTypeError('a short address is 0 to 63')
+        raise argparse.ArgumentTypeError("a short address is 0 to 63")
     return int(text)
 
 
 def read_words() -> argparse.Namespace:
     parser = argparse.ArgumentParser(usage=__doc__)
-    parser.add_argument('path')
-    parser.add_argument('--patience', type=float, default=60.0)
-    commands = parser.add_subparsers(dest='command', required=True)
-    commands.add_parser('list')
-    commands.add_parser('find').add_argument('--first', type=short_address, default=0)
+    parser.add_argument("path")
+    parser.add_argument("--patience", type=float, default=60.0)
+    commands = parser.add_subparsers(dest="command", required=True)
+    commands.add_parser("list")
+    commands.add_parser("find").add_argument("--first", type=short_address, default=0)
     for name, words in (
-        ('give', ('old', 'new')),
-        ('swap', ('one', 'other')),
-        ('take', ('address',)),
+        ("give", ("old", "new")),
+        ("swap", ("one", "other")),
+        ("take", ("address",)),
     ):
         command = commands.add_parser(name)
         for word in words:
@@ -204,25 +194,23 @@ def read_words() -> argparse.Namespace:
 
 def main() -> None:
     words = vars(read_words())
-    path, patience, command = words.pop('path'), words.pop('patience'), words.pop('command')
+    path, patience, command = words.pop("path"), words.pop("patience"), words.pop("command")
     print(NOT_PROVED, file=sys.stderr, flush=True)
     line, picture = Controller(path), Picture()
     try:
         line.open()
-        is_done = getattr(Commissioning(Wire(line, picture.note, patience), picture), command)(
-            **words
-        )
+        is_done = getattr(Commissioning(Wire(line, picture.note, patience), picture), command)(**words)
     except Refused as refusal:
-        picture.note(f'refused: {refusal}')
+        picture.note(f"refused: {refusal}")
         sys.exit(1)
     except (Gone, LineFailed) as failure:
-        picture.note(f'the line did not come back: {failure}')
+        picture.note(f"the line did not come back: {failure}")
         sys.exit(3)
     except KeyboardInterrupt:
-        picture.note('ended by hand: start it again, and it goes on with what has no address yet')
+        picture.note("ended by hand: start it again, and it goes on with what has no address yet")
         sys.exit(1)
     sys.exit(0 if is_done else 1)
 
 
-if __name__ == '__main__':
+if __name__ == "__main__":
     main()

@@ -35,7 +35,7 @@ from ends import FifoEnd, PtyEnd
 from gateway import Gateway, device_event, name_of
 from line import Fault, serve
 
-EVENT = re.compile(r'event ([0-9]{1,2}) ([0-9]{1,2}) ([0-9]{1,4})')
+EVENT = re.compile(r"event ([0-9]{1,2}) ([0-9]{1,2}) ([0-9]{1,4})")
 
 
 def say(line: str) -> None:
@@ -50,31 +50,29 @@ class Bridge(Gateway):
     """A bus whose levels are lines of standard output."""
 
     def __init__(self) -> None:
-        super().__init__(lambda address, level: say(f'level {name_of(address)} {level}'))
+        super().__init__(lambda address, level: say(f"level {name_of(address)} {level}"))
 
     def forget(self) -> None:
         super().forget()
-        say('hello')
+        say("hello")
 
     def read_events(self) -> None:
         """Puts each event of standard input, up to its end."""
         for number, line in enumerate(sys.stdin.buffer, 1):
-            event = EVENT.fullmatch(line.decode('ascii', 'replace').rstrip('\n'))
+            event = EVENT.fullmatch(line.decode("ascii", "replace").rstrip("\n"))
             try:
                 if not event:
-                    raise ValueError('it is no line event S I N')
+                    raise ValueError("it is no line event S I N")
                 self.events.add(device_event(*(int(word) for word in event.groups())))
             except ValueError as error:
-                print(
-                    f'bridge.py: line {number} does nothing: {error}', file=sys.stderr, flush=True
-                )
+                print(f"bridge.py: line {number} does nothing: {error}", file=sys.stderr, flush=True)
 
 
 def main() -> None:
     parser = argparse.ArgumentParser(usage=__doc__)
     end = parser.add_mutually_exclusive_group(required=True)
-    end.add_argument('--pty')
-    end.add_argument('--fifo', nargs=2)
+    end.add_argument("--pty")
+    end.add_argument("--fifo", nargs=2)
     args = parser.parse_args()
     bridge = Bridge()
     threading.Thread(target=bridge.read_events, daemon=True).start()
@@ -83,10 +81,8 @@ def main() -> None:
     except KeyboardInterrupt:
         pass  # ended by hand
     sys.stderr.flush()
-    os._exit(
-        0
-    )  # a thread may wait in a read of standard input, which an orderly end would wait for
+    os._exit(0)  # a thread may wait in a read of standard input, which an orderly end would wait for
 
 
-if __name__ == '__main__':
+if __name__ == "__main__":
     main()

@@ -20,12 +20,12 @@ from typing import Callable, List, Sequence, Tuple
 
 from ask import SILENT_SECONDS, Ended, Line, answer_to
 
-QUERY_GEAR = 'send 4 7F91'
-QUERY_GEAR_AGAIN = 'send 1 7F91'
-QUERY_DEVICE = 'send 4 7FFE30'
-REPLY = re.compile(r'quiet|damaged|lost|answer 0*([0-9]|[1-9][0-9]|1[0-9]{2}|2[0-4][0-9]|25[0-5])')
-MESSAGE = re.compile(r'none|event [0-9A-Fa-f]{6}')
-UNKNOWN = ('nonsense', 'send 6 7F91', 'send 4 7F9', 'hear 1', '')
+QUERY_GEAR = "send 4 7F91"
+QUERY_GEAR_AGAIN = "send 1 7F91"
+QUERY_DEVICE = "send 4 7FFE30"
+REPLY = re.compile(r"quiet|damaged|lost|answer 0*([0-9]|[1-9][0-9]|1[0-9]{2}|2[0-4][0-9]|25[0-5])")
+MESSAGE = re.compile(r"none|event [0-9A-Fa-f]{6}")
+UNKNOWN = ("nonsense", "send 6 7F91", "send 4 7F9", "hear 1", "")
 MOST_BYTES = 63
 
 ANSWER_SECONDS = 2.0
@@ -56,42 +56,42 @@ class Trial:
         """The line that comes after this was asked."""
         line = self.line.read(ANSWER_SECONDS)
         if line is None:
-            half = self.line.left.decode('ascii', 'backslashreplace')
-            what = f'half a line, {half!r}' if half else 'no answer'
-            raise Otherwise(f'{after!r}: {what} within {ANSWER_SECONDS:.0f} s')
+            half = self.line.left.decode("ascii", "backslashreplace")
+            what = f"half a line, {half!r}" if half else "no answer"
+            raise Otherwise(f"{after!r}: {what} within {ANSWER_SECONDS:.0f} s")
         self.seen.append(line)
         return line
 
-    def ask(self, request: str, wanted: 're.Pattern[str]') -> str:
+    def ask(self, request: str, wanted: "re.Pattern[str]") -> str:
         """The answer to a request, of this form."""
-        self.line.write(request + '\n')
+        self.line.write(request + "\n")
         line = self.read(request)
         if not wanted.fullmatch(line):
-            raise Otherwise(f'{request!r}: {line!r}')
+            raise Otherwise(f"{request!r}: {line!r}")
         return line
 
     def greet(self) -> None:
         """Comes in step again, whatever came before."""
         if self.line.greet(seconds=ANSWER_SECONDS) is None:
-            raise Otherwise('no answer to a greeting')
+            raise Otherwise("no answer to a greeting")
 
     def stay_silent(self, seconds: float, after: str) -> None:
         """Nobody says anything now."""
         line = self.line.read(seconds)
         if line is not None or self.line.left:
-            raise Otherwise(f'unasked, after {after!r}: {line or self.line.left!r}')
+            raise Otherwise(f"unasked, after {after!r}: {line or self.line.left!r}")
 
     # The duties.
 
     def answers_greeting(self) -> None:
         for number in (1, time.time_ns() // 1_000_000):
-            greeting = f'gushewa 2 {number}'
-            self.line.write(greeting + '\n')
+            greeting = f"gushewa 2 {number}"
+            self.line.write(greeting + "\n")
             line = self.read(greeting)
             if line == greeting:
-                raise Otherwise(f'{line!r} itself: switch the echo off')
+                raise Otherwise(f"{line!r} itself: switch the echo off")
             if line != answer_to(greeting):
-                raise Otherwise(f'{greeting!r}: {line!r}')
+                raise Otherwise(f"{greeting!r}: {line!r}")
 
     def greets_in_time(self) -> None:
         times = []
@@ -99,27 +99,27 @@ class Trial:
             begun = time.monotonic()
             self.greet()
             times.append(time.monotonic() - begun)
-        self.is_within(GREETING_SECONDS, min(times), 'a greeting')
+        self.is_within(GREETING_SECONDS, min(times), "a greeting")
 
     def forgets_half_a_request(self) -> None:
-        greeting = 'gushewa 2 7'
-        self.line.write(f'send 4 0A{greeting}\n')
-        line = self.read(f'send 4 0A{greeting}')
+        greeting = "gushewa 2 7"
+        self.line.write(f"send 4 0A{greeting}\n")
+        line = self.read(f"send 4 0A{greeting}")
         if line != answer_to(greeting):
             raise Otherwise(f"{'send 4 0A' + greeting!r}: {line!r}")
 
     def answers_in_order(self) -> None:
         """A greeting that comes while a request is under way is answered last."""
-        self.line.write('hear\ngushewa 2 8\n')
-        lines = [self.read('hear')]
+        self.line.write("hear\ngushewa 2 8\n")
+        lines = [self.read("hear")]
         if MESSAGE.fullmatch(lines[0]):
-            lines.append(self.read('gushewa 2 8'))
-        if lines[-1] != answer_to('gushewa 2 8'):
+            lines.append(self.read("gushewa 2 8"))
+        if lines[-1] != answer_to("gushewa 2 8"):
             raise Otherwise(f"'hear' and a greeting at once: {', '.join(map(repr, lines))}")
-        self.stay_silent(SILENT_SECONDS, 'a greeting')
+        self.stay_silent(SILENT_SECONDS, "a greeting")
 
     def hears(self) -> None:
-        self.ask('hear', MESSAGE)
+        self.ask("hear", MESSAGE)
 
     def sends_16(self) -> None:
         self.ask(QUERY_GEAR, REPLY)
@@ -129,38 +129,38 @@ class Trial:
 
     def hears_no_own_frame(self) -> None:
         self.ask(QUERY_DEVICE, REPLY)
-        if self.ask('hear', MESSAGE).upper().endswith(QUERY_DEVICE.split()[2]):
-            raise Otherwise('its own frame')
+        if self.ask("hear", MESSAGE).upper().endswith(QUERY_DEVICE.split()[2]):
+            raise Otherwise("its own frame")
 
     def refuses_unknown(self) -> None:
         for request in UNKNOWN:
-            self.line.write(request + '\n')
+            self.line.write(request + "\n")
             line = self.read(request)
-            if REPLY.fullmatch(line) or MESSAGE.fullmatch(line) or line.startswith('gushewa'):
-                raise Otherwise(f'{request!r}: {line!r}')
+            if REPLY.fullmatch(line) or MESSAGE.fullmatch(line) or line.startswith("gushewa"):
+                raise Otherwise(f"{request!r}: {line!r}")
 
     def says_nothing_unasked(self) -> None:
-        for request, form in (('hear', MESSAGE), (QUERY_GEAR, REPLY), ('hear', MESSAGE)):
+        for request, form in (("hear", MESSAGE), (QUERY_GEAR, REPLY), ("hear", MESSAGE)):
             self.ask(request, form)
             self.stay_silent(SILENT_SECONDS, request)
-        self.stay_silent(1.0, 'a second')
+        self.stay_silent(1.0, "a second")
 
     def sends_pairs_in_time(self) -> None:
         self.ask(QUERY_GEAR, REPLY)
         self.asks_within(PAIR_SECONDS, QUERY_GEAR_AGAIN, REPLY)
 
     def hears_in_time(self) -> None:
-        self.asks_within(HEAR_SECONDS, 'hear', MESSAGE)
+        self.asks_within(HEAR_SECONDS, "hear", MESSAGE)
 
-    def asks_within(self, wanted: float, request: str, form: 're.Pattern[str]') -> None:
+    def asks_within(self, wanted: float, request: str, form: "re.Pattern[str]") -> None:
         """The best of three exchanges, since the machine may have other work."""
         self.is_within(wanted, min(self.time_of(request, form) for _ in range(3)), repr(request))
 
     def is_within(self, wanted: float, took: float, what: str) -> None:
         if took > wanted:
-            raise Otherwise(f'{what} took {took * 1000:.0f} ms of {wanted * 1000:.0f}')
+            raise Otherwise(f"{what} took {took * 1000:.0f} ms of {wanted * 1000:.0f}")
 
-    def time_of(self, request: str, form: 're.Pattern[str]') -> float:
+    def time_of(self, request: str, form: "re.Pattern[str]") -> float:
         begun = time.monotonic()
         self.ask(request, form)
         return time.monotonic() - begun
@@ -170,56 +170,56 @@ class Trial:
         self.wait_for_presses()
         for _ in range(3):
             self.greet()
-            heard = self.ask('hear', MESSAGE)
-            if heard == 'none':
+            heard = self.ask("hear", MESSAGE)
+            if heard == "none":
                 return
-        raise Otherwise(f'{heard!r} behind a greeting')
+        raise Otherwise(f"{heard!r} behind a greeting")
 
     def keeps_events(self) -> None:
         if not self.press:
-            raise NotTried('not tried without --press')
+            raise NotTried("not tried without --press")
         self.wait_for_presses()
-        if self.ask('hear', MESSAGE) == 'none':
-            raise Otherwise('no event of the press')
+        if self.ask("hear", MESSAGE) == "none":
+            raise Otherwise("no event of the press")
 
     def wait_for_presses(self) -> None:
         if self.press:
-            print(f'  press a button within {self.press:.0f} s', file=sys.stderr, flush=True)
+            print(f"  press a button within {self.press:.0f} s", file=sys.stderr, flush=True)
             time.sleep(self.press)
 
     def is_opened_again(self) -> None:
-        self.line.write('send 4 0A')
+        self.line.write("send 4 0A")
         self.line.close()
         time.sleep(0.1)
         self.line = Line(self.path)
         self.greet()
-        self.stay_silent(SILENT_SECONDS, 'a greeting')
+        self.stay_silent(SILENT_SECONDS, "a greeting")
 
     def writes_plain_lines(self) -> None:
         for line in self.seen:
-            if '\r' in line:
-                raise Otherwise(f'a carriage return in {line!r}')
-            if '\\' in line or len(line) > MOST_BYTES:
-                raise Otherwise(f'a byte that is no ASCII, or too many: {line!r}')
+            if "\r" in line:
+                raise Otherwise(f"a carriage return in {line!r}")
+            if "\\" in line or len(line) > MOST_BYTES:
+                raise Otherwise(f"a byte that is no ASCII, or too many: {line!r}")
 
 
 DUTIES: Sequence[Tuple[str, Callable[[Trial], None]]] = (
-    ('answers a greeting with its number', Trial.answers_greeting),
-    ('answers a greeting within 500 ms', Trial.greets_in_time),
-    ('forgets half a request before it', Trial.forgets_half_a_request),
-    ('answers in order', Trial.answers_in_order),
-    ('hears', Trial.hears),
-    ('sends 16 bits', Trial.sends_16),
-    ('sends 24 bits', Trial.sends_24),
-    ('does not hear its own frames', Trial.hears_no_own_frame),
-    ('answers no unknown request', Trial.refuses_unknown),
-    ('says nothing unasked', Trial.says_nothing_unasked),
-    ('sends a pair within 100 ms', Trial.sends_pairs_in_time),
-    ('hears within 30 ms', Trial.hears_in_time),
-    ('forgets events at a greeting', Trial.forgets_events),
-    ('keeps events', Trial.keeps_events),
-    ('is opened again', Trial.is_opened_again),
-    ('writes plain lines', Trial.writes_plain_lines),
+    ("answers a greeting with its number", Trial.answers_greeting),
+    ("answers a greeting within 500 ms", Trial.greets_in_time),
+    ("forgets half a request before it", Trial.forgets_half_a_request),
+    ("answers in order", Trial.answers_in_order),
+    ("hears", Trial.hears),
+    ("sends 16 bits", Trial.sends_16),
+    ("sends 24 bits", Trial.sends_24),
+    ("does not hear its own frames", Trial.hears_no_own_frame),
+    ("answers no unknown request", Trial.refuses_unknown),
+    ("says nothing unasked", Trial.says_nothing_unasked),
+    ("sends a pair within 100 ms", Trial.sends_pairs_in_time),
+    ("hears within 30 ms", Trial.hears_in_time),
+    ("forgets events at a greeting", Trial.forgets_events),
+    ("keeps events", Trial.keeps_events),
+    ("is opened again", Trial.is_opened_again),
+    ("writes plain lines", Trial.writes_plain_lines),
 )
 
 
@@ -234,27 +234,27 @@ def try_duty(trial: Trial, number: int, duty: Callable[[Trial], None]) -> Tuple[
     except Otherwise as otherwise:
         return False, str(otherwise)
     except (Ended, OSError) as error:
-        return False, f'the line ended {error}'.rstrip()
-    return True, 'ok'
+        return False, f"the line ended {error}".rstrip()
+    return True, "ok"
 
 
 def main() -> None:
     words = argparse.ArgumentParser(usage=__doc__)
-    words.add_argument('path')
-    words.add_argument('--press', type=float, default=0.0)
+    words.add_argument("path")
+    words.add_argument("--press", type=float, default=0.0)
     given = words.parse_args()
     try:
         trial = Trial(given.path, given.press)
     except OSError as error:
-        print(f'cannot open {given.path}: {error.strerror}')
+        print(f"cannot open {given.path}: {error.strerror}")
         sys.exit(2)
     is_good = True
     for number, (name, duty) in enumerate(DUTIES):
         is_kept, came = try_duty(trial, number, duty)
         is_good = is_good and is_kept
-        print(f'{name:36}{came}', flush=True)
+        print(f"{name:36}{came}", flush=True)
     sys.exit(0 if is_good else 1)
 
 
-if __name__ == '__main__':
+if __name__ == "__main__":
     main()

@@ -61,9 +61,7 @@ class Calendar:
         if self.sun:
             rise, down = self.sun.minutes(now.date())
             values[DAYLIGHT] = int(rise <= minute < down)
-        values.update(
-            {FIRST_ROW + row: int(is_on) for row, is_on in self.table.states(now).items()}
-        )
+        values.update({FIRST_ROW + row: int(is_on) for row, is_on in self.table.states(now).items()})
         values[QUARTER] = minute // 15
         return values
 
@@ -89,9 +87,7 @@ class Calendar:
 class ClockBus:
     """A bus on which nothing is but the clock."""
 
-    def __init__(
-        self, calendar: Calendar, address: int, now: Callable[[], float] = time.time
-    ) -> None:
+    def __init__(self, calendar: Calendar, address: int, now: Callable[[], float] = time.time) -> None:
         self.calendar, self.address, self.now = calendar, address, now
         self.events, self.said = Events(), dict[int, int]()
         self.looked: Optional[int] = None
@@ -120,30 +116,28 @@ class ClockBus:
         return QUIET
 
 
-def scenario(
-    calendar: Calendar, day: datetime.date, bus: int, address: int, only: List[int]
-) -> Iterator[str]:
+def scenario(calendar: Calendar, day: datetime.date, bus: int, address: int, only: List[int]) -> Iterator[str]:
     """The events of a day as lines of a scenario, with moments in milliseconds since midnight."""
     last = None
     for second, instance, information in calendar.changes(day):
         if only and instance not in only:
             continue
         if second != last:
-            yield f'tick {second * 1000}'
+            yield f"tick {second * 1000}"
         last = second
-        yield f'event {bus} {device_event(address, instance, information):06X}'
+        yield f"event {bus} {device_event(address, instance, information):06X}"
 
 
 def read_calendar(args: argparse.Namespace) -> Calendar:
     zone = zoneinfo.ZoneInfo(args.zone) if args.zone else None
     sun = None
     if args.place:
-        latitude, _, longitude = args.place.partition(',')
-        sun = Sun(float(latitude), float(longitude or 'none'), zone)
+        latitude, _, longitude = args.place.partition(",")
+        sun = Sun(float(latitude), float(longitude or "none"), zone)
         sun.minutes(datetime.date.today())  # says at once where astral is missing
     lines = []
     if args.table:
-        with open(args.table, encoding='utf-8') as file:
+        with open(args.table, encoding="utf-8") as file:
             lines = file.read().splitlines()
     return Calendar(zone, sun, read_table(lines, sun))
 
@@ -151,32 +145,28 @@ def read_calendar(args: argparse.Namespace) -> Calendar:
 def main() -> None:
     parser = argparse.ArgumentParser(usage=__doc__)
     end = parser.add_mutually_exclusive_group(required=True)
-    end.add_argument('--pty')
-    end.add_argument('--fifo', nargs=2)
-    end.add_argument('--day', type=datetime.date.fromisoformat)
-    parser.add_argument('--place')
-    parser.add_argument('--zone')
-    parser.add_argument('--table')
-    parser.add_argument('--device', type=int, default=63, choices=range(64), metavar='N')
-    parser.add_argument('--bus', type=int, default=1, choices=range(64), metavar='B')
-    parser.add_argument(
-        '--only', type=lambda text: [int(word) for word in text.split(',')], default=[]
-    )
+    end.add_argument("--pty")
+    end.add_argument("--fifo", nargs=2)
+    end.add_argument("--day", type=datetime.date.fromisoformat)
+    parser.add_argument("--place")
+    parser.add_argument("--zone")
+    parser.add_argument("--table")
+    parser.add_argument("--device", type=int, default=63, choices=range(64), metavar="N")
+    parser.add_argument("--bus", type=int, default=1, choices=range(64), metavar="B")
+    parser.add_argument("--only", type=lambda text: [int(word) for word in text.split(",")], default=[])
     args = parser.parse_args()
     try:
         calendar = read_calendar(args)
     except (BadLine, OSError, ValueError, ImportError, zoneinfo.ZoneInfoNotFoundError) as error:
-        sys.exit(f'clock.py: {error}')
+        sys.exit(f"clock.py: {error}")
     if args.day:
-        print('\n'.join(scenario(calendar, args.day, args.bus, args.device, args.only)))
+        print("\n".join(scenario(calendar, args.day, args.bus, args.device, args.only)))
         return
     try:
-        serve(
-            ClockBus(calendar, args.device), PtyEnd(args.pty) if args.pty else FifoEnd(*args.fifo)
-        )
+        serve(ClockBus(calendar, args.device), PtyEnd(args.pty) if args.pty else FifoEnd(*args.fifo))
     except KeyboardInterrupt:
         pass  # ended by hand
 
 
-if __name__ == '__main__':
+if __name__ == "__main__":
     main()

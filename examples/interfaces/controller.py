@@ -15,8 +15,8 @@ from typing import Optional
 
 from ask import Ended, Line
 
-BACKWARD = re.compile(r'quiet|damaged|lost|answer ([0-9]|[1-9][0-9]|1[0-9]{2}|2[0-4][0-9]|25[0-5])')
-EVENT = re.compile(r'event ([0-9A-Fa-f]{6})')
+BACKWARD = re.compile(r"quiet|damaged|lost|answer ([0-9]|[1-9][0-9]|1[0-9]{2}|2[0-4][0-9]|25[0-5])")
+EVENT = re.compile(r"event ([0-9A-Fa-f]{6})")
 
 
 class LineFailed(Exception):
@@ -37,11 +37,11 @@ class Controller:
             self.line = Line(self.path)
             greeted = self.line.greet(seconds=self.seconds)
         except OSError as error:
-            raise LineFailed(f'cannot open {self.path}: {error.strerror}') from None
+            raise LineFailed(f"cannot open {self.path}: {error.strerror}") from None
         except Ended:
-            raise LineFailed('the line ended') from None
+            raise LineFailed("the line ended") from None
         if greeted is None:
-            raise LineFailed(f'nobody greets on {self.path}')
+            raise LineFailed(f"nobody greets on {self.path}")
 
     def close(self) -> None:
         if self.line:
@@ -51,26 +51,26 @@ class Controller:
     def ask(self, request: str) -> str:
         """The line that answers a request."""
         if not self.line:
-            raise LineFailed(f'{self.path} is not open')
+            raise LineFailed(f"{self.path} is not open")
         try:
             came = self.line.ask(request, self.seconds)
         except (OSError, Ended):
-            raise LineFailed('the line ended') from None
+            raise LineFailed("the line ended") from None
         if came is None:
-            raise LineFailed(f'silent for {self.seconds:g} seconds')
+            raise LineFailed(f"silent for {self.seconds:g} seconds")
         return came
 
     def send(self, frame: int, bits: int = 16, priority: int = 3) -> str:
         """Sends a frame. Returns what came of it."""
-        came = self.ask(f'send {priority} {frame:0{bits // 4}X}')
+        came = self.ask(f"send {priority} {frame:0{bits // 4}X}")
         if not BACKWARD.fullmatch(came):
-            raise LineFailed(f'the interface says {came!r}')
+            raise LineFailed(f"the interface says {came!r}")
         return came
 
     def hear(self) -> Optional[int]:
         """The oldest event that waits, or None."""
-        came = self.ask('hear')
+        came = self.ask("hear")
         event = EVENT.fullmatch(came)
-        if not event and came != 'none':
-            raise LineFailed(f'the interface says {came!r}')
+        if not event and came != "none":
+            raise LineFailed(f"the interface says {came!r}")
         return int(event[1], 16) if event else None

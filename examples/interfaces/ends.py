@@ -18,7 +18,7 @@ class End(abc.ABC):
     """An interface's end of a line, which takes requests and gives answers."""
 
     def __init__(self) -> None:
-        self.left = b''
+        self.left = b""
         # Whether what the controller left unread is dropped. One of version 1 would take it for the
         # answer to its greeting; one of version 2 passes over it.
         self.drops_unread = True
@@ -41,18 +41,16 @@ class End(abc.ABC):
 
     def next_line(self) -> Optional[str]:
         """The next line without its line feed, or None where there is none."""
-        while b'\n' not in self.left:
+        while b"\n" not in self.left:
             more = self.read()
             if not more:
                 return None
-            self.left = (
-                self.left[-MOST_BYTES:] + more
-            )  # a greeting may stand behind no end of noise
-        line, self.left = self.left.split(b'\n', 1)
-        return line.decode('ascii', 'replace')
+            self.left = self.left[-MOST_BYTES:] + more  # a greeting may stand behind no end of noise
+        line, self.left = self.left.split(b"\n", 1)
+        return line.decode("ascii", "replace")
 
     def say(self, line: str) -> None:
-        self.write(line.encode('ascii') + b'\n')
+        self.write(line.encode("ascii") + b"\n")
 
 
 class PtyEnd(End):
@@ -64,7 +62,7 @@ class PtyEnd(End):
         self.plug()
 
     def plug(self) -> None:
-        self.left = b''
+        self.left = b""
         self.ours, self.theirs = pty.openpty()
         tty.setraw(self.theirs)  # no echo, no translation; kept open, so that it stays so
         if os.path.islink(self.link):
@@ -105,9 +103,9 @@ class FifoEnd(End):
     def plug(self) -> None:
         """Waits for a controller, which opens its source first, and then its sink."""
         self.drop_unread()
-        self.out: IO[bytes] = open(self.source, 'wb', buffering=0)
-        self.into: IO[bytes] = open(self.sink, 'rb', buffering=0)
-        self.left = b''
+        self.out: IO[bytes] = open(self.source, "wb", buffering=0)
+        self.into: IO[bytes] = open(self.sink, "rb", buffering=0)
+        self.left = b""
 
     def drop_unread(self) -> None:
         """Reads away what was for a controller that has ended, and may not be gone yet."""

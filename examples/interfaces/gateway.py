@@ -30,11 +30,11 @@ def device_event(address: int, instance: int, information: int) -> int:
     The binding has it as `source B.K device-instance ADDRESS INSTANCE`. Raises ValueError.
     """
     if not 0 <= address <= GREATEST_ADDRESS:
-        raise ValueError(f'{address} is no short address')
+        raise ValueError(f"{address} is no short address")
     if not 0 <= instance <= GREATEST_INSTANCE:
-        raise ValueError(f'{instance} is no instance number')
+        raise ValueError(f"{instance} is no instance number")
     if not 0 <= information <= GREATEST_INFORMATION:
-        raise ValueError(f'{information} is no information of an event')
+        raise ValueError(f"{information} is no information of an event")
     return address << 17 | 1 << 15 | instance << 10 | information
 
 
@@ -51,7 +51,7 @@ def name_of(address: int) -> str:
     """The address in words: 5, group 3, or all."""
     if address < FIRST_GROUP:
         return str(address)
-    return 'all' if address == ALL else f'group {address - FIRST_GROUP}'
+    return "all" if address == ALL else f"group {address - FIRST_GROUP}"
 
 
 class Gateway:

@@ -27,12 +27,12 @@ ADD_TO_GROUP, REMOVE_FROM_GROUP = 0x60, 0x70
 SET_DTR = (0xA3, 0xC3, 0xC5)
 # Which variable a command sets from DTR0.
 SETTINGS = {
-    0x2A: 'max_level',
-    0x2B: 'min_level',
-    0x2C: 'system_failure_level',
-    0x2D: 'power_on_level',
-    0x2E: 'fade_time',
-    0x2F: 'fade_rate',
+    0x2A: "max_level",
+    0x2B: "min_level",
+    0x2C: "system_failure_level",
+    0x2D: "power_on_level",
+    0x2E: "fade_time",
+    0x2F: "fade_rate",
 }
 LAMP_ON, FADE_RUNNING, MISSING_SHORT_ADDRESS = 0x04, 0x10, 0x40
 PAIR_SECONDS = 0.1
@@ -41,9 +41,7 @@ PAIR_SECONDS = 0.1
 class Gear:
     """One control gear."""
 
-    def __init__(
-        self, short: Optional[int], types: Sequence[int], chance: Callable[[], int]
-    ) -> None:
+    def __init__(self, short: Optional[int], types: Sequence[int], chance: Callable[[], int]) -> None:
         self.addresses, self.types = Addresses(short, chance), types
         self.dtr = [0, 0, 0]
         self.types_given = 0

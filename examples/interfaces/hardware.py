@@ -67,10 +67,10 @@ class HardwareBus:
             raise Fault from error
         if isinstance(came, int):
             return answer(came)
-        return {None: QUIET, 'damaged': DAMAGED, 'collision': LOST}[came]
+        return {None: QUIET, "damaged": DAMAGED, "collision": LOST}[came]
 
 
-if __name__ == '__main__':
+if __name__ == "__main__":
     if len(sys.argv) != 2:
         sys.exit(__doc__)
     serve(HardwareBus(Adapter), PtyEnd(sys.argv[1]))

@@ -19,10 +19,10 @@ from typing import Callable, Optional, Protocol
 
 from ends import End
 
-FIRST_GREETING = 'gushewa 1'
-GREETING = re.compile(r'gushewa 2 ([0-9]{1,20})\Z')
-SEND = re.compile(r'send ([1-5]) ([0-9A-F]{4}|[0-9A-F]{6})')
-QUIET, DAMAGED, LOST, FAULT = 'quiet', 'damaged', 'lost', 'fault'
+FIRST_GREETING = "gushewa 1"
+GREETING = re.compile(r"gushewa 2 ([0-9]{1,20})\Z")
+SEND = re.compile(r"send ([1-5]) ([0-9A-F]{4}|[0-9A-F]{6})")
+QUIET, DAMAGED, LOST, FAULT = "quiet", "damaged", "lost", "fault"
 
 EVENTS_KEPT = 256
 
@@ -73,7 +73,7 @@ class Events:
 
 def answer(byte: int) -> str:
     """What `send` returns where a backward frame of this byte came."""
-    return f'answer {byte}'
+    return f"answer {byte}"
 
 
 def first_answer_to_greeting(request: str) -> Optional[str]:
@@ -88,12 +88,10 @@ def answer_to_greeting(request: str) -> Optional[str]:
     its number an answer belongs to this greeting, and not to an earlier one. An echo is no answer.
     """
     greeting = GREETING.search(request)
-    return f'gushewa 2 hears {greeting[1]}' if greeting else first_answer_to_greeting(request)
+    return f"gushewa 2 hears {greeting[1]}" if greeting else first_answer_to_greeting(request)
 
 
-def answer_to(
-    bus: Bus, request: str, to_greeting: Callable[[str], Optional[str]] = answer_to_greeting
-) -> str:
+def answer_to(bus: Bus, request: str, to_greeting: Callable[[str], Optional[str]] = answer_to_greeting) -> str:
     """The one line that answers a request."""
     try:
         greeted = to_greeting(request)
@@ -103,9 +101,9 @@ def answer_to(
         send = SEND.fullmatch(request)
         if send:
             return bus.send(4 * len(send[2]), int(send[2], 16), int(send[1]))
-        if request == 'hear':
+        if request == "hear":
             frame = bus.take()
-            return 'none' if frame is None else f'event {frame:06X}'
+            return "none" if frame is None else f"event {frame:06X}"
     except Fault:
         pass
     return FAULT
@@ -133,7 +131,7 @@ class Interface:
     def serve(self) -> None:
         """Answers each request, until the line ends."""
         while (request := self.end.next_line()) is not None:
-            self.note('<', request)
+            self.note("<", request)
             self.meet(request)
 
     def meet(self, request: str) -> None:
@@ -147,7 +145,7 @@ class Interface:
         return answer_to(self.bus, request, self.to_greeting)
 
     def say(self, line: str) -> None:
-        self.note('>', line)
+        self.note(">", line)
         self.end.say(line)
 
 

@@ -39,7 +39,7 @@ import sys
 import threading
 from typing import Any, Dict, List, Tuple
 
-import paho.mqtt.client as paho  # type: ignore[import]
+import paho.mqtt.client as paho
 
 from ends import FifoEnd, PtyEnd
 from gateway import Gateway, device_event, name_of
@@ -48,32 +48,32 @@ from line import serve
 WISH, ON_AT_ANY_LEVEL, SHORT_PRESS = 31, 255, 2
 MOST_BYTES = 256  # of a message that comes in
 KEEP_ALIVE, LONGEST_PAUSE = 30, 30  # seconds
-LAMP = re.compile(r'([0-9]{1,2})=(.+)')
-BUTTON = re.compile(r'([0-9]{1,2})\.([0-9]{1,2})=(.+)')
+LAMP = re.compile(r"([0-9]{1,2})=(.+)")
+BUTTON = re.compile(r"([0-9]{1,2})\.([0-9]{1,2})=(.+)")
 
 
 def state_message(level: int) -> str:
     """What is said of a lamp at a level."""
     if not level:
-        return json.dumps({'state': 'OFF'})
-    return json.dumps({'state': 'ON', 'brightness': level, 'color_mode': 'brightness'})
+        return json.dumps({"state": "OFF"})
+    return json.dumps({"state": "ON", "brightness": level, "color_mode": "brightness"})
 
 
 def wish_of(text: str) -> int:
     """The information of a wish: a level, or 255 for 'on' without one. Raises ValueError."""
-    if text in ('ON', 'OFF'):
-        return ON_AT_ANY_LEVEL if text == 'ON' else 0
+    if text in ("ON", "OFF"):
+        return ON_AT_ANY_LEVEL if text == "ON" else 0
     wish = json.loads(text)
     if isinstance(wish, dict):
-        if wish.get('state') == 'OFF':
+        if wish.get("state") == "OFF":
             return 0
-        if wish.get('state') != 'ON':
-            raise ValueError('state is ON or OFF')
-        if 'brightness' not in wish:
+        if wish.get("state") != "ON":
+            raise ValueError("state is ON or OFF")
+        if "brightness" not in wish:
             return ON_AT_ANY_LEVEL
-        wish = wish['brightness']
+        wish = wish["brightness"]
     if type(wish) is not int or not 0 <= wish < ON_AT_ANY_LEVEL:
-        raise ValueError('a level is 0 to 254')
+        raise ValueError("a level is 0 to 254")
     return wish
 
 
@@ -83,41 +83,41 @@ class Announced:
     def __init__(self, base: str, prefix: str, lamps: List[str], buttons: List[str]) -> None:
         self.base, self.prefix, self.messages = base, prefix, dict[str, str]()
         for text in lamps:
-            address, name = parts(LAMP, text, 'A=NAME')
+            address, name = parts(LAMP, text, "A=NAME")
             device_event(int(address), WISH, 0)  # raises where it is no address
-            self.announce('light', f'lamp_{int(address)}', name, self.lamp(int(address)))
+            self.announce("light", f"lamp_{int(address)}", name, self.lamp(int(address)))
         for text in buttons:
-            device, instance, name = parts(BUTTON, text, 'S.I=NAME')
+            device, instance, name = parts(BUTTON, text, "S.I=NAME")
             device_event(int(device), int(instance), 0)
-            topic = f'{base}/event/{int(device)}/{int(instance)}'
-            press = {'command_topic': topic, 'payload_press': str(SHORT_PRESS)}
-            self.announce('button', f'button_{int(device)}_{int(instance)}', name, press)
+            topic = f"{base}/event/{int(device)}/{int(instance)}"
+            press = {"command_topic": topic, "payload_press": str(SHORT_PRESS)}
+            self.announce("button", f"button_{int(device)}_{int(instance)}", name, press)
 
     def lamp(self, address: int) -> Dict[str, Any]:
         return {
-            'schema': 'json',
-            'command_topic': f'{self.base}/lamp/{address}/set',
-            'state_topic': f'{self.base}/lamp/{address}',
-            'brightness': True,
-            'brightness_scale': 254,
-            'supported_color_modes': ['brightness'],
+            "schema": "json",
+            "command_topic": f"{self.base}/lamp/{address}/set",
+            "state_topic": f"{self.base}/lamp/{address}",
+            "brightness": True,
+            "brightness_scale": 254,
+            "supported_color_modes": ["brightness"],
         }
 
     def announce(self, kind: str, thing: str, name: str, config: Dict[str, Any]) -> None:
-        house = re.sub(r'\W', '_', self.base)
+        house = re.sub(r"\W", "_", self.base)
         config.update(
             name=name,
-            unique_id=f'{house}_{thing}',
-            availability_topic=f'{self.base}/available',
-            device={'identifiers': [house], 'name': self.base, 'manufacturer': 'Gushewa'},
+            unique_id=f"{house}_{thing}",
+            availability_topic=f"{self.base}/available",
+            device={"identifiers": [house], "name": self.base, "manufacturer": "Gushewa"},
         )
-        self.messages[f'{self.prefix}/{kind}/{house}_{thing}/config'] = json.dumps(config)
+        self.messages[f"{self.prefix}/{kind}/{house}_{thing}/config"] = json.dumps(config)
 
 
 def parts(form: re.Pattern[str], text: str, shown: str) -> Tuple[str, ...]:
     found = form.fullmatch(text)
     if not found:
-        raise ValueError(f'{text} is not {shown}')
+        raise ValueError(f"{text} is not {shown}")
     return found.groups()
 
 
@@ -128,7 +128,7 @@ class Broker(Gateway):
         super().__init__(lambda address, level: self.publish_level(address))
         self.client, self.base, self.announced = client, base, announced
         self.publishing = threading.Lock()
-        client.will_set(f'{base}/available', 'offline', retain=True)
+        client.will_set(f"{base}/available", "offline", retain=True)
         client.on_connect, client.on_disconnect, client.on_message = self.came, self.went, self.hear
 
     def publish_level(self, address: int) -> None:
@@ -144,43 +144,43 @@ class Broker(Gateway):
         """The broker is there. It may have forgotten what was said before, so all is said anew."""
         if rest[2]:
             print(
-                f'mqtt.py: the broker refuses: {paho.connack_string(rest[2])}',
+                f"mqtt.py: the broker refuses: {paho.connack_string(rest[2])}",
                 file=sys.stderr,
                 flush=True,
             )
             return
-        print('mqtt.py: the broker is there', file=sys.stderr, flush=True)
-        client.subscribe([(f'{self.base}/lamp/+/set', 0), (f'{self.base}/event/+/+', 0)])
+        print("mqtt.py: the broker is there", file=sys.stderr, flush=True)
+        client.subscribe([(f"{self.base}/lamp/+/set", 0), (f"{self.base}/event/+/+", 0)])
         for topic, message in self.announced.messages.items():
             client.publish(topic, message, retain=True)
         for address in self.known():
             self.publish_level(address)
-        client.publish(f'{self.base}/available', 'online', retain=True)
+        client.publish(f"{self.base}/available", "online", retain=True)
 
     def went(self, *rest: Any) -> None:
-        print('mqtt.py: the broker is away', file=sys.stderr, flush=True)
+        print("mqtt.py: the broker is away", file=sys.stderr, flush=True)
 
     def hear(self, client: paho.Client, data: Any, message: paho.MQTTMessage) -> None:
         """A message is an event, if it is not an old one that the broker kept."""
         if message.retain:
             return
-        words = message.topic[len(self.base) + 1 :].split('/')
+        words = message.topic[len(self.base) + 1 :].split("/")
         try:
             if len(message.payload) > MOST_BYTES:
-                raise ValueError('it is too long')
-            text = message.payload.decode('ascii')
-            if words[0] == 'lamp':
+                raise ValueError("it is too long")
+            text = message.payload.decode("ascii")
+            if words[0] == "lamp":
                 frame = device_event(int(words[1]), WISH, wish_of(text))
             else:
                 frame = device_event(int(words[1]), int(words[2]), int(text))
         except ValueError as error:
-            print(f'mqtt.py: {message.topic} does nothing: {error}', file=sys.stderr, flush=True)
+            print(f"mqtt.py: {message.topic} does nothing: {error}", file=sys.stderr, flush=True)
             return
         self.events.add(frame)
 
 
 def new_client() -> paho.Client:
-    if hasattr(paho, 'CallbackAPIVersion'):  # paho 2 wants to know which callbacks it calls
+    if hasattr(paho, "CallbackAPIVersion"):  # paho 2 wants to know which callbacks it calls
         return paho.Client(paho.CallbackAPIVersion.VERSION1)
     return paho.Client()
 
@@ -188,35 +188,29 @@ def new_client() -> paho.Client:
 def main() -> None:
     parser = argparse.ArgumentParser(usage=__doc__)
     end = parser.add_mutually_exclusive_group(required=True)
-    end.add_argument('--pty')
-    end.add_argument('--fifo', nargs=2)
-    parser.add_argument('--broker', default='localhost:1883')
-    parser.add_argument('--user')
-    parser.add_argument('--password-file')
-    parser.add_argument('--tls')
-    parser.add_argument('--base', default='gushewa/house')
-    parser.add_argument('--discovery', default='homeassistant')
-    parser.add_argument('--lamp', action='append', default=[])
-    parser.add_argument('--button', action='append', default=[])
+    end.add_argument("--pty")
+    end.add_argument("--fifo", nargs=2)
+    parser.add_argument("--broker", default="localhost:1883")
+    parser.add_argument("--user")
+    parser.add_argument("--password-file")
+    parser.add_argument("--tls")
+    parser.add_argument("--base", default="gushewa/house")
+    parser.add_argument("--discovery", default="homeassistant")
+    parser.add_argument("--lamp", action="append", default=[])
+    parser.add_argument("--button", action="append", default=[])
     args = parser.parse_args()
-    host, _, port = args.broker.partition(':')
+    host, _, port = args.broker.partition(":")
     client = new_client()
     try:
-        bus = Broker(
-            client, args.base, Announced(args.base, args.discovery, args.lamp, args.button)
-        )
+        bus = Broker(client, args.base, Announced(args.base, args.discovery, args.lamp, args.button))
         if args.user:
-            password = (
-                open(args.password_file, encoding='utf-8').read().strip()
-                if args.password_file
-                else None
-            )
+            password = open(args.password_file, encoding="utf-8").read().strip() if args.password_file else None
             client.username_pw_set(args.user, password)
         if args.tls:
             client.tls_set(args.tls)
         client.connect_async(host, int(port or 1883), KEEP_ALIVE)
     except (OSError, ValueError) as error:
-        sys.exit(f'mqtt.py: {error}')
+        sys.exit(f"mqtt.py: {error}")
     client.reconnect_delay_set(1, LONGEST_PAUSE)
     client.loop_start()
     try:
@@ -225,5 +219,5 @@ def main() -> None:
         pass  # ended by hand
 
 
-if __name__ == '__main__':
+if __name__ == "__main__":
     main()

@@ -18,7 +18,7 @@ SEARCH = (0xB1, 0xB3, 0xB5)
 SET_SHORT_ADDRESS, QUERY_PRESENT, QUERY_MISSING_SHORT_ADDRESS = 0x80, 0x91, 0x96
 WITHOUT_ADDRESS = MASK = 0xFF
 ALL_GEAR = 0xFF
-YES, QUIET, LOST, DAMAGED = 'answer 255', 'quiet', 'lost', 'damaged'
+YES, QUIET, LOST, DAMAGED = "answer 255", "quiet", "lost", "damaged"
 
 GREATEST_RANDOM = 0xFFFFFF
 ADDRESSES = 64
@@ -57,7 +57,7 @@ class Wire:
                 return came
             lost += 1
         self.is_gone = True
-        raise Gone(f'each frame was lost in {ATTEMPTS} attempts')
+        raise Gone(f"each frame was lost in {ATTEMPTS} attempts")
 
     def attempt(self, frames: Sequence[int]) -> str:
         came = LOST
@@ -69,7 +69,7 @@ class Wire:
 
     def come_back(self, failure: str) -> None:
         """Opens the line anew, for as long as the patience lasts."""
-        self.note(f'the line failed ({failure}): waiting for it')
+        self.note(f"the line failed ({failure}): waiting for it")
         self.line.close()
         end = time.monotonic() + self.patience
         while True:
@@ -81,7 +81,7 @@ class Wire:
                     self.is_gone = True
                     raise Gone(str(again)) from None
                 time.sleep(PAUSE_SECONDS)
-        self.note('the line is back: going on')
+        self.note("the line is back: going on")
 
     def special(self, command: int, data: int = 0) -> str:
         return self.transaction(command << 8 | data)

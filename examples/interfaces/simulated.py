@@ -59,7 +59,7 @@ class Button:
     """An event message that comes again and again."""
 
     def __init__(self, text: str) -> None:
-        event, seconds = text.split(':')
+        event, seconds = text.split(":")
         self.event, self.seconds = int(event, 16), float(seconds)
         self.next = time.monotonic() + self.seconds
 
@@ -112,18 +112,16 @@ class SimulatedBus:
 
 
 def numbers(text: str) -> List[int]:
-    return [int(word) for word in text.split(',') if word]
+    return [int(word) for word in text.split(",") if word]
 
 
 def of_gear(words: Sequence[str], address: int) -> List[List[str]]:
     """What stands behind ADDRESS: in the words that speak of this gear."""
-    return [rest for first, *rest in (word.split(':') for word in words) if int(first) == address]
+    return [rest for first, *rest in (word.split(":") for word in words) if int(first) == address]
 
 
 def gear_of(given: argparse.Namespace) -> List[Gear]:
-    chance = random_addresses(
-        [int(word, 16) for word in given.random.split(',') if word], given.seed
-    )
+    chance = random_addresses([int(word, 16) for word in given.random.split(",") if word], given.seed)
     made: List[Gear] = []
     for address in numbers(given.gear):
         types = of_gear(given.type, address)
@@ -141,30 +139,30 @@ def noting(log: Optional[TextIO]) -> Callable[[str, str], None]:
     start = time.monotonic()
     if log is None:
         return note_nothing
-    return lambda way, line: print(f'{time.monotonic() - start:.4f} {way} {line}', file=log)
+    return lambda way, line: print(f"{time.monotonic() - start:.4f} {way} {line}", file=log)
 
 
 def read_words() -> argparse.Namespace:
     parser = argparse.ArgumentParser(usage=__doc__)
     end = parser.add_mutually_exclusive_group(required=True)
-    end.add_argument('--pty')
-    end.add_argument('--fifo', nargs=2)
-    parser.add_argument('--gear', default='0,1,2,3,4,5,6,7')
-    parser.add_argument('--unaddressed', type=int, default=0)
-    for option in ('--type', '--group', '--scene', '--button'):
-        parser.add_argument(option, action='append', default=[])
-    parser.add_argument('--random', default='')
-    parser.add_argument('--seed', type=int)
-    parser.add_argument('--real', action='store_true')
-    parser.add_argument('--log')
-    parser.add_argument('--start-after', type=float, default=0.0)
+    end.add_argument("--pty")
+    end.add_argument("--fifo", nargs=2)
+    parser.add_argument("--gear", default="0,1,2,3,4,5,6,7")
+    parser.add_argument("--unaddressed", type=int, default=0)
+    for option in ("--type", "--group", "--scene", "--button"):
+        parser.add_argument(option, action="append", default=[])
+    parser.add_argument("--random", default="")
+    parser.add_argument("--seed", type=int)
+    parser.add_argument("--real", action="store_true")
+    parser.add_argument("--log")
+    parser.add_argument("--start-after", type=float, default=0.0)
     add_words(parser)
     return parser.parse_args()
 
 
 def main() -> None:
     given = read_words()
-    note = noting(open(given.log, 'w', buffering=1) if given.log else None)
+    note = noting(open(given.log, "w", buffering=1) if given.log else None)
     bus = SimulatedBus(gear_of(given), [Button(text) for text in given.button], given.real)
     try:
         time.sleep(given.start_after)
@@ -174,5 +172,5 @@ def main() -> None:
         pass  # ended by hand, or nobody reads the log
 
 
-if __name__ == '__main__':
+if __name__ == "__main__":
     main()

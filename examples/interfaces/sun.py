@@ -18,7 +18,7 @@ class Sun:
 
     def __init__(self, latitude: float, longitude: float, zone: Optional[datetime.tzinfo]) -> None:
         if not (-90 <= latitude <= 90 and -180 <= longitude <= 180):
-            raise ValueError('a place is LATITUDE,LONGITUDE in degrees, as 52.5,13.4')
+            raise ValueError("a place is LATITUDE,LONGITUDE in degrees, as 52.5,13.4")
         self.latitude, self.longitude, self.zone = latitude, longitude, zone
         self.minutes = functools.lru_cache(maxsize=16)(self._minutes)
 
@@ -27,7 +27,7 @@ class Sun:
 
         By the rule of the almanac the sun is up where its upper edge is above the horizon.
         """
-        rise, down = self._crossing(day, 'sunrise'), self._crossing(day, 'sunset')
+        rise, down = self._crossing(day, "sunrise"), self._crossing(day, "sunset")
         if rise is None or down is None:
             noon = datetime.datetime.combine(day, datetime.time(12)).astimezone(self.zone)
             return ALWAYS_DAY if self._elevation(noon) > 0 else ALWAYS_NIGHT
@@ -41,21 +41,17 @@ class Sun:
     def _crossing(self, day: datetime.date, name: str) -> Optional[datetime.datetime]:
         """The moment of the name, or None where the sun does not cross the horizon on this day."""
         try:
-            if hasattr(astral(), 'Astral'):
-                return aware(
-                    getattr(astral().Astral(), f'{name}_utc')(day, self.latitude, self.longitude)
-                )
+            if hasattr(astral(), "Astral"):
+                return aware(getattr(astral().Astral(), f"{name}_utc")(day, self.latitude, self.longitude))
             return aware(getattr(astral_sun(), name)(self._observer(), date=day))
         except Exception as error:
-            if str(error).startswith(
-                'Sun '
-            ):  # 'Sun never reaches the horizon ..', an AstralError or a ValueError
+            if str(error).startswith("Sun "):  # 'Sun never reaches the horizon ..', an AstralError or a ValueError
                 return None
             raise
 
     def _elevation(self, moment: datetime.datetime) -> float:
         utc = moment.astimezone(datetime.timezone.utc)
-        if hasattr(astral(), 'Astral'):
+        if hasattr(astral(), "Astral"):
             return float(astral().Astral().solar_elevation(utc, self.latitude, self.longitude))
         return float(astral_sun().elevation(self._observer(), utc))
 

@@ -23,7 +23,7 @@ from line import (
 )
 
 FLOOD_EVENT = 0x0A8809
-BABBLE = (b'babble ' * 8 + b'\n') * 8
+BABBLE = (b"babble " * 8 + b"\n") * 8
 
 
 @dataclasses.dataclass
@@ -81,7 +81,7 @@ class TroubledInterface(Interface):
             self.end.say(request)
         trouble = self.plan.due(self.count)
         if trouble:
-            self.note('!', f'{trouble.what} {trouble.seconds}')
+            self.note("!", f"{trouble.what} {trouble.seconds}")
             self.meetings()[trouble.what](request, trouble.seconds)
         elif self.plan.fault_at is not None and self.count >= self.plan.fault_at:
             self.say(FAULT)
@@ -90,12 +90,12 @@ class TroubledInterface(Interface):
 
     def meetings(self) -> Dict[str, Callable[[str, float], None]]:
         return {
-            'silent': self.be_silent,
-            'half': self.say_half,
-            'fault': lambda request, seconds: self.say(FAULT),
-            'unplug': self.be_unplugged,
-            'babble': self.babble,
-            'end': self.leave,
+            "silent": self.be_silent,
+            "half": self.say_half,
+            "fault": lambda request, seconds: self.say(FAULT),
+            "unplug": self.be_unplugged,
+            "babble": self.babble,
+            "end": self.leave,
         }
 
     def be_silent(self, request: str, seconds: float) -> None:
@@ -107,8 +107,8 @@ class TroubledInterface(Interface):
     def say_half(self, request: str, seconds: float) -> None:
         line = self.answer(request)
         half = line[: (len(line) + 1) // 2]
-        self.note('>', f'{half} and no more')
-        self.end.write(half.encode('ascii'))
+        self.note(">", f"{half} and no more")
+        self.end.write(half.encode("ascii"))
 
     def be_unplugged(self, request: str, seconds: float) -> None:
         self.end.unplug()
@@ -129,18 +129,18 @@ class TroubledInterface(Interface):
 
 def add_words(parser: argparse.ArgumentParser) -> None:
     """The options that plan troubles."""
-    for what in ('silent-at', 'half-at', 'fault-once', 'unplug-at', 'babble-at', 'end-at'):
-        parser.add_argument(f'--{what}', action='append', default=[])
-    parser.add_argument('--fault-at', type=int)
-    for word in ('again', 'echo', 'flood', 'version-1'):
-        parser.add_argument(f'--{word}', action='store_true')
+    for what in ("silent-at", "half-at", "fault-once", "unplug-at", "babble-at", "end-at"):
+        parser.add_argument(f"--{what}", action="append", default=[])
+    parser.add_argument("--fault-at", type=int)
+    for word in ("again", "echo", "flood", "version-1"):
+        parser.add_argument(f"--{word}", action="store_true")
 
 
 def plan_of(given: argparse.Namespace) -> Plan:
     """The troubles that the options ask for."""
     troubles: List[Trouble] = []
-    for option in ('silent_at', 'half_at', 'fault_once', 'unplug_at', 'babble_at', 'end_at'):
+    for option in ("silent_at", "half_at", "fault_once", "unplug_at", "babble_at", "end_at"):
         for word in getattr(given, option):
-            at, _, seconds = word.partition(':')
-            troubles.append(Trouble(int(at), option.split('_')[0], float(seconds or 0)))
+            at, _, seconds = word.partition(":")
+            troubles.append(Trouble(int(at), option.split("_")[0], float(seconds or 0)))
     return Plan(troubles, given.again, given.fault_at, given.echo, given.flood, given.version_1)

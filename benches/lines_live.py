@@ -1,0 +1,143 @@
+"""Calls of `dalictl live` by benches/lines, what they print, and what was otherwise than it should be."""
+
+import os
+import re
+import subprocess
+import time
+
+from lines_ports import NUMBERS
+
+# A build with run-time checks keeps memory that was given back, unless it is told not to.
+ENVIRONMENT = dict(os.environ, ASAN_OPTIONS="quarantine_size_mb=0:thread_local_quarantine_size_kb=0")
+
+
+class Live:
+    """A call of `dalictl live`, with words `before` it; where it `leads`, its process begins a session of its own; where it
+    `is_closed`, it begins without descriptors 0, 1 and 2."""
+
+    def __init__(
+        self, program, folder, text, bind, lines, *words, before=(), leads=False, is_stopped=False, is_closed=False
+    ):
+        number = next(NUMBERS)
+        self.stop = f"{folder}/stop{number}"
+        if is_stopped:
+            self.ask_for_end()
+        self.out_path, self.err_path = f"{folder}/out{number}", f"{folder}/err{number}"
+        paths = {}
+        for name, data in (("il", text), ("bind", bind)):
+            paths[name] = f"{folder}/{number}.{name}"
+            with open(paths[name], "w") as file:
+                file.write(data)
+        named = [word for bus, path in enumerate(lines) for word in ("--line", f"{bus}={path}")]
+        with open(self.out_path, "w") as out, open(self.err_path, "w") as err:
+            self.process = subprocess.Popen(
+                [*before, program, "live", paths["il"], paths["bind"], *named, "--stop", self.stop, *words],
+                stdin=subprocess.DEVNULL,
+                stdout=out,
+                stderr=err,
+                start_new_session=leads,
+                env=ENVIRONMENT,
+                preexec_fn=(lambda: os.closerange(0, 3)) if is_closed else None,
+            )
+        self.ended_at = None
+
+    def __enter__(self):
+        return self
+
+    def __exit__(self, *_):
+        if self.process.poll() is None:
+            self.process.kill()
+            self.process.wait()
+
+    def ask_for_end(self):
+        with open(self.stop, "w"):
+            pass
+
+    def end(self):
+        """Asks for the end by the stop file, and waits for it."""
+        self.ask_for_end()
+        return self.wait()
+
+    def wait(self, seconds=20):
+        """The status, or None where it goes on."""
+        try:
+            status = self.process.wait(seconds)
+        except subprocess.TimeoutExpired:
+            return None
+        self.ended_at = time.monotonic()
+        return status
+
+    def out(self):
+        with open(self.out_path) as file:
+            return file.read().splitlines()
+
+    def err(self):
+        with open(self.err_path) as file:
+            return file.read().splitlines()
+
+    def said(self):
+        return Said(self.out())
+
+    def seconds(self):
+        """The processor time of the process up to now."""
+        with open(f"/proc/{self.process.pid}/stat") as file:
+            fields = file.read().rsplit(")", 1)[1].split()
+        return (int(fields[11]) + int(fields[12])) / os.sysconf("SC_CLK_TCK")
+
+    def memory(self):
+        """The most memory that the process had up to now, in KiB."""
+        with open(f"/proc/{self.process.pid}/status") as file:
+            return int(re.search(r"VmHWM:\s+(\d+)", file.read())[1])
+
+
+class Said:
+    """What is printed at the end."""
+
+    def __init__(self, lines):
+        self.ended, self.events, self.buses, self.tasks, self.values, self.other = None, 0, {}, {}, {}, []
+        for text in lines:
+            words = text.split()
+            if re.fullmatch(r"ended (asked|a bus went down|limit|no memory|no thread)", text):
+                self.ended = text[len("ended ") :]
+            elif re.fullmatch(r"events \d+", text):
+                self.events = int(words[1])
+            elif re.fullmatch(r"bus \d+ (down )?sent \d+ heard \d+", text):
+                self.buses[int(words[1])] = int(words[-3]), int(words[-1])
+            elif re.fullmatch(r"task \w+ scans \d+ lost \d+", text):
+                self.tasks[words[1]] = int(words[3]), int(words[5])
+            elif re.fullmatch(r"\w+ = (\d+|TRUE|FALSE)", text):
+                self.values[words[0]] = words[2]
+            else:
+                self.other.append(text)
+
+
+class Found(list):
+    """What was otherwise than it should be."""
+
+    def same(self, what, found, wanted):
+        if found != wanted:
+            self.append(f"{what} {found!r} and not {wanted!r}")
+
+    def hold(self, holds, what):
+        if not holds:
+            self.append(what)
+
+    def ended(self, live, status, wanted, why="asked"):
+        """The status, and where it is 0 or 3 after a start why the run was ended: as it was asked."""
+        if status is None:
+            self.append(f"it goes on; on standard error {live.err()[-1:]}")
+            return live.said()
+        self.same("status", status, wanted)
+        said = live.said()
+        self.same("ended", said.ended, why)
+        self.same("other lines", said.other, [])
+        return said
+
+    def counts(self, said, bus, house, is_up=True, unsaid=0):
+        """What the program says of a bus is what its interface says, which had nothing more where the bus is up. A frame
+        that failed since the line was not there counts as sent; so many more there may be."""
+        sent, heard = said.buses.get(bus, (-1, -1))
+        self.same(f"bus {bus}: heard", heard, house.handed)
+        self.hold(0 <= sent - len(house.sends) <= unsaid, f"bus {bus}: sent {sent} and not {len(house.sends)}")
+        if is_up:
+            self.same(f"bus {bus}: asked at last", house.last, ("hear", "none"))
