@@ -4,8 +4,8 @@ use Rattle.wordlines.specs.Wirings.{Wiring}
 use Rattle.plantload.specs.Loading.{IsSetup}
 use Rattle.answers.specs.declared.answers.Answer.{Answer}
 use Rattle.answers.specs.declared.answers.Answer.TheVariants as answers
-use Rattle.invocations.specs.declared.inquiries.Inquiry.{Inquiry}
-use Rattle.invocations.specs.declared.inquiries.Inquiry.TheVariants.{Check, Step}
+use Rattle.options.specs.declared.inquiry.Inquiry.{Inquiry}
+use Rattle.options.specs.declared.inquiry.Inquiry.TheVariants.{Check, Step}
 use Rattle.answers.specs.declared.stop.Stop.{Stop}
 use Rattle.answers.specs.Answered.{IsCheckStop, IsStepStop, IsStepped, IsStopOrMemory}
 use Rattle.answers.specs.Connected.{IsConnected, IsBindingStop}

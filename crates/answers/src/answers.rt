@@ -21,7 +21,7 @@ use crate::stepped::Stepped;
 use crate::stop::{Stop, UnknownTask};
 use ilcompile::Setup;
 use ilplan::Plan;
-use invocations::Inquiry;
+use options::Inquiry;
 use plantload::{load, plan_of, runs_are_as_meant, setup_of};
 use std::alloc::{AllocError, Global};
 use wordlines::Binding;

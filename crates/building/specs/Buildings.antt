@@ -7,15 +7,13 @@ use Rattle.buslink.specs.ClockLog.{ClockLog}
 use Rattle.ilcompile.specs.Loaded.{Loaded}
 use Rattle.plant.specs.declared.open_fault.OpenFault.TheVariants.{Limit}
 use Rattle.plant.specs.Shown.{IsRoomy}
-use Rattle.invocations.specs.declared.line_words.LineWord.{LineWord}
-use Rattle.invocations.specs.declared.invocations.LiveOptions.{LiveOptions}
-use Rattle.invocations.specs.declared.invocations.RunSize.{RunSize}
-use Rattle.plantplay.specs.declared.opening.StartFault.TheVariants.{Memory, Plant}
+use Rattle.options.specs.declared.line_word.LineWord.{LineWord}
+use Rattle.options.specs.declared.live_options.LiveOptions.{LiveOptions}
+use Rattle.options.specs.declared.live_options.RunSize.{RunSize}
+use Rattle.plant.specs.declared.start_fault.StartFault.TheVariants.{Memory, Plant}
 use Rattle.workers.specs.Starts.{IsStartFault}
 use Rattle.plantlive.specs.declared.living.Lived.{Lived}
 use Rattle.plantlive.specs.Lives.{HasLived}
-use Rattle.exits.specs.declared.exit_status.ExitStatus.{ExitStatus}
-use Rattle.exits.specs.declared.exit_status.ExitStatus.TheVariants.{Failed, Misused}
 use Rattle.building.specs.declared.buildings.Building.{Building}
 use Rattle.building.specs.declared.stops.LiveStop.{LiveStop}
 use Rattle.building.specs.declared.stops.LiveStop.TheVariants.{Lineup, NoClock, NotOpened, Start}
@@ -58,10 +56,3 @@ IsLiveStop setup words size (Start (Plant fault)) =
 abbrev pub IsNotLived : Loaded → RunSize → ℕ → LiveStop → Type 0
 IsNotLived setup size buses (Start (Plant fault)) = IsStartFault setup size.workers buses size.limit fault
 IsNotLived setup size buses _ = ⊥
-
--- ---- how the program ends
-
--- of what stands against it: the words are no command line of this binding; or anything else
-abbrev pub status_of_live_stop : LiveStop → ExitStatus
-status_of_live_stop (Lineup fault) = Misused
-status_of_live_stop _ = Failed

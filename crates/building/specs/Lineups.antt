@@ -1,7 +1,7 @@
 -- Which line each bus of a plant has, by the words of `--line` (profile).
 use Rattle.std.specs.Prelude.{◌≡◌, ℕ, ◌<◌, All, List}
 use Rattle.std.specs.List.{Contains}
-use Rattle.invocations.specs.declared.line_words.LineWord.{LineWord}
+use Rattle.options.specs.declared.line_word.LineWord.{LineWord}
 use Rattle.building.specs.declared.lineup.LineupFault.{LineupFault}
 use Rattle.building.specs.declared.lineup.LineupFault.TheVariants.{Missing, Unknown}
 

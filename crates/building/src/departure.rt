@@ -5,7 +5,7 @@ use crate::lineup::line_for;
 use buslink::{Bus, Clock};
 use ilplan::{Activation, Global, Location, Plan};
 use iltypes::Value;
-use invocations::LineWord;
+use options::LineWord;
 use std::fmt;
 
 /// What is about to run in a building: its buses with their lines, its tasks with their bounds, and

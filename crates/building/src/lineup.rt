@@ -5,7 +5,7 @@ ghost use Rattle.std.specs.List.{Contains};
 ghost use Rattle.building.specs.Lineups.{AreKnown, AreLinesOf, HasLine, HasNoLine, IsLineFor};
 ghost use Rattle.building.specs.Lineups.{IsLineupFault};
 
-use invocations::LineWord;
+use options::LineWord;
 use std::fmt;
 
 /// Why the words of `--line` aren't the lines of a plant's buses.

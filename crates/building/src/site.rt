@@ -3,7 +3,7 @@
 use crate::watch::{DownWatch, End};
 use buslink::{Bus, Clock};
 use daliframe::BusNumber;
-use invocations::LineWord;
+use options::LineWord;
 use std::alloc::{AllocError, Global};
 use std::num::NonZeroU64;
 use std::sync::Arc;
@@ -28,7 +28,7 @@ pub trait Site {
     ghost use Rattle.std.specs.Prelude.{ℕ, IfOk, IfErr, List, Option, option_map};
     ghost use Rattle.std.specs.Int.NonZero.{non_zero_u64_get};
     ghost use Rattle.building.specs.Sites.{IsNewBus, IsNewClock};
-    ghost use Rattle.invocations.specs.declared.line_words.LineWord.{LineWord};
+    ghost use Rattle.options.specs.declared.line_word.LineWord.{LineWord};
     ghost use Rattle.building.specs.declared.site.SiteFault.{SiteFault};
 
     type Line: Bus + Send;

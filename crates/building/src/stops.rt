@@ -1,11 +1,8 @@
 //! Why a building doesn't run.
 
-ghost use Rattle.std.specs.Prelude.{◌≡◌};
-
 use crate::lineup::LineupFault;
-use exits::ExitStatus;
-use invocations::LineWord;
-use plantplay::StartFault;
+use options::LineWord;
+use plant::StartFault;
 use std::alloc::AllocError;
 use std::fmt;
 
@@ -20,22 +17,6 @@ pub enum LiveStop<'a> {
     NoClock,
     /// The plant doesn't start, or the allocator is out of memory.
     Start(StartFault),
-}
-
-impl LiveStop<'_> {
-    ghost use Rattle.building.specs.Buildings.{status_of_live_stop};
-
-    /// How the program ends.
-    pub fn status(&self) -> ExitStatus
-        ensures { result ≡ status_of_live_stop self.now }
-    {
-        match self {
-            LiveStop::Lineup(_) => ExitStatus::Misused,
-            LiveStop::NotOpened(_) | LiveStop::NoClock | LiveStop::Start(_) => {
-                ExitStatus::Failed
-            }
-        }
-    }
 }
 
 impl fmt::Display for LiveStop<'_> {
@@ -58,7 +39,7 @@ impl fmt::Display for LiveStop<'_> {
 
 impl From<AllocError> for LiveStop<'_> {
     ghost use Rattle.std.specs.Prelude.{◌≡◌};
-    ghost use Rattle.plantplay.specs.declared.opening.StartFault.TheVariants.{Memory};
+    ghost use Rattle.plant.specs.declared.start_fault.StartFault.TheVariants.{Memory};
     ghost use Rattle.building.specs.declared.stops.LiveStop.TheVariants.{Start};
 
     ghost from_gives = { λ _ stop. stop ≡ Start Memory };

@@ -27,10 +27,10 @@ use Rattle.invocations.specs.Invocations.{IsLineName, IsOfCommand, expected_word
 use Rattle.invocations.specs.Invocations.{watched_words}
 use Rattle.invocations.specs.LineWords.{AreLines, ArePaths}
 use Rattle.invocations.specs.TextWords.{AreCodeWords}
-use Rattle.invocations.specs.declared.expected_words.ExpectedWord.{ExpectedWord}
-use Rattle.invocations.specs.declared.files.Files.{Files}
+use Rattle.options.specs.declared.expected_word.ExpectedWord.{ExpectedWord}
+use Rattle.options.specs.declared.files.Files.{Files}
 use Rattle.invocations.specs.declared.invocations.Invocation.{Invocation}
-use Rattle.invocations.specs.declared.line_words.LineWord.{LineWord}
+use Rattle.options.specs.declared.line_word.LineWord.{LineWord}
 
 -- ---- the words that are taken
 

@@ -17,15 +17,14 @@
 mod builders;
 mod checks;
 mod messages;
-mod options;
+mod reading;
 mod refusal_text;
 mod tables;
 mod words;
 
 pub use invocations::{
-    Beside, ExpectedWord, ExpectedWords, Files, GivenFrames, GivenListenEnd, GivenRequest, Inquiry,
-    Invocation, LineWord, LineWords, LiveFiles, LiveOptions, LookOptions, PlayFiles, PlayShows,
-    Question, RunSize, Tool, WatchedNames,
+    ExpectedWords, GivenFrames, GivenListenEnd, GivenRequest, Invocation, LineWords, LookOptions,
+    PlayShows, Question, Tool, WatchedNames,
 };
-pub use options::read;
+pub use reading::read;
 pub use refusal_text::said;

@@ -6,9 +6,9 @@ use Rattle.ilcompile.specs.Loaded.{Loaded}
 use Rattle.plant.specs.Shown.{plant_of}
 use Rattle.plantlive.specs.declared.living.Lived.{Lived}
 use Rattle.plantlive.specs.Lives.{HasLived}
-use Rattle.invocations.specs.declared.invocations.LiveOptions.{LiveOptions}
-use Rattle.invocations.specs.declared.invocations.RunSize.{RunSize}
-use Rattle.invocations.specs.declared.line_words.LineWord.{LineWord}
+use Rattle.options.specs.declared.live_options.LiveOptions.{LiveOptions}
+use Rattle.options.specs.declared.live_options.RunSize.{RunSize}
+use Rattle.options.specs.declared.line_word.LineWord.{LineWord}
 use Rattle.building.specs.declared.buildings.Building.{Building}
 use Rattle.building.specs.Buildings.{IsOpened}
 use Rattle.commands.specs.declared.beginning.Beginning.{Beginning}

@@ -8,7 +8,7 @@ use Rattle.simbus.specs.Simulated.{Simulated}
 use Rattle.plant.specs.Shown.{plant_of}
 use Rattle.plantrun.specs.Runs.{IsRun}
 use Rattle.workers.specs.declared.closed.ClosedParts.{ClosedParts}
-use Rattle.invocations.specs.declared.invocations.RunSize.{RunSize}
+use Rattle.options.specs.declared.live_options.RunSize.{RunSize}
 use Rattle.commands.specs.Plays.{PlayBytes, IsSetupOf}
 use Rattle.commands.specs.Runs.{IsRunOut}
 use Rattle.commands.proofs.MeantOut.{KeptScansAreAsMeant, ScansAreAsMeant, meant_of}

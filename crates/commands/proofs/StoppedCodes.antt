@@ -2,7 +2,7 @@
 use Rattle.std.proofs.Common.{◌≡◌, ℕ, List, Option, inr}
 use Rattle.std.specs.Io.KnownBytes.{Appends}
 use Rattle.std.specs.Option.{option_copied}
-use Rattle.invocations.specs.declared.files.Files.{Files}
+use Rattle.options.specs.declared.files.Files.{Files}
 use Rattle.answers.specs.declared.stop.Stop.{Stop}
 use Rattle.exits.specs.ExitStatuses.{status_of_stop}
 use Rattle.exits.specs.declared.exit_status.ExitStatus.{ExitStatus}

@@ -7,17 +7,17 @@ use Rattle.plantload.specs.MeantScans.{AreAsMeant}
 use Rattle.driving.specs.Downs.{has_down}
 use Rattle.plantlive.specs.declared.living.Lived.{Lived}
 use Rattle.plantlive.specs.Lives.{HasLived}
-use Rattle.invocations.specs.declared.files.LiveFiles.{LiveFiles}
-use Rattle.invocations.specs.declared.invocations.LiveOptions.{LiveOptions}
-use Rattle.invocations.specs.declared.invocations.RunSize.{RunSize}
-use Rattle.invocations.specs.declared.line_words.LineWord.{LineWord}
+use Rattle.options.specs.declared.files.LiveFiles.{LiveFiles}
+use Rattle.options.specs.declared.live_options.LiveOptions.{LiveOptions}
+use Rattle.options.specs.declared.live_options.RunSize.{RunSize}
+use Rattle.options.specs.declared.line_word.LineWord.{LineWord}
 use Rattle.keeping.specs.KeptFiles.{KeptState}
 use Rattle.exits.specs.declared.exit_status.ExitStatus.{ExitStatus}
 use Rattle.exits.specs.declared.exit_status.ExitStatus.TheVariants.{Failed}
 use Rattle.exits.specs.ExitStatuses.{status_of_run, status_of_stop}
 use Rattle.building.specs.declared.buildings.Building.{Building}
 use Rattle.building.specs.declared.stops.LiveStop.{LiveStop}
-use Rattle.building.specs.Buildings.{IsLiveStop, IsNotLived, IsOpened, status_of_live_stop}
+use Rattle.building.specs.Buildings.{IsLiveStop, IsNotLived, IsOpened}
 use Rattle.commands.specs.declared.lived.LiveLeft.{LiveLeft}
 use Rattle.commands.specs.declared.living.Halted.{Halted}
 use Rattle.commands.specs.declared.living.Halted.TheVariants as halts
@@ -93,6 +93,11 @@ abbrev pub status_of_left : {B C : Type 0} → LiveLeft B C → ExitStatus
 status_of_left left =
     let plant = left.lived.left.plant in
     if left.is_cut then Failed else status_of_run left.lived.ended (has_down plant.plant.plan.buses plant.history)
+
+-- of what stands against it: the words are no command line of this binding; or anything else
+abbrev pub status_of_live_stop : LiveStop → ExitStatus
+status_of_live_stop (Lineup fault) = Misused
+status_of_live_stop _ = Failed
 
 -- the exit status by what a building comes to
 abbrev pub status_of_live_end : {B C : Type 0} → LiveEnd B C → ExitStatus

@@ -5,7 +5,7 @@ use Rattle.std.specs.Prelude.{◌≡◌, ℕ, List, Option, ◌⊎◌, ⊤}
 use Rattle.std.specs.Io.KnownBytes.{Appends}
 use Rattle.std.specs.Option.{option_copied}
 use Rattle.wordlines.specs.Wirings.{Wiring}
-use Rattle.invocations.specs.declared.files.Files.{Files}
+use Rattle.options.specs.declared.files.Files.{Files}
 use Rattle.answers.specs.Answered.{IsStepStop, IsStopOrMemory}
 use Rattle.answers.specs.Connected.{IsBindingStop, IsConnected}
 use Rattle.answers.specs.declared.stop.Stop.{Stop}

@@ -24,8 +24,8 @@ use Rattle.plantplay.specs.declared.installation.Installation.{Installation}
 use Rattle.plantplay.specs.declared.ending.Ending.{Ending}
 use Rattle.exits.specs.declared.exit_status.ExitStatus.{ExitStatus}
 use Rattle.exits.specs.declared.exit_status.ExitStatus.TheVariants.{Accepted, Refused, Misused}
-use Rattle.invocations.specs.declared.expected_words.ExpectedWord.{ExpectedWord}
-use Rattle.invocations.specs.declared.files.PlayFiles.{PlayFiles}
+use Rattle.options.specs.declared.expected_word.ExpectedWord.{ExpectedWord}
+use Rattle.options.specs.declared.files.PlayFiles.{PlayFiles}
 use Rattle.exits.specs.declared.play_stop.PlayStop.{PlayStop}
 use Rattle.exits.specs.declared.play_stop.PlayStop.TheVariants.{Text, Scenario, Start}
 use Rattle.answers.specs.declared.stop.Stop.{Stop}

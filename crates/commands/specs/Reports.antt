@@ -11,7 +11,7 @@ use Rattle.ilplan.specs.Plans.{Planned, instance_name, slot_at, task_kind, varia
 use Rattle.ilcompile.specs.Loaded.{Loaded}
 use Rattle.answers.specs.declared.answers.Answer.{Answer}
 use Rattle.answers.specs.declared.answers.Answer.TheVariants as answers
-use Rattle.invocations.specs.declared.inquiries.Inquiry.{Inquiry}
+use Rattle.options.specs.declared.inquiry.Inquiry.{Inquiry}
 use Rattle.exits.specs.declared.exit_status.ExitStatus.{ExitStatus}
 use Rattle.exits.specs.declared.exit_status.ExitStatus.TheVariants.{Accepted}
 use Rattle.exits.specs.ExitStatuses.{status_of_stop}

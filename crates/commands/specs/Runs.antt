@@ -9,8 +9,8 @@ use Rattle.driving.specs.Downs.{has_down}
 use Rattle.plantrun.specs.Runs.{IsRun}
 use Rattle.workers.specs.declared.closed.ClosedParts.{ClosedParts}
 use Rattle.exits.specs.declared.exit_status.ExitStatus.{ExitStatus}
-use Rattle.invocations.specs.declared.files.PlayFiles.{PlayFiles}
-use Rattle.invocations.specs.declared.invocations.RunSize.{RunSize}
+use Rattle.options.specs.declared.files.PlayFiles.{PlayFiles}
+use Rattle.options.specs.declared.live_options.RunSize.{RunSize}
 use Rattle.exits.specs.declared.play_stop.PlayStop.{PlayStop}
 use Rattle.exits.specs.ExitStatuses.{status_of_play_stop, status_of_run}
 use Rattle.commands.specs.Plays.{PlayBytes, AreGiven, AreMeantBy, IsPlayStop, IsSetupOf}

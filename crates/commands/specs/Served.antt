@@ -3,13 +3,13 @@
 use Rattle.std.specs.Prelude.{◌≡◌, ℕ, List, Option, Some, None, ◌⊎◌, ⊤}
 use Rattle.std.specs.Option.{option_copied}
 use Rattle.commands.specs.declared.reading.DiskFault.{DiskFault}
-use Rattle.invocations.specs.declared.files.Files.{Files}
-use Rattle.invocations.specs.declared.inquiries.Inquiry.{Inquiry}
+use Rattle.options.specs.declared.files.Files.{Files}
+use Rattle.options.specs.declared.inquiry.Inquiry.{Inquiry}
 use Rattle.exits.specs.declared.exit_status.ExitStatus.{ExitStatus}
 use Rattle.commands.specs.declared.serving.Unserved.{Unserved}
 use Rattle.commands.specs.declared.serving.Unserved.TheVariants.{NotRead, NotWritten, NotPrinted}
 use Rattle.commands.specs.Reports.{IsReport}
-use Rattle.invocations.specs.Inquiries.{files_of}
+use Rattle.options.specs.Inquiries.{files_of}
 
 -- what is given for a path, and nothing where there is none
 abbrev pub IsGiven : (List ℕ → List ℕ → Type 0) → Option (List ℕ) → Option (List ℕ) → Type 0

@@ -8,18 +8,19 @@ ghost use Rattle.commands.specs.Buildings.{IsLiveUnread, IsLivedOut, IsUnobserve
 ghost use Rattle.commands.specs.Buildings.{status_of_live_end};
 
 use crate::beginning::{Beginning, KeptNote, beginning_of, kept_at};
+use crate::live_status::status_of_live_stop;
 use crate::lived::LiveLeft;
 use crate::reading::Disk;
 use crate::serving::{Unserved, bytes_at};
 use answers::Stop;
 use building::{Departure, LiveStop, Site, open};
 use buslink::{Bus, Clock};
-use commandline::{LineWord, LiveFiles, LiveOptions};
 use driving::has_down;
 use exits::ExitStatus;
 use observing::{BuildingObserver, Storage};
+use options::{LineWord, LiveFiles, LiveOptions};
+use plant::StartFault;
 use plantload::{kept_scans_are_as_meant, scans_are_as_meant};
-use plantplay::StartFault;
 use std::alloc::Global;
 use std::io;
 use std::io::{BufWriter, Write};
@@ -191,7 +192,7 @@ pub fn status_of_live<B: Bus, C: Clock>(end: &LiveEnd<B, C>) -> ExitStatus
         Ok(left) if left.is_cut => ExitStatus::Failed,
         Ok(left) => ExitStatus::of_run(left.lived.ended, has_down(left.lived.left.plant())),
         Err(Halted::Text(stop)) => ExitStatus::of_stop(stop),
-        Err(Halted::Building(stop)) => stop.status(),
+        Err(Halted::Building(stop)) => status_of_live_stop(&stop),
     }
 }
 

@@ -1,7 +1,8 @@
 //! Whether a command writes what it reads.
 
 use crate::paths::{PathFault, Writing, Written, check_paths};
-use commandline::{Invocation, LineWord, LiveFiles, LiveOptions, Tool};
+use commandline::{Invocation, Tool};
+use options::{LineWord, LiveFiles, LiveOptions};
 use std::alloc::{AllocError, Global};
 use std::rt::Files;
 

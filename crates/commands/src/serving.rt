@@ -7,8 +7,8 @@ ghost use Rattle.commands.specs.Served.{IsGiven, IsNotRead, IsServed, IsUnserved
 use crate::reading::{Disk, DiskFault};
 use crate::report;
 use answers::respond;
-use commandline::Inquiry;
 use exits::ExitStatus;
+use options::Inquiry;
 use std::alloc::Global;
 use std::io;
 use std::io::Write;

@@ -4,7 +4,7 @@ use crate::objects::{write_explained, write_noted, write_sizes, write_stop, writ
 use crate::reading::Disk;
 use crate::serving::{Unserved, bytes_at, named_at};
 use answers::{Stop, UnknownTask, binding_of, check};
-use commandline::{Files, Question};
+use commandline::Question;
 use exits::{ExitStatus, PlayStop};
 use explaining::{AskedText, explain_binding, explain_load, explain_scenario};
 use ilcompile::Setup;
@@ -12,6 +12,7 @@ use ilsource::Source;
 use listing::{
     NOTE_NAMES, NotedFiles, NotesAsked, Played, is_note_name, write_load, write_notes, write_task,
 };
+use options::Files;
 use plantload::{LoadFault, source_and_plan};
 use simbus::Scenario;
 use std::alloc::Global;

@@ -1,13 +1,13 @@
 //! The commands at one line: its files are read, the line is opened, and the installer's tool works
 //! there.
 
+use crate::live_status::status_of_live_stop;
 use crate::living::Halted;
 use crate::pages::setup_of;
 use crate::reading::Disk;
 use crate::serving::{Unserved, bytes_at, named_at};
 use answers::binding_of;
 use building::{LineupFault, LiveStop, Site, SiteFault};
-use commandline::{LineWord, LiveFiles};
 use commissioning::{
     DeclaredBus, ListenEnd, ProbeForm, Served, serve_ask, serve_blink, serve_listen, serve_probe,
 };
@@ -16,7 +16,8 @@ use exits::ExitStatus;
 use gearcmd::Command;
 use ilcompile::Setup;
 use liveclock::StopCondition;
-use plantplay::StartFault;
+use options::{LineWord, LiveFiles};
+use plant::StartFault;
 use std::alloc::Global;
 use std::io::Write;
 use std::time::Clock as Timer;
@@ -30,7 +31,7 @@ pub fn status_of_tool(end: &ToolEnd) -> ExitStatus {
         Ok(Served::Done) => ExitStatus::Accepted,
         Ok(Served::NoMemory | Served::Failed) => ExitStatus::Failed,
         Err(Halted::Text(stop)) => ExitStatus::of_stop(stop),
-        Err(Halted::Building(stop)) => stop.status(),
+        Err(Halted::Building(stop)) => status_of_live_stop(&stop),
     }
 }
 

@@ -1,8 +1,8 @@
 //! What is said of variables that aren't there: each with those that are.
 
-use commandline::ExpectedWord;
 use expectations::report_unknown;
 use ilplan::Plan;
+use options::ExpectedWord;
 use std::alloc::Global;
 use std::io;
 use std::io::Write;

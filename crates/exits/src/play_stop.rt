@@ -2,7 +2,7 @@
 
 use crate::exit_status::ExitStatus;
 use answers::Stop;
-use plantplay::StartFault;
+use plant::StartFault;
 use simbus::ScenarioFault;
 use std::fmt;
 

@@ -9,7 +9,7 @@ use Rattle.ilplan.specs.Plans.{Planned}
 use Rattle.plantevents.specs.Variables.{value}
 use Rattle.plant.specs.Shown.{Shown}
 use Rattle.watching.specs.Names.{IsAlike, IsNamed}
-use Rattle.invocations.specs.declared.expected_words.ExpectedWord.{ExpectedWord}
+use Rattle.options.specs.declared.expected_word.ExpectedWord.{ExpectedWord}
 
 -- ---- values
 

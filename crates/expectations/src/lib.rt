@@ -15,6 +15,6 @@
 mod meeting;
 mod reporting;
 
-pub use invocations::ExpectedWord;
 pub use meeting::{are_known, are_met};
+pub use options::ExpectedWord;
 pub use reporting::{report_unknown, report_unmet};

@@ -6,7 +6,7 @@ ghost use Rattle.expectations.specs.Expected.{IsSpelled};
 
 use ilplan::Plan;
 use iltypes::Value;
-use invocations::ExpectedWord;
+use options::ExpectedWord;
 use plant::Plant;
 use watching::is_named;
 

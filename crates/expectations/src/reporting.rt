@@ -4,7 +4,7 @@ ghost use Rattle.std.specs.Prelude.{◌<◌, length};
 
 use crate::meeting::{is_known, is_spelled};
 use ilplan::Plan;
-use invocations::ExpectedWord;
+use options::ExpectedWord;
 use plant::Plant;
 use std::io;
 use std::io::Write;

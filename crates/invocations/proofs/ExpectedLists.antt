@@ -13,7 +13,7 @@ use Rattle.invocations.specs.ExpectedWords.{AreExpected, IsExpectedWord, IsFirst
 use Rattle.invocations.specs.ExpectedWords.{unexpected_word}
 use Rattle.invocations.specs.declared.expected_words.ExpectedFault.{ExpectedFault}
 use Rattle.invocations.specs.declared.expected_words.ExpectedFault.TheVariants.{NoPair, TooMany}
-use Rattle.invocations.specs.declared.expected_words.ExpectedWord.{ExpectedWord}
+use Rattle.options.specs.declared.expected_word.ExpectedWord.{ExpectedWord}
 
 abbrev texts : List (Bor Text) → List Text
 texts = map (λ word. word.now)

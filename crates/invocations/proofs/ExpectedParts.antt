@@ -7,7 +7,7 @@ use Rattle.std.proofs.lemmas.Str.Pattern.{IsSplitOnceResult, split_after, split_
 use Rattle.clap.specs.Words.{Text}
 use Rattle.invocations.specs.ExpectedWords.{IsExpectedWord}
 use Rattle.invocations.specs.LineWords.{equals_sign}
-use Rattle.invocations.specs.declared.expected_words.ExpectedWord.{ExpectedWord}
+use Rattle.options.specs.declared.expected_word.ExpectedWord.{ExpectedWord}
 use Rattle.invocations.proofs.LineParts.{nowhere}
 
 -- a word says what is expected in one way

@@ -11,7 +11,7 @@ use Rattle.wordlines.specs.WordLines.{number_upto}
 use Rattle.invocations.proofs.LineParts.{StandsNowhere, between, bus_spelled, no_sign_there, nowhere}
 use Rattle.invocations.specs.LineWords.{AreLines, ArePaths, IsFaultAfter, IsFirstFault, IsLineWord, SharePath, comma}
 use Rattle.invocations.specs.LineWords.{equals_sign, word_of}
-use Rattle.invocations.specs.declared.line_words.LineWord.{LineWord}
+use Rattle.options.specs.declared.line_word.LineWord.{LineWord}
 use Rattle.invocations.specs.declared.line_words.LineWordFault.{LineWordFault}
 use Rattle.invocations.specs.declared.line_words.LineWordFault.TheVariants.{Again, NoLine, Shared}
 

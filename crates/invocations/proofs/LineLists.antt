@@ -13,7 +13,7 @@ use Rattle.std.proofs.lemmas.Bool.Decides.{Decides-eqb}
 use Rattle.clap.specs.Words.{Text}
 use Rattle.invocations.specs.LineWords.{AreLines, IsFaultAfter, IsFirstFault, IsLineWord, SharePath, word_of}
 use Rattle.invocations.proofs.LineParts.{bus_spelled}
-use Rattle.invocations.specs.declared.line_words.LineWord.{LineWord}
+use Rattle.options.specs.declared.line_word.LineWord.{LineWord}
 use Rattle.invocations.specs.declared.line_words.LineWordFault.{LineWordFault}
 
 abbrev texts : List (Bor Text) → List Text

@@ -8,23 +8,23 @@ use Rattle.invocations.specs.ExpectedWords.{AreExpected, IsFirstUnexpected}
 use Rattle.invocations.specs.LineWords.{AreLines, ArePaths, IsFirstFault, IsNoPath}
 use Rattle.invocations.specs.TextWords.{AreCodeWords, AreTaskWords, IsBound, given, scenario_by}
 use Rattle.invocations.specs.WatchedNames.{AreWatched, IsSeventeenth}
-use Rattle.invocations.specs.declared.files.Files.{Files}
-use Rattle.invocations.specs.declared.files.LiveFiles.{LiveFiles}
-use Rattle.invocations.specs.declared.files.PlayFiles.{PlayFiles}
-use Rattle.invocations.specs.declared.inquiries.Inquiry.{Inquiry}
-use Rattle.invocations.specs.declared.inquiries.Inquiry.TheVariants.{Check, Step}
-use Rattle.invocations.specs.declared.invocations.Beside.{Beside}
+use Rattle.options.specs.declared.files.Files.{Files}
+use Rattle.options.specs.declared.files.LiveFiles.{LiveFiles}
+use Rattle.options.specs.declared.files.PlayFiles.{PlayFiles}
+use Rattle.options.specs.declared.inquiry.Inquiry.{Inquiry}
+use Rattle.options.specs.declared.inquiry.Inquiry.TheVariants.{Check, Step}
+use Rattle.options.specs.declared.beside.Beside.{Beside}
 use Rattle.invocations.specs.declared.invocations.GivenFrames.{GivenFrames}
 use Rattle.invocations.specs.declared.invocations.Invocation.{Invocation}
 use Rattle.invocations.specs.declared.invocations.Invocation.TheVariants as invocations
 use Rattle.invocations.specs.declared.invocations.Invocation.TheVariants.{Ask, CheckCode, Code, EventLine, Frame, Live}
 use Rattle.invocations.specs.declared.invocations.Invocation.TheVariants.{Look, Play, Run, Tell}
-use Rattle.invocations.specs.declared.invocations.LiveOptions.{LiveOptions}
+use Rattle.options.specs.declared.live_options.LiveOptions.{LiveOptions}
 use Rattle.invocations.specs.declared.invocations.LookOptions.{LookOptions}
 use Rattle.invocations.specs.declared.invocations.PlayShows.{PlayShows}
-use Rattle.invocations.specs.declared.invocations.RunSize.{RunSize}
-use Rattle.invocations.specs.declared.expected_words.ExpectedWord.{ExpectedWord}
-use Rattle.invocations.specs.declared.line_words.LineWord.{LineWord}
+use Rattle.options.specs.declared.live_options.RunSize.{RunSize}
+use Rattle.options.specs.declared.expected_word.ExpectedWord.{ExpectedWord}
+use Rattle.options.specs.declared.line_word.LineWord.{LineWord}
 use Rattle.invocations.specs.declared.line_words.LineWordFault.{LineWordFault}
 use Rattle.invocations.specs.declared.questions.Question.{Question}
 use Rattle.invocations.specs.declared.questions.Question.TheVariants.{Faults, Notes, Sizes, Words}

@@ -1,5 +1,4 @@
 pub mod ExpectedWords
-pub mod Inquiries
 pub mod Invocations
 pub mod LineWords
 pub mod TextWords

@@ -3,28 +3,10 @@
 ghost use Rattle.std.specs.Prelude.{MatchOption, MatchResult, map};
 ghost use Rattle.invocations.specs.ExpectedWords.{AreExpected, IsExpectedWord};
 ghost use Rattle.invocations.specs.ExpectedWords.{IsFirstUnexpected};
-ghost use Rattle.invocations.specs.declared.expected_words.ExpectedWord.{ExpectedWord};
+ghost use Rattle.options.specs.declared.expected_word.ExpectedWord.{ExpectedWord};
 
 use arrayvec::ArrayVec;
-
-/// What is expected of a value, as a word names it: `NAME=VALUE`.
-#[derive(Clone, Copy)]
-pub struct ExpectedWord<'a> {
-    /// The value's name, which isn't empty and has no `=`.
-    pub name: &'a str,
-    /// What it is to be, which isn't empty.
-    pub value: &'a str,
-}
-
-/// No name and no value, which fills the unused places of a collection of fixed capacity.
-impl Default for ExpectedWord<'_> {
-    fn default() -> Self {
-        ExpectedWord {
-            name: "",
-            value: "",
-        }
-    }
-}
+use options::ExpectedWord;
 
 /// How many values may be expected at most.
 pub const MOST_EXPECTED: usize = 16;

@@ -1,12 +1,11 @@
 //! What the user asks for.
 
 use crate::expected_words::ExpectedWords;
-use crate::files::{Files, LiveFiles, PlayFiles};
-use crate::inquiries::Inquiry;
 use crate::line_words::LineWords;
 use crate::questions::Question;
 use crate::tools::Tool;
 use crate::watched_names::WatchedNames;
+use options::{Files, Inquiry, LiveFiles, LiveOptions, PlayFiles, RunSize};
 
 /// What the user asks for.
 #[derive(Drop)]
@@ -72,58 +71,6 @@ pub enum Invocation<'a> {
         /// The event's information, 0 to 1023.
         information: u32,
     },
-}
-
-/// How large a run may become.
-#[derive(Clone, Copy)]
-pub struct RunSize {
-    /// The most events of its history.
-    pub limit: u32,
-    /// How many scan workers it has.
-    pub workers: u32,
-}
-
-/// How a building is run.
-#[derive(Clone, Copy)]
-pub struct LiveOptions<'a> {
-    /// The milliseconds from one tick of the clock to the next, where they are given.
-    pub period: Option<u32>,
-    /// The seconds after which it ends, where they are given.
-    pub seconds: Option<u32>,
-    /// The path of the file by which it is ended, where one is given.
-    pub stop: Option<&'a str>,
-    /// How large a run may become, after whose end the next one goes on.
-    pub size: RunSize,
-    /// Whether it ends where a bus has gone down.
-    pub ends_on_down: bool,
-    /// The milliseconds that a line may be silent before its bus goes down, 100 to 60,000.
-    pub patience: u32,
-    /// What is written beside it.
-    pub beside: Beside<'a>,
-}
-
-/// What is written beside a building that runs: each file by its path, where one is given.
-#[derive(Clone, Copy)]
-pub struct Beside<'a> {
-    /// The log of what happens on its buses; `-` is standard error.
-    pub log: Option<&'a str>,
-    /// The bytes after which a file of the log is full, 10,000 to 4,000,000,000.
-    pub log_size: u32,
-    /// The scenario of what happened.
-    pub record: Option<&'a str>,
-    /// How it stands.
-    pub status: Option<&'a str>,
-    /// Whether how it stands is written as JSON.
-    pub is_json: bool,
-    /// The values that are kept for its next start.
-    pub keep: Option<&'a str>,
-}
-
-impl Beside<'_> {
-    /// Whether nothing is written beside the building.
-    pub fn is_empty(&self) -> bool {
-        self.log.is_none() && self.record.is_none() && self.status.is_none() && self.keep.is_none()
-    }
 }
 
 /// What a play shows beside what happens.

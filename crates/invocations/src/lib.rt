@@ -1,7 +1,7 @@
 //! What the user asks for, read from what `clap` found in the words of the command line.
 //!
 //! What crosses the boundary: [`invocation_of`] takes the name of a command and what was found
-//! under it, and gives the [`Invocation`]: an [`Inquiry`] or a [`Question`] of a text, files that
+//! under it, and gives the [`Invocation`]: an `Inquiry` or a [`Question`] of a text, files that
 //! are played, run or looked at, a building with the lines of its buses, a [`Tool`] at one line, a
 //! code file that is written or judged, or frames and events in words. Or it gives the
 //! [`WordFault`]: the first word that names no line, or a second one of a bus or of a path, or that
@@ -18,8 +18,6 @@
 
 mod at_line;
 mod expected_words;
-mod files;
-mod inquiries;
 mod invocations;
 mod line_words;
 mod questions;
@@ -30,13 +28,9 @@ mod tools;
 mod watched_names;
 mod word_fault;
 
-pub use expected_words::{ExpectedFault, ExpectedWord, ExpectedWords, MOST_EXPECTED};
-pub use files::{Files, LiveFiles, PlayFiles};
-pub use inquiries::Inquiry;
-pub use invocations::{
-    Beside, GivenFrames, Invocation, LiveOptions, LookOptions, PlayShows, RunSize,
-};
-pub use line_words::{LineWord, LineWordFault, LineWords};
+pub use expected_words::{ExpectedFault, ExpectedWords, MOST_EXPECTED};
+pub use invocations::{GivenFrames, Invocation, LookOptions, PlayShows};
+pub use line_words::{LineWordFault, LineWords};
 pub use questions::{Question, word_in};
 pub use readers::invocation_of;
 pub use text_words::{CodeWords, code_words_in};

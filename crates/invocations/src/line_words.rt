@@ -6,34 +6,12 @@ ghost use Rattle.std.specs.List.{Any};
 ghost use Rattle.clap.specs.Words.{Text};
 ghost use Rattle.invocations.specs.LineWords.{ArePaths, AreLines, HasPath, IsFirstFault};
 ghost use Rattle.invocations.specs.LineWords.{IsLineWord, IsPath, SharePath};
-ghost use Rattle.invocations.specs.declared.line_words.LineWord.{LineWord};
+ghost use Rattle.options.specs.declared.line_word.LineWord.{LineWord};
 
 use arrayvec::ArrayVec;
 use limits::MOST_BUSES;
+use options::LineWord;
 use wordlines::number_of;
-
-/// The line of a bus, as words name it: `B=PATH` or `B=FROM,TO`, and at one line `PATH` or
-/// `FROM,TO` beside the number of the bus.
-#[derive(Clone, Copy)]
-pub struct LineWord<'a> {
-    /// The bus's number, below 64.
-    pub bus: u8,
-    /// The path that is read, and also written where there is no other one.
-    pub from: &'a str,
-    /// The path that is written, where it is another one.
-    pub to: Option<&'a str>,
-}
-
-/// No path of bus 0, which fills the unused places of a collection of fixed capacity.
-impl Default for LineWord<'_> {
-    fn default() -> Self {
-        LineWord {
-            bus: 0,
-            from: "",
-            to: None,
-        }
-    }
-}
 
 /// The most lines: one of each bus.
 const MOST_LINES: usize = MOST_BUSES as usize;

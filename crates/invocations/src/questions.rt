@@ -5,10 +5,10 @@ ghost use Rattle.clap.specs.Words.{first_of, found_of, rows_of};
 ghost use Rattle.invocations.specs.Invocations.{IsNoQuestion, IsQuestion};
 ghost use Rattle.invocations.specs.TextWords.{scenario_by};
 
-use crate::files::Files;
 use crate::readers::flag_in;
 use crate::text_words::{files_in, task_words_in};
 use clap::ArgMatches;
+use options::Files;
 
 /// What an installer asks of a text.
 #[derive(Clone, Copy)]

@@ -10,9 +10,7 @@ ghost use Rattle.invocations.specs.TextWords.{given};
 ghost use Rattle.invocations.specs.LineWords.{AreLines, IsFirstFault};
 
 use crate::at_line::at_line;
-use crate::files::{LiveFiles, PlayFiles};
-use crate::inquiries::Inquiry;
-use crate::invocations::{Beside, Invocation, LiveOptions, RunSize};
+use crate::invocations::Invocation;
 use crate::line_words::{LineWordFault, LineWords, lines_of};
 use crate::questions::{Question, question_of, word_in};
 use crate::shows::{event_in, frame_words_in, look_in, play_in};
@@ -20,6 +18,7 @@ use crate::text_words::{code_words_in, files_in, task_words_in};
 use crate::word_fault::WordFault;
 use arrayvec::ArrayVec;
 use clap::ArgMatches;
+use options::{Beside, Inquiry, LiveFiles, LiveOptions, PlayFiles, RunSize};
 
 /// The invocation of what was found under a command's name.
 ///

@@ -10,7 +10,6 @@ ghost use Rattle.invocations.specs.Invocations.{watched_words};
 ghost use Rattle.invocations.specs.WatchedNames.{AreWatched, IsSeventeenth};
 
 use crate::expected_words::{ExpectedFault, ExpectedWords, expected_of};
-use crate::files::PlayFiles;
 use crate::invocations::{GivenFrames, Invocation, LookOptions, PlayShows};
 use crate::questions::word_in;
 use crate::readers::{flag_in, given_number_in, number_in, play_files_in, text_in};
@@ -18,6 +17,7 @@ use crate::watched_names::{WatchedFault, WatchedNames, watched_of};
 use crate::word_fault::WordFault;
 use arrayvec::ArrayVec;
 use clap::ArgMatches;
+use options::PlayFiles;
 
 /// What is asked by what was found under `play`.
 pub(crate) fn play_in<'a>(found: &ArgMatches<'a>) -> Result<Invocation<'a>, WordFault<'a>>

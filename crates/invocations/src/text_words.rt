@@ -6,10 +6,10 @@ ghost use Rattle.invocations.specs.TextWords.{AreCodeWords, AreNamed, AreTaskWor
 ghost use Rattle.invocations.specs.TextWords.{binding_alone, binding_by, names_file, task_alone};
 ghost use Rattle.invocations.specs.TextWords.{task_by};
 
-use crate::files::Files;
 use crate::questions::word_in;
 use crate::readers::text_in;
 use clap::ArgMatches;
+use options::Files;
 
 /// The files that a command reads, and the task that it is about, where its name is given.
 #[derive(Clone, Copy)]

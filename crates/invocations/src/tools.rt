@@ -1,7 +1,6 @@
 //! What is done at one line.
 
-use crate::files::LiveFiles;
-use crate::line_words::LineWord;
+use options::{LineWord, LiveFiles};
 
 /// What is done at one line, which may be silent for the milliseconds of its patience, 100 to
 /// 60,000.

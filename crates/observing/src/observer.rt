@@ -4,7 +4,7 @@ use crate::pages::Pages;
 use crate::storage::Storage;
 use crate::unsorted::{Told, Unsorted};
 use ilcompile::Setup;
-use invocations::Beside;
+use options::Beside;
 use std::alloc::{AllocError, Global};
 use std::sync::{Mutex, Wait};
 use turns::{Gate, Happened};

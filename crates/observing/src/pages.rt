@@ -12,7 +12,7 @@ use crate::storage::Storage;
 use crate::told::{tell, tell_turn};
 use crate::unsorted::Told;
 use ilcompile::Setup;
-use invocations::Beside;
+use options::Beside;
 use std::alloc::{AllocError, Global};
 
 /// What is written beside a building, by events in the order of the history.

@@ -29,9 +29,11 @@ mod plant;
 mod refusal;
 mod setups;
 mod shown_rows;
+mod start_fault;
 mod writes;
 
 pub use laws::fullness_never_stops;
 pub use open_fault::OpenFault;
 pub use plant::{Handed, LEAST_LIMIT, MOST_LIMIT, MOST_WORKERS, Order, Plant};
 pub use refusal::{CallError, CallRefusal};
+pub use start_fault::StartFault;

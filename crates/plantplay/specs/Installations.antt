@@ -9,8 +9,8 @@ use Rattle.ilcompile.specs.Loaded.{Loaded}
 use Rattle.plant.specs.Shown.{IsLimit, IsOpenFault, IsRoomy, opened}
 use Rattle.plantplay.specs.Stage.{Stage}
 use Rattle.plantplay.specs.declared.installation.Installation.{Installation}
-use Rattle.plantplay.specs.declared.opening.StartFault.{StartFault}
-use Rattle.plantplay.specs.declared.opening.StartFault.TheVariants.{Memory, Plant}
+use Rattle.plant.specs.declared.start_fault.StartFault.{StartFault}
+use Rattle.plant.specs.declared.start_fault.StartFault.TheVariants.{Memory, Plant}
 
 -- what became of a simulated bus
 abbrev pub sim_log : Simulated → BusLog

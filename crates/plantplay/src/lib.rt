@@ -26,5 +26,5 @@ pub use ending::{Ending, write_counts, write_globals};
 pub use installation::Installation;
 pub use laws::plays_are_by_scenario;
 pub use lines::FrameStyle;
-pub use opening::{StartFault, bus_of, open};
+pub use opening::{bus_of, open};
 pub use playing::{play, play_on, play_watched};

@@ -8,44 +8,12 @@ use crate::installation::Installation;
 use daliframe::BusNumber;
 use driving::IdlePlant;
 use ilcompile::Setup;
-use plant::{OpenFault, Plant};
+use plant::{Plant, StartFault};
 use simbus::{BusSetup, Scenario, SimBus};
 use std::alloc::{AllocError, Global};
-use std::fmt;
 
 /// One scan worker plays.
 const WORKERS: usize = 1;
-
-/// Why a plant on simulated buses can't start.
-#[derive(Clone, Copy)]
-pub enum StartFault {
-    /// The allocator had no memory for the simulated buses.
-    Memory,
-    /// The plant wasn't opened.
-    Plant(OpenFault),
-}
-
-impl fmt::Display for StartFault {
-    fn fmt<W: fmt::Write>(&self, f: &mut fmt::Formatter<W>) -> fmt::Result {
-        match self {
-            StartFault::Memory => write!(f, "no memory"),
-            StartFault::Plant(OpenFault::Memory) => write!(f, "cannot start 1"),
-            StartFault::Plant(OpenFault::BadCount) => write!(f, "cannot start 2"),
-            StartFault::Plant(OpenFault::Limit) => write!(f, "cannot start 7"),
-        }
-    }
-}
-
-impl From<AllocError> for StartFault {
-    ghost use Rattle.std.specs.Prelude.{◌≡◌};
-    ghost use Rattle.plantplay.specs.declared.opening.StartFault.TheVariants.{Memory};
-
-    ghost from_gives = { λ _ fault. fault ≡ Memory };
-
-    fn from(_refused: AllocError) -> Self {
-        StartFault::Memory
-    }
-}
 
 /// A plant of this setup and limit to which nothing has happened, with one scan worker, on the
 /// simulated buses of a scenario.

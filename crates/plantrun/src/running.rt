@@ -7,7 +7,7 @@ ghost use Rattle.plantrun.specs.Runs.{IsRun};
 
 use crate::staging::{Cast, cast_of, off_stage};
 use ilcompile::Setup;
-use plantplay::StartFault;
+use plant::StartFault;
 use simbus::{Scenario, Scene, ScriptedClock, SimBus};
 use std::alloc::Global;
 use std::marker::Brand;

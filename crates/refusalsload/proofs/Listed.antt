@@ -13,8 +13,8 @@ use Rattle.invocations.specs.ExpectedWords.{IsExpectedWord, IsFirstUnexpected}
 use Rattle.invocations.specs.LineWords.{ArePaths, IsFirstFault, IsLineWord, comma}
 use Rattle.invocations.specs.TextWords.{given}
 use Rattle.invocations.specs.declared.expected_words.ExpectedFault.TheVariants.{NoPair}
-use Rattle.invocations.specs.declared.expected_words.ExpectedWord.{ExpectedWord}
-use Rattle.invocations.specs.declared.line_words.LineWord.{LineWord}
+use Rattle.options.specs.declared.expected_word.ExpectedWord.{ExpectedWord}
+use Rattle.options.specs.declared.line_word.LineWord.{LineWord}
 use Rattle.invocations.specs.declared.line_words.LineWordFault.TheVariants.{Shared}
 use Rattle.std.specs.Borrow.{Bor}
 

@@ -6,13 +6,12 @@ ghost use Rattle.clap.specs.Words.{first_of, found_of, rows_of};
 ghost use Rattle.invocations.specs.ExpectedWords.{IsExpectedWord};
 ghost use Rattle.invocations.specs.Invocations.{expected_words, line_words};
 ghost use Rattle.invocations.specs.LineWords.{HasPath, IsLineWord, SharePath};
-ghost use Rattle.invocations.specs.declared.expected_words.ExpectedWord.{ExpectedWord as Expected};
-ghost use Rattle.invocations.specs.declared.line_words.LineWord.{LineWord as Line};
+ghost use Rattle.options.specs.declared.expected_word.ExpectedWord.{ExpectedWord as Expected};
+ghost use Rattle.options.specs.declared.line_word.LineWord.{LineWord as Line};
 
 use clap::ArgMatches;
-use invocations::{
-    ExpectedFault, Invocation, LineWord, LineWordFault, Tool, WordFault, invocation_of,
-};
+use invocations::{ExpectedFault, Invocation, LineWordFault, Tool, WordFault, invocation_of};
+use options::LineWord;
 
 /// `an_expected_name_may_be_empty`: a word that begins with `=` was taken.
 pub fn expected_name_has_bytes(found: &ArgMatches<'_>) -> Option<usize>

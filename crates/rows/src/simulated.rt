@@ -9,7 +9,7 @@ use crate::disk::RowsDisk;
 use building::{DownWatch, End, Site, SiteFault};
 use buslink::{Bus, Fault};
 use daliframe::{BusNumber, Frame, Frame24};
-use invocations::LineWord;
+use options::LineWord;
 use simbus::{BusSetup, SimBus, parse};
 use std::alloc::{AllocError, Global};
 use std::num::NonZeroU64;

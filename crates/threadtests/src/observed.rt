@@ -3,8 +3,8 @@
 
 use crate::house::House;
 use daliframe::BusNumber;
-use invocations::Beside;
 use observing::{BuildingObserver, Care, Storage};
+use options::Beside;
 use plantlive::live;
 use plantplay::bus_of;
 use simbus::{Scenario, ScriptedClock, SimBus};

@@ -2,8 +2,8 @@
 //! them, and whose date may be set back: how often each file is tried, and what it took.
 
 use crate::house::House;
-use invocations::Beside;
 use observing::{BuildingObserver, Care, Storage};
+use options::Beside;
 use std::alloc::Global;
 use std::io;
 use std::io::ErrorKind;

@@ -1,5 +1,5 @@
 use Rattle.std.proofs.Common.{ℕ, ◌<◌, slice_index_or}
-use Rattle.invocations.specs.declared.expected_words.ExpectedWord.{ExpectedWord}
+use Rattle.options.specs.declared.expected_word.ExpectedWord.{ExpectedWord}
 use Rattle.expectations.specs.Expected.{IsMet}
 use Rattle.expectations.proofs.meeting.are_met.Given as goal
 

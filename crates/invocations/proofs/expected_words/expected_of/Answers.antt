@@ -3,7 +3,7 @@ use Rattle.std.proofs.lemmas.Bool.Decides.{Decides-eqb}
 use Rattle.clap.specs.Words.{Text}
 use Rattle.invocations.proofs.ExpectedLists.{few_said, no_pair, one_more, too_many}
 use Rattle.invocations.specs.ExpectedWords.{AreExpected}
-use Rattle.invocations.specs.declared.expected_words.ExpectedWord.{ExpectedWord}
+use Rattle.options.specs.declared.expected_word.ExpectedWord.{ExpectedWord}
 use Rattle.invocations.proofs.expected_words.expected_of.Goals as goal
 
 -- what stands past the end

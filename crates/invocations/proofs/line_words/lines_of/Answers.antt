@@ -4,7 +4,7 @@ use Rattle.std.specs.List.{Any}
 use Rattle.clap.specs.Words.{Text}
 use Rattle.invocations.proofs.LineLists.{first_fault, one_more, room}
 use Rattle.invocations.specs.LineWords.{AreLines, SharePath}
-use Rattle.invocations.specs.declared.line_words.LineWord.{LineWord}
+use Rattle.options.specs.declared.line_word.LineWord.{LineWord}
 use Rattle.invocations.proofs.line_words.lines_of.Goals as goal
 
 any_of_same : (Meets : LineWord → Type 0) (ones others : List LineWord) → others ≡ ones → Any Meets others

@@ -1,7 +1,7 @@
 -- The files that an inquiry reads.
-use Rattle.invocations.specs.declared.files.Files.{Files}
-use Rattle.invocations.specs.declared.inquiries.Inquiry.{Inquiry}
-use Rattle.invocations.specs.declared.inquiries.Inquiry.TheVariants.{Check, Step}
+use Rattle.options.specs.declared.files.Files.{Files}
+use Rattle.options.specs.declared.inquiry.Inquiry.{Inquiry}
+use Rattle.options.specs.declared.inquiry.Inquiry.TheVariants.{Check, Step}
 
 -- those that the command line names, whatever the command
 abbrev pub files_of : Inquiry → Files

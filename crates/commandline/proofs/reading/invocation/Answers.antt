@@ -2,7 +2,7 @@ use Rattle.std.proofs.Common.{rules, true, inl, inr}
 use Rattle.clap.specs.Words.{found_of, rows_of}
 use Rattle.commandline.specs.CommandLine.{IsConflicting, IsLacking, WritesOverInput}
 use Rattle.commandline.proofs.Named.{fault_is_wrong}
-use Rattle.commandline.proofs.options.invocation.Goals as goal
+use Rattle.commandline.proofs.reading.invocation.Goals as goal
 
 pub returns-then-is_lacking-clause-refused : goal.returns-then-is_lacking-clause-refused
 returns-then-is_lacking-clause-refused c =

@@ -1,6 +1,6 @@
 use Rattle.commandline.specs.CommandLine.{desk_line}
 use Rattle.commandline.specs.Tables.{with_commands, with_words}
-use Rattle.commandline.proofs.options.trying.Goals as goal
+use Rattle.commandline.proofs.reading.trying.Goals as goal
 
 pub returns-clause-shape : goal.returns-clause-shape
 unfolding with_commands with_words

@@ -1,7 +1,7 @@
 use Rattle.std.proofs.Common.{rules, ◌≡◌, Err, map, string_bytes, inl}
 use Rattle.clap.specs.Words.{app_of, found_of, rows_of}
 use Rattle.commandline.proofs.Parsed.{answered, its_fault, named, no_fault, spelled}
-use Rattle.commandline.proofs.options.read.Goals as goal
+use Rattle.commandline.proofs.reading.read.Goals as goal
 
 pub returns-clause-taken : goal.returns-clause-taken
 returns-clause-taken c =

@@ -21,7 +21,7 @@ pub enum Inquiry<'a> {
 
 impl<'a> Inquiry<'a> {
     ghost use Rattle.std.specs.Prelude.{◌≡◌};
-    ghost use Rattle.invocations.specs.Inquiries.{files_of};
+    ghost use Rattle.options.specs.Inquiries.{files_of};
 
     /// The files that the command reads.
     pub fn files(self) -> Files<'a>

@@ -1,6 +1,6 @@
 use Rattle.commandline.specs.CommandLine.{program}
 use Rattle.commandline.specs.Tables.{with_commands, with_words}
-use Rattle.commandline.proofs.options.at_desk.Goals as goal
+use Rattle.commandline.proofs.reading.at_desk.Goals as goal
 
 pub returns-clause-shape : goal.returns-clause-shape
 unfolding with_commands with_words

@@ -1,6 +1,6 @@
 use Rattle.commandline.specs.CommandLine.{tool_line}
 use Rattle.commandline.specs.Tables.{with_commands, with_words}
-use Rattle.commandline.proofs.options.command.Goals as goal
+use Rattle.commandline.proofs.reading.command.Goals as goal
 
 pub returns : goal.returns
 unfolding with_commands with_words
