@@ -13,10 +13,11 @@ use Rattle.options.specs.declared.live_options.RunSize.{RunSize}
 use Rattle.options.specs.declared.line_word.LineWord.{LineWord}
 use Rattle.keeping.specs.KeptFiles.{KeptState}
 use Rattle.exits.specs.declared.exit_status.ExitStatus.{ExitStatus}
-use Rattle.exits.specs.declared.exit_status.ExitStatus.TheVariants.{Failed}
+use Rattle.exits.specs.declared.exit_status.ExitStatus.TheVariants.{Failed, Misused}
 use Rattle.exits.specs.ExitStatuses.{status_of_run, status_of_stop}
 use Rattle.building.specs.declared.buildings.Building.{Building}
 use Rattle.building.specs.declared.stops.LiveStop.{LiveStop}
+use Rattle.building.specs.declared.stops.LiveStop.TheVariants.{Lineup}
 use Rattle.building.specs.Buildings.{IsLiveStop, IsNotLived, IsOpened}
 use Rattle.commands.specs.declared.lived.LiveLeft.{LiveLeft}
 use Rattle.commands.specs.declared.living.Halted.{Halted}

@@ -15,10 +15,10 @@ use Rattle.exits.specs.declared.play_stop.PlayStop.{PlayStop}
 use Rattle.exits.specs.ExitStatuses.{status_of_play_stop, status_of_run}
 use Rattle.commands.specs.Plays.{PlayBytes, AreGiven, AreMeantBy, IsPlayStop, IsSetupOf}
 
--- The plant of the text's setup under the binding, which begins with kept values where a file of them is used, was run on the buses and the clock of the scenario that the bytes
--- spell, with so many scan workers and this limit. What it leaves: a legal history, in which nothing is open, in which
--- buses and clock sent, gave and took what it says, and which follows the scenario (IsRun); and each scan came to what
--- the source program means of the snapshot that it took.
+-- The plant of the text's setup under the binding, which begins with kept values where a file of them is used, was run
+-- on the buses and the clock of the scenario that the bytes spell, with this number of scan workers and this limit. What
+-- it leaves: a legal history, in which nothing is open, in which buses and clock sent, gave and took what it says, and
+-- which follows the scenario (IsRun); and each scan came to what the source program means of the snapshot that it took.
 pub record IsRunOut (bytes : PlayBytes) (size : RunSize) (left : ClosedParts Simulated ScriptedTicks) : Type 0 where
   pub setup : Loaded
   pub loaded : IsSetupOf bytes setup

@@ -1,25 +1,8 @@
-use Rattle.std.proofs.Common.{rules, ◌≡◌, ◌∙◌, ℕ, List, Option, Some, option_map, ap, subst, sym}
-use Rattle.keeping.specs.KeptFiles.{IsKeptFile, KeptState}
+use Rattle.std.proofs.Common.{rules, ◌≡◌, ◌∙◌, Some, option_map, ap, subst, sym}
 use Rattle.keeping.specs.Faults.{IsKeptFaultOrMemory}
 use Rattle.keeping.specs.declared.fault.KeptFault.TheVariants.{Empty, Torn}
-use Rattle.commands.specs.Beginnings.{AreUsed, IsFileOf}
 use Rattle.commands.proofs.UnusedValues.{begun_without, unusable_unused}
 use Rattle.commands.proofs.beginning.beginning_of.Goals as goal
-
-pub returns-in-Ok-clause-begun : goal.returns-in-Ok-clause-begun
-returns-in-Ok-clause-begun c =
-    c.in_ok-begun_with.ensures.begun c.args.binding.now c.args.text.now c.in_ok-setup.ensures.setup
-
-pub returns-in-Ok-clause-used : goal.returns-in-Ok-clause-used
-returns-in-Ok-clause-used c =
-    let kept = c.in-Ok.kept in
-    let bytes : c.deref.result.now ≡ c.in-Some.bytes.now.items = search rules in
-    let read : IsKeptFile c.in-Some.bytes.now.items kept =
-    subst (λ (b : List ℕ). IsKeptFile b kept) bytes c.in-Ok.ensures.kept in
-    let file : IsFileOf (option_map (λ bytes. bytes.now.items) c.args.file) kept =
-    subst (λ f. IsFileOf (option_map (λ bytes. bytes.now.items) f) kept) (sym c.in-Some.is) read in
-    subst (λ (k : Option KeptState). AreUsed (option_map (λ bytes. bytes.now.items) c.args.file) k)
-    (sym c.in_ok-begun_with.ensures.kept) file
 
 pub returns-in-Err-Empty-clause-begun : goal.returns-in-Err-Empty-clause-begun
 returns-in-Err-Empty-clause-begun c =

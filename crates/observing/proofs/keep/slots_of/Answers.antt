@@ -1,4 +1,5 @@
-use Rattle.std.proofs.Common.{◌<◌, length, arith}
+use Rattle.std.proofs.Common.{◌≡◌, ◌∙◌, ap, length, arith}
+use Rattle.ilplan.specs.Plans.{Planned}
 use Rattle.observing.proofs.SlotLists.{one_task_more}
 use Rattle.observing.proofs.keep.slots_of.Goals as goal
 
@@ -6,5 +7,7 @@ pub loop-task-preserved : goal.loop-task-preserved
 loop-task-preserved c =
     let tasks = c.args.plant.now.plant.plan.tasks in
     let turn = c.loop-task in
+    let many : length c.plan.result.now.tasks ≡ length tasks =
+    ap (λ (p : Planned). length p.tasks) (c.plan.ensures.value ∙ c.setup.ensures.plan) in
     rw c.in_ok-push.ensures.items
-    (one_task_more tasks turn.task _ _ (omega arith) turn.invariant c.in_ok-slot_values.ensures.each)
+    (one_task_more tasks turn.task _ _ (omega (arith, many)) turn.invariant c.in_ok-slot_values.ensures.each)
