@@ -1,3 +1,4 @@
+pub mod Attempting
 pub mod Logs
 pub mod LostFrames
 pub mod ShortTexts

@@ -2,10 +2,12 @@
 use Rattle.std.proofs.Common.{◌≡◌, ◌∙◌, ◌<◌, ◌≤◌, ℕ, List, [], ◌++◌, length, codes, Option, Some, None, Result, Ok, Err}
 use Rattle.std.proofs.Common.{IfOk, false, inl, inr, refl, sym, ap, arith, length-append, is_ok}
 use Rattle.std.specs.Fmt.{decimal}
-use Rattle.std.specs.Io.KnownBytes.{Consumes}
+use Rattle.std.specs.Io.KnownBytes.{Appends, Consumes}
+use Rattle.std.proofs.KnownBytes.{Appends-trans}
 use Rattle.linebus.specs.Exchanges.{IsExchange, LineState}
 use Rattle.linebus.specs.Greetings.{Ends, IsGreeted, ended, ends}
 use Rattle.linebus.specs.Lines.{IsMessage, fault_line, greeting, hear_line, line_end, numbered_answer}
+use Rattle.linebus.specs.Lines.{numbered_greeting}
 
 -- bytes that were read of a text begin it
 pub record BeginBy (text bytes : List ℕ) (left : Option (List ℕ)) : Type 0 where
@@ -71,3 +73,22 @@ pub no_greeting : {E : Type 0} (given : Result Ends E) (old : Ends) (text : List
     → length text < 16 → IfOk given (λ greeted. IsGreeted 7 old greeted) → is_ok given ≡ false
 no_greeting (Err fault) old text is short greeted = refl
 no_greeting (Ok new) old text is short greeted = absurd (too_short text old new is short greeted)
+
+-- a text that is shorter than the answer to the greeting lets the line be greeted in version 1 alone
+pub said_plainly : (text : List ℕ) (old new : Ends) → old.unread ≡ Some text → length text < 17 → IsGreeted 7 old new
+    → Appends old.written new.written ((numbered_greeting 7 ++ line_end) ++ (greeting ++ line_end))
+said_plainly text old new is short (inl greeted) =
+    let answer = greeted.answer in
+    let bytes = numbered_answer 7 ++ line_end in
+    let read = begin_by old.unread new.unread text (ended answer.passed ++ bytes) is answer.read in
+    absurd (omega (
+      arith,
+      ap length read.are,
+      length-append (ended answer.passed ++ bytes) read.rest,
+      length-append (ended answer.passed) bytes,
+      length-append (numbered_answer 7) line_end,
+      length-append (codes "gushewa 2 hears ") (decimal 7),
+    ))
+said_plainly text old new is short (inr greeted) =
+    Appends-trans old.written greeted.asked new.written (numbered_greeting 7 ++ line_end) (greeting ++ line_end)
+    greeted.request greeted.plain_request

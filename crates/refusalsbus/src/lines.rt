@@ -5,11 +5,12 @@ ghost use Rattle.std.specs.Prelude.{false, length, true};
 ghost use Rattle.std.specs.Io.KnownBytes.{Appends};
 ghost use Rattle.buslink.specs.BusLog.{mark_of_send};
 ghost use Rattle.linebus.specs.Exchanges.{IsAtMost};
-ghost use Rattle.linebus.specs.Lines.{line_end, send_line};
+ghost use Rattle.linebus.specs.Lines.{greeting, line_end, numbered_greeting};
+ghost use Rattle.linebus.specs.Lines.{send_line};
 
 use buslink::{Bus, Clock, Fault};
 use daliframe::{Frame, Frame24};
-use linebus::{Greeted, LineBus};
+use linebus::{Greeted, LineBus, Ungreeted};
 use std::alloc::AllocError;
 use std::io::{Read, Write};
 use transact::Reply;
@@ -144,4 +145,19 @@ pub fn short_text_is_no_greeting<R: Read + Drop, W: Write + Drop>(
     ensures { result ≡ false }
 {
     Greeted::greet(from, to, 7).is_ok()
+}
+
+/// `version_1_is_not_asked_for`: an interface that knows no numbered greeting was not greeted in
+/// version 1. A text of 16 bytes can say `fault` and then that greeting, and has no room for the other.
+pub fn refused_greeting_is_said_plainly<R: Read + Drop, W: Write + Drop>(
+    from: R,
+    to: W,
+    text: &[u8],
+) -> Result<Greeted<R, W>, Ungreeted<R, W>>
+    requires text { R.remaining from ≡ Some text.now }
+    requires short { length text.now < 17 }
+    ensures { IfOk result (λ greeted. Appends (W.contents to) greeted.written
+        ((numbered_greeting 7 ++ line_end) ++ (greeting ++ line_end))) }
+{
+    Greeted::greet(from, to, 7)
 }

@@ -3,7 +3,7 @@
 ghost use Rattle.std.specs.Prelude.{◌≡◌, Err, true};
 
 use std::alloc::Global;
-use wordlines::{LineCause, LineFault, Scenario, ScenarioFault, parse};
+use wordlines::{LineCause, LineFault, Scenario, ScenarioFault, Statement, parse};
 
 /// `gear_after_an_event_at_0_accepted`: after an event gear might be declared, before the first
 /// tick.
@@ -41,9 +41,46 @@ pub fn ticks_without_time_between_them_are_refused(alloc: Global) -> bool
     parse(alloc, b"ticks 0 5 0").is_err()
 }
 
-/// `group_taken_as_scene`: a scene might stand before the groups.
+/// A scene might stand before the groups.
 pub fn group_behind_a_scene_is_refused(alloc: Global) -> bool
     ensures { result ≡ true }
 {
     parse(alloc, b"gear 0 5 scene 1 9 group 1").is_err()
+}
+
+/// `group_taken_as_scene`: `scene 1` without a level put gear into group 1.
+pub fn scene_without_a_level_is_refused(alloc: Global) -> bool
+    ensures { result ≡ true }
+{
+    parse(alloc, b"gear 0 5 scene 1").is_err()
+}
+
+/// `scene_without_a_level_begins_at_0`: gear had a level in a scene of which nothing is said.
+pub fn scene_that_is_not_said_has_no_level(alloc: Global) -> u8
+    ensures { result ≡ 255 }
+{
+    match parse(alloc, b"gear 0 5") {
+        Ok(scenario) => match scenario.lines().first() {
+            Some(Statement::Gear { start, .. }) => start.scenes[15],
+            _ => 255,
+        },
+        Err(_) => 255,
+    }
+}
+
+/// `last_moment_of_ticks_left_out`, `one_tick_too_many`: a line of two ticks said one, or three.
+pub fn ticks_from_0_to_5_are_two(alloc: Global) -> usize
+    ensures { result ≡ 2 }
+{
+    match parse(alloc, b"ticks 0 5 5") {
+        Ok(scenario) => scenario.lines().len(),
+        Err(_) => 2,
+    }
+}
+
+/// `one_statement_over_the_most`: a line said one tick more than a scenario may have statements.
+pub fn one_tick_over_the_most_is_refused(alloc: Global) -> bool
+    ensures { result ≡ true }
+{
+    parse(alloc, b"ticks 0 149796 1").is_err()
 }

@@ -1,6 +1,7 @@
 //! Ready words: what is made of a word is not what another word would be made into.
 
-ghost use Rattle.std.specs.Prelude.{◌≡◌, ◌≢◌, ◌+◌, ◌*◌, ◌/◌, ◌%◌, [], ◌∷◌, IfOk, IfSome, slice_get};
+ghost use Rattle.std.specs.Prelude.{◌≡◌, ◌≢◌, ◌+◌, ◌*◌, ◌/◌, ◌%◌, [], ◌∷◌, IfOk, IfSome, replicate};
+ghost use Rattle.std.specs.Prelude.{slice_get};
 ghost use Rattle.refusalscode.specs.Codes.{level};
 
 use ilcode::{PackedWord, Word, WordOperand};
@@ -89,6 +90,21 @@ pub fn target_of_a_jump_is_kept(
     requires words { words.now ≡ Word.Jump Condition.Always 65536 ∷ [] }
     ensures { IfOk result (λ ready. IfSome (slice_get ready.items 0)
         (λ word. word.choice ≡ Choice.Jump → word.extra + 256 * word.number ≡ 65536)) }
+{
+    ready_words(alloc, types, words)
+}
+
+/// `slot_given_loses_its_high_part`: of the place that an argument is given to the high bits were
+/// left out.
+pub fn place_of_a_given_slot_is_kept(
+    alloc: Global,
+    types: &[IlType],
+    words: &[PackedWord],
+) -> Result<Vec<ReadyWord>, AllocError>
+    requires types { types.now ≡ replicate 17 level }
+    requires words { words.now ≡ Word.Give (WordOperand.Slot 0) 16 ∷ [] }
+    ensures { IfOk result (λ ready. IfSome (slice_get ready.items 0)
+        (λ word. word.choice ≡ Choice.GiveNumber → 16 * word.extra + word.number / 4096 ≡ 16)) }
 {
     ready_words(alloc, types, words)
 }

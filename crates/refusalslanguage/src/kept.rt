@@ -1,14 +1,17 @@
 //! Files of kept values.
 
-ghost use Rattle.std.specs.Prelude.{◌≡◌, ◌≢◌, [], ◌∷◌, IfErr, IfOk, OnOk, Some, codes, pos};
+ghost use Rattle.std.specs.Prelude.{◌≡◌, ◌≢◌, [], ◌∷◌, IfErr, IfOk, None, OnOk, Some, codes, pos, true};
+ghost use Rattle.ilplan.specs.Beginnings.{lists_of};
 ghost use Rattle.keeping.specs.Faults.{AreTorn};
 ghost use Rattle.keeping.specs.KeptFiles.{entry_of};
-ghost use Rattle.keeping.specs.KeptPlans.{global_firsts, left_out_of};
+ghost use Rattle.keeping.specs.KeptPlans.{global_name, own_name};
 
-use ilplan::Plan;
-use iltypes::Value;
+use ilplan::{Global as GlobalVariable, Location, Plan, Slot, SlotOwner, Task};
+use ilsource::Name;
+use iltypes::{IlType, Value};
 use keeping::{
-    Kept, KeptAt, KeptFault, KeptValue, LeftOut, first_values_of, kept_file, left_out_of,
+    FirstValues, Kept, KeptAt, KeptFault, KeptValue, LeftOut, first_values_of, kept_file,
+    kept_values, left_out_of,
 };
 use std::alloc::{AllocError, Global};
 
@@ -30,33 +33,136 @@ pub fn torn_file_is_refused(alloc: Global, bytes: &[u8]) -> Result<Kept, KeptFau
     Kept::parse(alloc, bytes)
 }
 
-/// `used_though_left_out`, `zero_is_a_value_of_each_type`: a value that no variable may begin with
-/// was not reported.
-pub fn value_that_no_variable_takes_is_left_out(
+/// `input_word_kept`, `zero_is_a_value_of_each_type`, `used_though_left_out`: a number was used for a
+/// variable that is TRUE or FALSE.
+pub fn value_of_another_type_is_left_out(
     alloc: Global,
     plan: &Plan,
+    lamp: GlobalVariable,
     kept: &Kept,
     value: &KeptValue,
 ) -> Result<Vec<LeftOut>, AllocError>
-    requires { left_out_of kept.now.values plan.now ≡ value.now ∷ [] }
+    requires globals { plan.now.globals ≡ lamp ∷ [] }
+    requires tasks { plan.now.tasks ≡ [] }
+    requires kind { (lamp.location ≡ None) × (lamp.value_type ≡ IlType.Bool) }
+    requires kept { kept.now.values ≡ value.now ∷ [] }
+    requires number { value.now.value ≡ Value.Int (pos 0) }
     ensures { IfOk result (λ left. left.items ≡ value.now ∷ []) }
 {
     left_out_of(alloc, plan, kept)
 }
 
-/// `a_count_is_not_kept`, `dropped_though_it_fits`: a variable began with its own first value,
-/// though another one was kept.
-pub fn kept_value_begins(
+/// `dropped_though_it_fits`: a variable began with its own first value, and a fitting one was kept
+/// under its name.
+pub fn kept_value_that_fits_is_used(
     alloc: Global,
     plan: &Plan,
+    lamp: GlobalVariable,
     kept: &Kept,
-    value: Value,
-) -> Result<Vec<Value>, AllocError>
-    requires { global_firsts plan.now kept.now.values ≡ value ∷ [] }
-    ensures { IfOk result (λ values. values.items ≡ value ∷ []) }
+    value: &KeptValue,
+) -> Result<FirstValues, AllocError>
+    requires globals { plan.now.globals ≡ lamp ∷ [] }
+    requires kind { (lamp.location ≡ None) × (lamp.value_type ≡ IlType.Bool) }
+    requires kept { kept.now.values ≡ value.now ∷ [] }
+    requires name { value.now.name ≡ global_name plan.now.text lamp }
+    requires lit { value.now.value ≡ Value.Bool true }
+    ensures { IfOk result (λ begun. begun.globals.items ≡ Value.Bool true ∷ []) }
 {
-    let begun = first_values_of(alloc, plan, kept)?;
-    Ok(begun.globals)
+    first_values_of(alloc, plan, kept)
+}
+
+/// `the_slot_of_a_global_variable_begins_by_itself`: a task saw another first value of a global
+/// variable than the others.
+pub fn slot_of_a_global_variable_begins_as_that(
+    alloc: Global,
+    plan: &Plan,
+    lamp: GlobalVariable,
+    task: &Task,
+    slot: Slot,
+    kept: &Kept,
+    value: &KeptValue,
+) -> Result<FirstValues, AllocError>
+    requires globals { plan.now.globals ≡ lamp ∷ [] }
+    requires kind { (lamp.location ≡ None) × (lamp.value_type ≡ IlType.Bool) }
+    requires tasks { plan.now.tasks ≡ task.now ∷ [] }
+    requires slots { task.now.slots ≡ slot ∷ [] }
+    requires variable { slot.variable ≡ SlotOwner.Global 0 }
+    requires kept { kept.now.values ≡ value.now ∷ [] }
+    requires name { value.now.name ≡ global_name plan.now.text lamp }
+    requires lit { value.now.value ≡ Value.Bool true }
+    ensures { IfOk result (λ begun. lists_of (λ values. values.items) begun.slots.items
+        ≡ (Value.Bool true ∷ []) ∷ []) }
+{
+    first_values_of(alloc, plan, kept)
+}
+
+/// `the_names_of_instance_and_variable_turned_round`: a variable of a program instance began with
+/// what was kept under the variable's name and then the instance's.
+pub fn variable_of_an_instance_begins_as_kept(
+    alloc: Global,
+    plan: &Plan,
+    task: &Task,
+    slot: Slot,
+    instance: Name,
+    name: Name,
+    kept: &Kept,
+    value: &KeptValue,
+) -> Result<FirstValues, AllocError>
+    requires tasks { plan.now.tasks ≡ task.now ∷ [] }
+    requires slots { task.now.slots ≡ slot ∷ [] }
+    requires variable { slot.variable ≡ SlotOwner.Own instance name }
+    requires kind { slot.value_type ≡ IlType.Bool }
+    requires kept { kept.now.values ≡ value.now ∷ [] }
+    requires name { value.now.name ≡ own_name plan.now.text instance name }
+    requires lit { value.now.value ≡ Value.Bool true }
+    ensures { IfOk result (λ begun. lists_of (λ values. values.items) begun.slots.items
+        ≡ (Value.Bool true ∷ []) ∷ []) }
+{
+    first_values_of(alloc, plan, kept)
+}
+
+/// `a_count_is_not_kept`: nothing was kept of a variable that is located at the count of a source.
+pub fn count_is_kept(
+    alloc: Global,
+    plan: &Plan,
+    count: GlobalVariable,
+    value: Value,
+    globals: &[Value],
+    slots: &[Vec<Value>],
+) -> Result<Vec<KeptValue>, AllocError>
+    requires globals { plan.now.globals ≡ count ∷ [] }
+    requires tasks { plan.now.tasks ≡ [] }
+    requires location { count.location ≡ Some (Location.Count 0 0) }
+    requires values { globals.now ≡ value ∷ [] }
+    requires slots { slots.now ≡ [] }
+    ensures { IfOk result (λ kept.
+        kept.items ≡ entry_of (global_name plan.now.text count) value ∷ []) }
+{
+    kept_values(alloc, plan, globals, slots)
+}
+
+/// `kept_of_another_instance`: a variable of a program instance was kept under the variable's name
+/// and then the instance's.
+pub fn variable_of_an_instance_is_kept(
+    alloc: Global,
+    plan: &Plan,
+    task: &Task,
+    slot: Slot,
+    instance: Name,
+    name: Name,
+    value: Value,
+    globals: &[Value],
+    slots: &[Vec<Value>],
+) -> Result<Vec<KeptValue>, AllocError>
+    requires globals { (plan.now.globals ≡ []) × (globals.now ≡ []) }
+    requires tasks { plan.now.tasks ≡ task.now ∷ [] }
+    requires own { task.now.slots ≡ slot ∷ [] }
+    requires variable { slot.variable ≡ SlotOwner.Own instance name }
+    requires slots { lists_of (λ values. values.items) slots.now ≡ (value ∷ []) ∷ [] }
+    ensures { IfOk result (λ kept.
+        kept.items ≡ entry_of (own_name plan.now.text instance name) value ∷ []) }
+{
+    kept_values(alloc, plan, globals, slots)
 }
 
 /// `date_and_moment_exchanged`, `an_empty_file_has_no_values`, `the_sum_forgets_the_order`: the

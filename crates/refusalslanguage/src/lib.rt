@@ -16,6 +16,7 @@
 pub mod blocks;
 pub mod declared;
 pub mod kept;
+pub mod lines;
 pub mod names;
 pub mod plans;
 pub mod roles;

@@ -18,6 +18,7 @@ pub mod ended;
 pub mod lines;
 pub mod lists;
 pub mod names;
+pub mod statuses;
 pub mod steps;
 pub mod texts;
 pub mod words;

@@ -99,7 +99,7 @@ pub silent_if_up : (p : Shown) (first log : BusLog) → HasNoFrame p 0 first log
 silent_if_up p first log none up =
     ⊎_elim (λ (down : is_down 0 p.history ≡ true). absurd (cc)) (λ silent. silent.none) none
 
-first_there : (logs : List BusLog) → 0 < length logs → slice_get logs 0 ≡ Some (log_of logs 0)
+pub first_there : (logs : List BusLog) → 0 < length logs → slice_get logs 0 ≡ Some (log_of logs 0)
 first_there [] there = absurd (omega (arith, there))
 first_there (log ∷ logs) there = refl
 

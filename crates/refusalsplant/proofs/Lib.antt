@@ -2,6 +2,9 @@ pub mod ComingUp
 pub mod Driven
 pub mod Filed
 pub mod Handed
+pub mod HeardFirst
+pub mod Played
 pub mod Refusing
 pub mod Results
 pub mod TaskTurns
+pub mod Turned

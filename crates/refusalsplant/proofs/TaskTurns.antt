@@ -1,8 +1,9 @@
 -- What is pending for a task, and which task goes next once one was scanned.
 use Rattle.std.proofs.Common.{◌≡◌, ◌≢◌, ⊎_elim, ℕ, ◌+◌, ◌-◌, ◌<◌, ◌≤◌, Bool, true, false, List, [], ◌∷◌, ◌++◌, drop}
-use Rattle.std.proofs.Common.{length, Option, Some, None, slice_get, refl, sym, ap, ◌∙◌, subst, arith, length-append}
+use Rattle.std.proofs.Common.{length, Option, Some, None, IfSome, slice_get, refl, sym, ap, ◌∙◌, subst, arith, length-append}
 use Rattle.std.specs.Prelude.{if◌then◌else◌, nat_lt}
 use Rattle.dalievent.specs.declared.messages.EventSource.{EventSource}
+use Rattle.dalievent.specs.Messages.{is_message}
 use Rattle.circular_buffer.specs.Buffer.{keep_last}
 use Rattle.ilimage.specs.Snapshots.{ScanStart}
 use Rattle.ilmachine.specs.Scans.{Scan}
@@ -53,6 +54,11 @@ other_bus a first source f h is none =
     ap (λ (b : Option Activator). ready b 2 (Heard 1 f ∷ h)) is
     ∙ ap (λ (events : List PendingEvent). nat_lt 0 (length events))
     (ap (λ (b : Option Activator). pending b 2 h) (sym is) ∙ none)
+
+-- the first message of a source that begins to count at 100 has the number 101
+pub first_count : (a : Option Activator) (source : EventSource) (f : ℕ) → a ≡ Some (Messages 0 source 100)
+    → is_message source f ≡ true → IfSome (slice_get (pending a 0 (Heard 0 f ∷ [])) 0) (λ e. e.count ≡ 101)
+first_count a source f is message = rw (is, message) refl
 
 -- ---- which task goes next
 

@@ -14,10 +14,13 @@
 //! [`bus_that_is_up_does_not_come_up`]: coming_up::bus_that_is_up_does_not_come_up
 #![tactic(auto)]
 
+pub mod bus_turns;
 pub mod buses;
 pub mod coming_up;
 pub mod links;
 pub mod locks;
 pub mod plants;
+pub mod plays;
+pub mod runs;
 pub mod shares;
 pub mod tasks;

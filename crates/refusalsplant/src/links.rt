@@ -1,11 +1,13 @@
 //! What is sent and heard on buses, and what the history says of that.
 
-ghost use Rattle.std.specs.Prelude.{◌≡◌, ◌<◌, [], Err, IfOk, OnOk, false, length, map, true};
-ghost use Rattle.std.specs.Prelude.{vec_len};
-ghost use Rattle.buslink.specs.BusLog.{one_more};
+ghost use Rattle.std.specs.Prelude.{◌≡◌, ◌<◌, ◌++◌, [], ◌∷◌, Err, IfOk, List, OnOk, false, length};
+ghost use Rattle.std.specs.Prelude.{map, true, vec_len};
+ghost use Rattle.buslink.specs.BusLog.{HasHeardAll, one_more};
 ghost use Rattle.driving.specs.Links.{AreLinked, log_of};
 ghost use Rattle.driving.specs.Open.{HasNothingOpen};
+ghost use Rattle.plantevents.specs.declared.event.Event.{Event};
 ghost use Rattle.plantevents.specs.Histories.{is_down, sent_in};
+ghost use Rattle.refusalsplant.specs.Hearings.{IsOfHearing};
 
 use buslink::Bus;
 use driving::{Halt, Observer, has_down, send_next, settle};
@@ -130,4 +132,26 @@ pub fn asking_changes_no_count<B: Bus>(line: &mut B) -> bool
     ensures mends { (B.log line.new).mends ≡ (B.log line.old).mends }
 {
     line.mend()
+}
+
+/// `nothing_is_heard_first`: a task was scanned, and a frame that had come on bus 0 was not heard
+/// yet. `buses_hear_in_reverse`: another bus was heard before it.
+pub fn bus_0_is_heard_first<B: Bus, O: Observer<B>>(
+    alloc: Global,
+    plant: &mut Plant,
+    lines: &mut Vec<B>,
+    observer: &mut O,
+    firsts: &Vec<B>,
+) -> Result<(), Halt>
+    requires known { 0 < plant.old.plant.plan.buses }
+    requires workers { 0 < plant.old.plant.workers }
+    requires count { vec_len lines.old ≡ plant.old.plant.plan.buses }
+    requires open { HasNothingOpen plant.old }
+    requires linked { AreLinked (map B.log firsts.now.items) plant.old.history (map B.log lines.old.items) }
+    requires up { is_down 0 plant.old.history ≡ false }
+    requires comes { ¬ HasHeardAll (log_of (map B.log lines.old.items) 0) }
+    ensures { OnOk result ((e : Event) (later : List Event)
+        → plant.new.history ≡ later ++ e ∷ plant.old.history → IsOfHearing 0 e) }
+{
+    settle(alloc, plant, lines, observer)
 }

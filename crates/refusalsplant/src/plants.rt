@@ -5,13 +5,15 @@ ghost use Rattle.ilimage.specs.Images.{Global as GlobalVariable, variable_in};
 ghost use Rattle.plantevents.specs.Plants.{activator, layout, location, tries_of, trigger_of};
 ghost use Rattle.plantevents.specs.Readiness.{pending};
 ghost use Rattle.plantevents.specs.Variables.{value, whole};
+ghost use Rattle.plantevents.specs.Waiting.{waiting};
 ghost use Rattle.plant.specs.Matches.{IsOwnScan};
 
+use gearcmd::Request;
 use ilcompile::Setup;
 use ilmachine::ScanResult;
 use ilplan::Location;
-use plant::{CallError, OpenFault, Order, Plant};
-use plantevents::PendingEvent;
+use plant::{CallError, CallRefusal, Handed, OpenFault, Order, Plant};
+use plantevents::{Origin, PendingEvent};
 use std::alloc::Global;
 use transact::Report;
 
@@ -88,4 +90,15 @@ pub fn sixteen_buses_have_a_short_history(alloc: Global, setup: Setup) -> Result
     ensures { IfErr result (λ fault. fault ≡ OpenFault.Memory) }
 {
     Plant::open(alloc, setup, 2, 100)
+}
+
+/// `levels_before_requests`: by what is handed out a level went before a request of its class.
+pub fn request_is_handed_before_levels(
+    plant: &mut Plant,
+    request: Request,
+) -> Result<Handed, CallRefusal>
+    requires { slice_get (waiting plant.old.plant 0 2 plant.old.history) 0 ≡ Some request }
+    ensures { IfOk result (λ handed. handed.origin ≡ Origin.Queued request) }
+{
+    plant.hand(0)
 }

@@ -1,18 +1,22 @@
 //! What is pending for tasks, and which task goes next.
 
-ghost use Rattle.std.specs.Prelude.{◌≡◌, ◌≢◌, ◌+◌, ◌<◌, ◌≤◌, ◌^◌, [], ◌∷◌, Some, false, length, true};
+ghost use Rattle.std.specs.Prelude.{◌≡◌, ◌≢◌, ◌+◌, ◌<◌, ◌≤◌, ◌^◌, [], ◌∷◌, All, IfOk, IfSome, Some};
+ghost use Rattle.std.specs.Prelude.{false, length, true};
+ghost use Rattle.limits.specs.Limits.{most_tasks};
+ghost use Rattle.dalievent.specs.Messages.{is_message};
 ghost use Rattle.plantevents.specs.Choices.{is_free};
 ghost use Rattle.plantevents.specs.Histories.{moment};
 ghost use Rattle.plantevents.specs.Plants.{activator, priority};
 ghost use Rattle.plantevents.specs.Readiness.{activates, last_take, pending, since};
-ghost use Rattle.taskset.specs.TaskSets.{Follows};
+ghost use Rattle.taskset.specs.TaskSets.{AreSetups, Follows, HasInterval};
 ghost use Rattle.refusalsplant.specs.Turns.{scanned};
 
 use dalievent::EventSource;
 use daliframe::Frame24;
 use plant::Plant;
 use plantevents::{Activator, NotedResult, NotedSnapshot, PendingEvent};
-use taskset::Tasks;
+use std::alloc::{AllocError, Global};
+use taskset::{TaskSetup, Tasks};
 
 /// `the_newest_event_comes_first`: of two events of a task the newest was taken, so that its
 /// information was scanned twice, and that of the oldest never.
@@ -69,7 +73,8 @@ pub fn cyclic_task_is_ready_once_in_an_interval(tasks: &Tasks, plant: &Plant) ->
 }
 
 /// `task_keeps_its_place_after_its_take`: a task that is ready again once it was scanned stood in
-/// front of one that has been ready for longer.
+/// front of one that has been ready for longer. `ones_own_scan_is_no_break`: so it did by `since`
+/// itself, to which a Take of the task was no break.
 pub fn scanned_task_goes_behind(
     tasks: &mut Tasks,
     plant: &Plant,
@@ -130,4 +135,25 @@ pub fn message_of_another_bus_activates_nothing(
 {
     tasks.note_frame(place, 1, frame);
     tasks.ready(2)
+}
+
+/// `a_count_begins_at_zero`: the count of a source that begins at 100 was 1 at its first message.
+pub fn count_goes_on_from_its_first_value(
+    alloc: Global,
+    setups: &[TaskSetup],
+    plant: &Plant,
+    frame: Frame24,
+    source: EventSource,
+) -> Result<Option<PendingEvent>, AllocError>
+    requires few { length setups.now ≤ most_tasks }
+    requires some { 0 < length setups.now }
+    requires intervals { All (λ s. HasInterval s.activator) setups.now }
+    requires setups { AreSetups plant.now.plant setups.now }
+    requires bus { activator plant.now.plant 0 ≡ Some (Activator.Messages 0 source 100) }
+    requires message { is_message source frame ≡ true }
+    ensures { IfOk result (λ event. IfSome event (λ e. e.count ≡ 101)) }
+{
+    let mut tasks = Tasks::new(alloc, setups)?;
+    tasks.note_frame(0, 0, frame);
+    Ok(tasks.first_pending(0))
 }

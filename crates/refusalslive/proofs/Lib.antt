@@ -1,0 +1,4 @@
+pub mod Installed
+pub mod Opened
+pub mod Results
+pub mod SilentBuses

@@ -1,0 +1,91 @@
+//! A building before it runs: its lines, its clock, and what stands against it.
+
+ghost use Rattle.std.specs.Prelude.{◌≡◌, ◌<◌, IfOk, IfSome, OnOk, Some, codes, false};
+ghost use Rattle.std.specs.Prelude.{option_map, slice_get};
+ghost use Rattle.std.specs.Arc.{arc_value};
+ghost use Rattle.building.specs.Lineups.{HasNoLine};
+
+use building::{Building, LiveStop, Site, open};
+use ilcompile::Setup;
+use options::{LineWord, LiveOptions};
+use plant::{OpenFault, StartFault};
+use std::alloc::Global;
+
+/// `all_buses_have_the_number_0`: the second bus had the number 0 too.
+pub fn second_bus_has_number_1<'a, S: Site>(
+    alloc: Global,
+    site: &S,
+    setup: Setup,
+    lines: &[LineWord<'a>],
+    options: &LiveOptions,
+) -> Result<Building<S::Line, S::Clock>, LiveStop<'a>>
+    ensures { IfOk result (λ building.
+        IfSome (slice_get building.buses.items 1) (λ bus. (S.Line.log bus).number ≡ 1)) }
+{
+    open(alloc, site, setup, lines, options)
+}
+
+/// `the_period_is_three_times_as_long`, `the_clock_has_another_period`, `it_runs_twice_as_long`,
+/// `the_stop_file_is_not_looked_for`: the clock had another period or end, or no path.
+pub fn clock_has_the_period_and_the_end_that_are_asked_for<'a, S: Site>(
+    alloc: Global,
+    site: &S,
+    setup: Setup,
+    lines: &[LineWord<'a>],
+    options: &LiveOptions,
+) -> Result<Building<S::Line, S::Clock>, LiveStop<'a>>
+    requires period { options.now.period ≡ Some 20 }
+    requires seconds { options.now.seconds ≡ Some 5 }
+    requires stop { option_map (λ path. path.now) options.now.stop ≡ Some (codes "stop") }
+    ensures { IfOk result
+        (λ building. S.is_timed site.now building.clock 20 5000 (Some (codes "stop"))) }
+{
+    open(alloc, site, setup, lines, options)
+}
+
+/// `it_ends_where_a_bus_goes_down_though_that_is_not_asked`: a building ended where a bus went down,
+/// though it was to stay.
+pub fn building_stays_where_no_end_is_asked_for<'a, S: Site>(
+    alloc: Global,
+    site: &S,
+    setup: Setup,
+    lines: &[LineWord<'a>],
+    options: &LiveOptions,
+) -> Result<Building<S::Line, S::Clock>, LiveStop<'a>>
+    requires { options.now.ends_on_down ≡ false }
+    ensures { IfOk result (λ building. (arc_value building.watch).ends ≡ false) }
+{
+    open(alloc, site, setup, lines, options)
+}
+
+/// `bus_0_needs_no_line`: a building was opened in which no line is that of bus 0.
+pub fn bus_without_a_line_is_refused<'a, S: Site>(
+    alloc: Global,
+    site: &S,
+    setup: Setup,
+    lines: &[LineWord<'a>],
+    options: &LiveOptions,
+) -> Result<Building<S::Line, S::Clock>, LiveStop<'a>>
+    requires buses { 0 < setup.plan.buses }
+    requires line { HasNoLine 0 lines.now }
+    ensures { OnOk result ⊥ }
+{
+    open(alloc, site, setup, lines, options)
+}
+
+/// `few_events_for_many_buses_are_let_through`: of a limit that is too low for so many buses it was
+/// said that their number is not the plan's.
+pub fn low_limit_is_no_bad_count<'a, S: Site>(
+    alloc: Global,
+    site: &S,
+    setup: Setup,
+    lines: &[LineWord<'a>],
+    options: &LiveOptions,
+) -> bool
+    ensures { result ≡ false }
+{
+    matches!(
+        open(alloc, site, setup, lines, options),
+        Err(LiveStop::Start(StartFault::Plant(OpenFault::BadCount)))
+    )
+}
