@@ -1,15 +1,35 @@
 //! A building before it runs: its lines, its clock, and what stands against it.
 
-ghost use Rattle.std.specs.Prelude.{◌≡◌, ◌<◌, IfOk, IfSome, OnOk, Some, codes, false};
+ghost use Rattle.std.specs.Prelude.{◌≡◌, ◌<◌, All, IfOk, IfSome, OnOk, Some, codes, false};
 ghost use Rattle.std.specs.Prelude.{option_map, slice_get};
 ghost use Rattle.std.specs.Arc.{arc_value};
+ghost use Rattle.std.specs.List.{Contains};
 ghost use Rattle.building.specs.Lineups.{HasNoLine};
+ghost use Rattle.options.specs.declared.line_word.LineWord.{LineWord as Line};
 
 use building::{Building, LiveStop, Site, open};
 use ilcompile::Setup;
 use options::{LineWord, LiveOptions};
 use plant::{OpenFault, StartFault};
 use std::alloc::Global;
+
+/// `each_bus_has_the_line_of_bus_0`, `two_lines_are_exchanged`, `the_patience_is_doubled`: bus 1 had
+/// the line of another bus, or another patience.
+pub fn bus_1_has_the_line_that_names_it<'a, S: Site>(
+    alloc: Global,
+    site: &S,
+    setup: Setup,
+    lines: &[LineWord<'a>],
+    options: &LiveOptions,
+) -> Result<Building<S::Line, S::Clock>, LiveStop<'a>>
+    ghost line: { Line }
+    requires line { All (λ word. word.bus ≡ 1 → word ≡ line) lines.now }
+    requires patience { options.now.patience ≡ 700 }
+    ensures { IfOk result (λ building.
+        IfSome (slice_get building.buses.items 1) (λ bus. S.is_of site.now bus line 700)) }
+{
+    open(alloc, site, setup, lines, options)
+}
 
 /// `all_buses_have_the_number_0`: the second bus had the number 0 too.
 pub fn second_bus_has_number_1<'a, S: Site>(
@@ -54,6 +74,23 @@ pub fn building_stays_where_no_end_is_asked_for<'a, S: Site>(
 ) -> Result<Building<S::Line, S::Clock>, LiveStop<'a>>
     requires { options.now.ends_on_down ≡ false }
     ensures { IfOk result (λ building. (arc_value building.watch).ends ≡ false) }
+{
+    open(alloc, site, setup, lines, options)
+}
+
+/// `a_line_of_no_bus_is_let_through`: of two buses the third might have a line.
+pub fn line_of_no_bus_is_refused<'a, S: Site>(
+    alloc: Global,
+    site: &S,
+    setup: Setup,
+    lines: &[LineWord<'a>],
+    options: &LiveOptions,
+) -> Result<Building<S::Line, S::Clock>, LiveStop<'a>>
+    ghost line: { Line }
+    requires buses { setup.plan.buses ≡ 2 }
+    requires line { Contains lines.now line }
+    requires bus { line.bus ≡ 2 }
+    ensures { OnOk result ⊥ }
 {
     open(alloc, site, setup, lines, options)
 }

@@ -1,3 +1,4 @@
+pub mod CommandLines
 pub mod Dotted
 pub mod Expecting
 pub mod Listed
