@@ -23,11 +23,11 @@ use Rattle.building.specs.Sites.{AreNewBuses, AreReached, IsNewClock, IsPeriodFo
 -- ---- before it runs
 
 -- The building of this setup: each bus has its line, the one of the word that names the bus, with the patience that was
--- asked for, and nothing was sent or heard on it. The clock gave no moment yet; it has the period and the end that were
--- asked for, and ends where a bus goes down if that is.
+-- asked for, and nothing was sent or heard on it. The clock gave no moment yet; it begins at this one, has the period and
+-- the end that were asked for, and ends where a bus goes down if that is.
 pub record IsOpened {B C : Type 0} (bus_log : B → BusLog) (clock_log : C → ClockLog)
-    (is_of : B → LineWord → ℕ → Type 0) (is_timed : C → ℕ → ℕ → Option (List ℕ) → Type 0) (of : Loaded)
-    (words : List LineWord) (options : LiveOptions) (building : Building B C) : Type 0 where
+    (is_of : B → LineWord → ℕ → Type 0) (is_timed : C → ℕ → ℕ → ℕ → Option (List ℕ) → Type 0) (of : Loaded)
+    (words : List LineWord) (options : LiveOptions) (begins : ℕ) (building : Building B C) : Type 0 where
   pub setup : building.setup ≡ of
   pub size : building.size ≡ options.size
   pub lines : AreLinesOf of.plan.buses words
@@ -35,7 +35,7 @@ pub record IsOpened {B C : Type 0} (bus_log : B → BusLog) (clock_log : C → C
   pub reached : AreReached is_of words options.patience building.buses.items
   pub clock : IsNewClock (clock_log building.clock)
   pub period : IsPeriodFor of.plan options.period (non_zero_u64_get building.period)
-  pub timed : is_timed building.clock (non_zero_u64_get building.period) (moment_of_end options.seconds)
+  pub timed : is_timed building.clock (non_zero_u64_get building.period) begins (moment_of_end begins options.seconds)
       (option_map (λ path. path.now) options.stop)
   -- it ends where a bus goes down exactly if that is asked for
   pub watch : (arc_value building.watch).ends ≡ options.ends_on_down

@@ -1,5 +1,5 @@
 -- Buses and a clock that were just made: nothing became of them yet.
-use Rattle.std.specs.Prelude.{◌≡◌, ◌^◌, ◌-◌, ◌*◌, ℕ, [], List, Option, Some, None, length, max, option_map}
+use Rattle.std.specs.Prelude.{◌≡◌, ◌^◌, ◌+◌, ◌-◌, ◌*◌, ℕ, [], List, Option, Some, None, length, max, min, option_map}
 use Rattle.buslink.specs.BusLog.{BusLog}
 use Rattle.buslink.specs.ClockLog.{ClockLog}
 use Rattle.buslink.specs.Each.{Each}
@@ -44,7 +44,12 @@ abbrev pub IsPeriodFor : Planned → Option ℕ → ℕ → Type 0
 IsPeriodFor plan (Some asked) period = period ≡ max asked 1
 IsPeriodFor plan None period = IsPeriod plan period
 
--- the last moment of the clock, in milliseconds: the end of the seconds that were asked for, else there is none
-abbrev pub moment_of_end : Option ℕ → ℕ
-moment_of_end (Some seconds) = seconds * 1000
-moment_of_end None = 2 ^ 64 - 1
+-- no clock gives a moment after this one
+abbrev pub last_moment : ℕ
+last_moment = 2 ^ 64 - 1
+
+-- the last moment of a clock that begins at this one, in milliseconds: the end of the seconds that were asked for, else
+-- there is none
+abbrev pub moment_of_end : ℕ → Option ℕ → ℕ
+moment_of_end begins (Some seconds) = min (begins + seconds * 1000) last_moment
+moment_of_end begins None = last_moment

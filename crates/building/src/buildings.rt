@@ -45,8 +45,8 @@ pub struct Building<B: Bus, C: Clock> {
 }
 
 /// Has the line of each bus of a setup opened and its interface greeted, all side by side, waits
-/// until each has greeted or failed, a second at most, and makes the clock. A line that is not there
-/// is a bus that fails, and goes down.
+/// until each has greeted or failed, a second at most, and makes the clock, at which it is `begins`
+/// then. A line that is not there is a bus that fails, and goes down.
 ///
 /// # Errors
 ///
@@ -58,9 +58,10 @@ pub fn open<'a, S: Site>(
     setup: Setup,
     lines: &[LineWord<'a>],
     options: &LiveOptions,
+    begins: u64,
 ) -> Result<Building<S::Line, S::Clock>, LiveStop<'a>>
     ensures opened { IfOk result (IsOpened S.Line.log S.Clock.log (S.is_of site.now)
-        (S.is_timed site.now) setup lines.now options.now) }
+        (S.is_timed site.now) setup lines.now options.now begins) }
     ensures stop { IfErr result (IsLiveStop setup lines.now options.now.size) }
 {
     let buses = setup.plan().buses();
@@ -76,7 +77,7 @@ pub fn open<'a, S: Site>(
     let opened = open_lines(alloc, site, lines, buses, options.patience, &watch)?;
     site.settle(opened.as_slice());
     let period = period_in(options, &setup);
-    let clock = clock_of(alloc, site, period, options, &watch)?;
+    let clock = clock_of(alloc, site, period, options, begins, &watch)?;
     Ok(Building {
         setup,
         buses: opened,
@@ -101,37 +102,39 @@ fn period_in(options: &LiveOptions, setup: &Setup) -> NonZeroU64
     }
 }
 
-/// The clock of a building, which ends as the options say.
+/// The clock of a building, which begins at this moment and ends as the options say.
 fn clock_of<S: Site>(
     alloc: Global,
     site: &S,
     period: NonZeroU64,
     options: &LiveOptions,
+    begins: u64,
     watch: &Arc<DownWatch>,
 ) -> Result<S::Clock, LiveStop<'static>>
     ensures new { IfOk result (λ clock. IsNewClock (S.Clock.log clock)) }
     ensures timed { IfOk result (λ clock. S.is_timed site.now clock (non_zero_u64_get period)
-        (moment_of_end options.now.seconds) (option_map (λ path. path.now) options.now.stop)) }
+        begins (moment_of_end begins options.now.seconds) (option_map (λ path. path.now) options.now.stop)) }
     ensures stop { IfErr result (λ stop. (stop ≡ NoClock) ⊎ (stop ≡ Start Memory)) }
 {
     let end = End {
-        until: last_moment(options),
+        until: last_moment(options, begins),
         stop: options.stop,
         watch: watch.clone()?,
     };
-    match site.clock(alloc, period, end) {
+    match site.clock(alloc, period, begins, end) {
         Ok(clock) => Ok(clock),
         Err(SiteFault::Memory) => Err(LiveStop::Start(StartFault::Memory)),
         Err(SiteFault::Failed) => Err(LiveStop::NoClock),
     }
 }
 
-/// The last moment of the clock, in milliseconds: without an end that was asked for it has none.
-fn last_moment(options: &LiveOptions) -> u64
-    ensures { result ≡ moment_of_end options.now.seconds }
+/// The last moment of a clock that begins at this one, in milliseconds: without an end that was
+/// asked for it has none.
+fn last_moment(options: &LiveOptions, begins: u64) -> u64
+    ensures { result ≡ moment_of_end begins options.now.seconds }
 {
     match options.seconds {
-        Some(seconds) => u64::from(seconds) * 1000,
+        Some(seconds) => begins.saturating_add(u64::from(seconds) * 1000),
         None => u64::MAX,
     }
 }

@@ -53,7 +53,8 @@ where
     ghost is_of = { λ _ bus word patience. ArePathsOf word (string_bytes bus.set.opener.from)
         (option_map string_bytes bus.set.opener.to) × (bus.set.patience ≡ patience) };
 
-    ghost is_timed = { λ _ clock period until stop. (clock.period ≡ period) × (clock.until ≡ until)
+    ghost is_timed = { λ _ clock period begins until stop. (clock.period ≡ period)
+        × (clock.begins ≡ begins) × (clock.until ≡ until)
         × (option_map string_bytes clock.stop.path ≡ stop) };
 
     fn line<'a>(
@@ -124,6 +125,7 @@ where
         &self,
         alloc: Global,
         period: NonZeroU64,
+        begins: u64,
         end: End<'a>,
     ) -> Result<Self::Clock, SiteFault> {
         let End { until, stop, watch } = end;
@@ -135,7 +137,7 @@ where
             path,
             watch,
         };
-        LiveClock::new(self.rt, period, until, stop).map_err(|_| SiteFault::Failed)
+        LiveClock::new(self.rt, period, begins, until, stop).map_err(|_| SiteFault::Failed)
     }
 }
 

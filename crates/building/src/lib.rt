@@ -10,7 +10,7 @@
 //! of each bus, and `IsOpened` (specs/Buildings.antt), what a building is before it runs.
 //!
 //! ```text
-//! let building = open(alloc, &site, setup, &lines, &options)?;
+//! let building = open(alloc, &site, setup, &lines, &options, 0)?;
 //! let lived = building.go(rt, alloc)?;
 //! ```
 #![tactic(auto)]

@@ -42,9 +42,9 @@ pub trait Site {
     // milliseconds.
     ghost is_of: { Self → Self.Line → LineWord → ℕ → Type 0 };
 
-    // The clock gives a moment each so many milliseconds, none after this one, and none once there
-    // is a file at this path.
-    ghost is_timed: { Self → Self.Clock → ℕ → ℕ → Option (List ℕ) → Type 0 };
+    // The clock gives a moment each so many milliseconds, none before the first of these two, none
+    // after the second, and none once there is a file at this path.
+    ghost is_timed: { Self → Self.Clock → ℕ → ℕ → ℕ → Option (List ℕ) → Type 0 };
 
     /// The bus behind a line, which begins to be opened and greeted beside: until it has greeted each
     /// call fails. Nothing was sent or heard on the bus. The interface may be silent for so many
@@ -85,7 +85,8 @@ pub trait Site {
         ensures of { IfOk result (λ bus. is_of self.now bus line.entry patience) }
         ensures refused { IfErr result (refuses self.now line.entry) };
 
-    /// The clock, which gives a moment each so many milliseconds, until the end. It gave none yet.
+    /// The clock, at which it is `begins` now, and which gives a moment each so many milliseconds,
+    /// until the end. It gave none yet.
     ///
     /// # Errors
     ///
@@ -94,10 +95,11 @@ pub trait Site {
         &self,
         alloc: Global,
         period: NonZeroU64,
+        begins: u64,
         end: End<'a>,
     ) -> Result<Self::Clock, SiteFault>
         ensures new { IfOk result (λ clock. IsNewClock (Self.Clock.log clock)) }
         ensures timed { IfOk result (λ clock. is_timed self.now clock
-            (non_zero_u64_get period) end.entry.until
+            (non_zero_u64_get period) begins end.entry.until
             (option_map (λ path. path.now) end.entry.stop)) };
 }

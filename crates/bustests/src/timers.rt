@@ -73,7 +73,7 @@ fn it_sleeps_to_the_next_period(rt: HostRuntime) -> Result<(), Fail> {
     let timer = FakeTimer {
         millis: Cell::new(Some(7000)),
     };
-    let mut clock = LiveClock::new(&timer, period().ok_or("a period")?, 1000, NoStop)?;
+    let mut clock = LiveClock::new(&timer, period().ok_or("a period")?, 0, 1000, NoStop)?;
     for (passed, wanted) in MOMENTS {
         timer.pass(passed);
         let moment = clock.now();
@@ -88,7 +88,13 @@ fn it_ends_when_it_is_asked_to(rt: HostRuntime) -> Result<(), Fail> {
         millis: Cell::new(Some(0)),
     };
     let flag = Cell::new(false);
-    let mut clock = LiveClock::new(&timer, period().ok_or("a period")?, 1000, StopFlag(&flag))?;
+    let mut clock = LiveClock::new(
+        &timer,
+        period().ok_or("a period")?,
+        0,
+        1000,
+        StopFlag(&flag),
+    )?;
     assert!(rt; clock.now() == Some(0));
     flag.set(true);
     assert!(rt; clock.now().is_none());
@@ -100,10 +106,10 @@ fn it_ends_where_its_timer_fails(rt: HostRuntime) -> Result<(), Fail> {
     let timer = FakeTimer {
         millis: Cell::new(Some(0)),
     };
-    let mut clock = LiveClock::new(&timer, period().ok_or("a period")?, 1000, NoStop)?;
+    let mut clock = LiveClock::new(&timer, period().ok_or("a period")?, 0, 1000, NoStop)?;
     assert!(rt; clock.now() == Some(0));
     timer.millis.set(None);
     assert!(rt; clock.now().is_none());
-    assert!(rt; LiveClock::new(&timer, period().ok_or("a period")?, 1000, NoStop).is_err());
+    assert!(rt; LiveClock::new(&timer, period().ok_or("a period")?, 0, 1000, NoStop).is_err());
     Ok(())
 }

@@ -12,7 +12,7 @@ use Rattle.options.specs.declared.line_word.LineWord.{LineWord}
 use Rattle.building.specs.declared.buildings.Building.{Building}
 use Rattle.building.specs.Buildings.{IsOpened}
 use Rattle.commands.specs.declared.beginning.Beginning.{Beginning}
-use Rattle.commands.specs.Beginnings.{HasBegun}
+use Rattle.commands.specs.Beginnings.{HasBegun, begins_at}
 use Rattle.commands.specs.Buildings.{IsLivedOut, OfLine, TimedAs}
 use Rattle.commands.proofs.MeantOut.{KeptScansAreAsMeant, ScansAreAsMeant, meant_of}
 
@@ -20,7 +20,7 @@ pub lived_out : {B C : Type 0} (binding text : List ℕ) (file : Option (List �
     (clock_log : C → ClockLog) (is_of : OfLine B) (is_timed : TimedAs C) (words : List LineWord)
     (options : LiveOptions) (begun : Beginning) (building : Building B C) (left : Lived B C) → ScansAreAsMeant
     → KeptScansAreAsMeant → HasBegun binding text file begun
-    → IsOpened bus_log clock_log is_of is_timed begun.setup words options building
+    → IsOpened bus_log clock_log is_of is_timed begun.setup words options (begins_at begun.kept) building
     → HasLived building.setup building.size.workers building.size.limit building.buses.items building.clock bus_log
     clock_log left
     → IsLivedOut binding text file bus_log clock_log is_of is_timed words options left

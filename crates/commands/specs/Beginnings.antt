@@ -1,6 +1,5 @@
--- What a building begins with: the text's setup, or the one whose variables begin with the values that were kept
--- (profile).
-use Rattle.std.specs.Prelude.{◌≡◌, ◌≢◌, ℕ, List, Option, Some, None, ⊤}
+-- What a building begins with: the text's setup, or the one that begins with the values that were kept (profile).
+use Rattle.std.specs.Prelude.{◌≡◌, ◌≢◌, ℕ, List, Option, Some, None, option_and_then, option_map, unwrap_or, ⊤}
 use Rattle.wordlines.specs.Wirings.{Wiring}
 use Rattle.ilsource.specs.SourceTrees.{Tree}
 use Rattle.ilcompile.specs.Loaded.{Loaded}
@@ -46,6 +45,11 @@ abbrev pub AreUsed : Option (List ℕ) → Option KeptState → Type 0
 AreUsed file (Some kept) = IsFileOf file kept
 AreUsed None None = ⊤
 AreUsed (Some bytes) None = IsUnusable bytes
+
+-- the moment at which the clock of a building begins: that of the last tick before its values were kept, where their file
+-- says it, else 0
+abbrev pub begins_at : Option KeptState → ℕ
+begins_at kept = unwrap_or (option_map (λ at. at.moment) (option_and_then (λ state. state.at) kept)) 0
 
 -- the file of kept values, where one is named: what the disk gave for it, or nothing where there is no such file
 abbrev pub IsKeepRead : (List ℕ → List ℕ → Type 0) → (List ℕ → DiskFault → Type 0) → Option (List ℕ) → Option (List ℕ)

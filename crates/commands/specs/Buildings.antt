@@ -25,22 +25,23 @@ use Rattle.commands.specs.declared.living.Halted.TheVariants as halts
 use Rattle.commands.specs.declared.reading.DiskFault.{DiskFault}
 use Rattle.commands.specs.declared.serving.Unserved.{Unserved}
 use Rattle.commands.specs.declared.serving.Unserved.TheVariants.{NotRead, NotWritten, NotPrinted}
-use Rattle.commands.specs.Beginnings.{AreUsed, IsBegunUnder, IsKeepRead, IsKeepWithheld, tree_of}
+use Rattle.commands.specs.Beginnings.{begins_at, AreUsed, IsBegunUnder, IsKeepRead, IsKeepWithheld, tree_of}
 use Rattle.commands.specs.Plays.{IsStopUnder}
 
 -- which line of a word a bus is behind, with so many milliseconds of patience, as a site says it
 abbrev pub OfLine : Type 0 → Type 1
 OfLine B = B → LineWord → ℕ → Type 0
 
--- the period of a clock, its last moment, and the path of the file that ends it, as a site says it
+-- the period of a clock, the moment at which it begins, its last one, and the path of the file that ends it, as a site
+-- says it
 abbrev pub TimedAs : Type 0 → Type 1
-TimedAs C = C → ℕ → ℕ → Option (List ℕ) → Type 0
+TimedAs C = C → ℕ → ℕ → ℕ → Option (List ℕ) → Type 0
 
 -- The plant of the text's setup under the binding, which begins with the values of a file of kept ones where there is
--- one, ran on the lines that these words name, each bus on its own, and on the clock that the options ask for, with so
--- many scan workers and events of a run (IsOpened). What it leaves: a legal history of all its runs, in which nothing is
--- open, in which lines and clock sent, gave and took what it says (HasLived); and each scan came to what the source
--- program means of the snapshot that it took.
+-- one, ran on the lines that these words name, each bus on its own, and on the clock that the options ask for, which
+-- goes on from when they were kept, with so many scan workers and events of a run (IsOpened). What it leaves: a legal
+-- history of all its runs, in which nothing is open, in which lines and clock sent, gave and took what it says
+-- (HasLived); and each scan came to what the source program means of the snapshot that it took.
 pub record IsLivedOut {B C : Type 0} (binding text : List ℕ) (file : Option (List ℕ)) (bus_log : B → BusLog)
     (clock_log : C → ClockLog) (is_of : OfLine B) (is_timed : TimedAs C) (words : List LineWord)
     (options : LiveOptions) (left : Lived B C) : Type 0 where
@@ -49,7 +50,7 @@ pub record IsLivedOut {B C : Type 0} (binding text : List ℕ) (file : Option (L
   pub used : AreUsed file kept
   pub loaded : IsBegunUnder binding text kept setup
   pub building : Building B C
-  pub opened : IsOpened bus_log clock_log is_of is_timed setup words options building
+  pub opened : IsOpened bus_log clock_log is_of is_timed setup words options (begins_at kept) building
   pub lived : HasLived setup options.size.workers options.size.limit building.buses.items building.clock bus_log clock_log
       left
   pub meant : AreAsMeant (tree_of loaded.0 text kept setup loaded.2) loaded.0.buses left.left.plant.history

@@ -20,9 +20,28 @@ use std::fmt;
 #[derive(Drop)]
 pub struct Beginning {
     pub setup: Setup,
-    /// The values with which variables begin, where a file of them is used.
+    /// The values with which variables and block instances begin, where a file of them is used.
     pub kept: Option<Kept>,
     pub note: KeptNote,
+}
+
+impl Beginning {
+    ghost use Rattle.std.specs.Prelude.{◌≡◌};
+    ghost use Rattle.commands.specs.Beginnings.{begins_at};
+
+    /// The moment at which the clock begins, in milliseconds: that of the last tick before the
+    /// values were kept, where their file says it, else 0.
+    pub fn begins(&self) -> u64
+        ensures value { result ≡ begins_at self.now.kept }
+    {
+        match &self.kept {
+            Some(kept) => match kept.at() {
+                Some(at) => at.moment,
+                None => 0,
+            },
+            None => 0,
+        }
+    }
 }
 
 /// What became of a file of kept values.
@@ -98,8 +117,8 @@ pub(crate) fn kept_at<'a, D: Disk>(
     }
 }
 
-/// The setup of a text under a binding, whose variables begin with the values of a file of kept
-/// ones, where there is one that can be used.
+/// The setup of a text under a binding, which begins with the values of a file of kept ones, where
+/// there is one that can be used.
 ///
 /// # Errors
 ///
@@ -143,7 +162,7 @@ fn without(setup: Setup, note: KeptNote) -> Beginning
     }
 }
 
-/// The setup whose variables begin with kept values.
+/// The setup that begins with kept values.
 ///
 /// # Errors
 ///

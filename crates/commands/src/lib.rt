@@ -21,6 +21,7 @@ mod beginning;
 mod brief;
 mod code_files;
 mod decoding;
+mod hints;
 mod live_status;
 mod lived;
 mod living;

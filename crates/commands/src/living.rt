@@ -266,8 +266,9 @@ fn live_with<'a, S: Site, N: Notice, G: Gate, R: Threads + Wait + Timer + Sync>(
         → HasBegun binding text file begun
         → IsHalted binding text file lines.now options.now.size halted) }
 {
+    let begins = begun.begins();
     let Beginning { setup, .. } = begun;
-    let building = open(alloc, grounds.site, setup, lines, options)?;
+    let building = open(alloc, grounds.site, setup, lines, options, begins)?;
     let Ok(watch) = building.watch.clone() else {
         return Err(Halted::Building(LiveStop::Start(StartFault::Memory)));
     };
@@ -317,8 +318,18 @@ fn observer_of<'o, 'a, S: Storage, R: Wait>(
     }
     let beside = &options.beside;
     let kept = used_bytes(&begun.note, pages);
+    let begins = begun.begins();
     let workers = options.size.workers as usize;
-    match BuildingObserver::open(rt, alloc, storage, beside, begun.setup, kept, workers) {
+    match BuildingObserver::open(
+        rt,
+        alloc,
+        storage,
+        beside,
+        begun.setup,
+        kept,
+        begins,
+        workers,
+    ) {
         Ok(observer) => Ok(observer),
         Err(_) => Err(Halted::Text(Stop::Memory)),
     }

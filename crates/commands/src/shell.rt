@@ -2,6 +2,7 @@
 
 use crate::beginning::KeptNote;
 use crate::code_files::{serve_check_code, serve_code};
+use crate::hints::{NamedFiles, hint_of};
 use crate::living::{Grounds, Notice, serve_live, status_of_live};
 use crate::looking::serve_look;
 use crate::misuse::check_invocation;
@@ -92,6 +93,7 @@ where
     if let Err(fault) = check_invocation(rt, alloc, &invocation) {
         return misplaced(rt, &fault);
     }
+    let named = NamedFiles::of(&invocation);
     let disk = HostDisk { rt };
     let out = io::writer(rt);
     let mut complaints = Complaints { rt };
@@ -124,7 +126,10 @@ where
             files,
             lines,
             options,
-        } => return run_building(rt, threads, site, files, &lines, &options),
+        } => {
+            let status = run_building(rt, threads, site, files, &lines, &options);
+            return with_hint(rt, named, status);
+        }
         Invocation::Frame { words } => serve_frames(rt, alloc, out, &mut complaints, words),
         Invocation::EventLine {
             binding,
@@ -142,9 +147,22 @@ where
         Invocation::Tool(tool) => return run_tool(rt, threads, site, tool),
     };
     match served {
-        Ok((_, status)) => status,
+        Ok((_, status)) => with_hint(rt, named, status),
         Err(unserved) => not_served(rt, unserved),
     }
+}
+
+/// How a command ends; where a fault of a file is printed, standard error says which file it is in.
+fn with_hint<R>(rt: &R, named: Option<NamedFiles>, status: ExitStatus) -> ExitStatus
+where
+    R: Files + Eprint + AllocGlobal,
+{
+    if let (ExitStatus::Refused, Some(files)) = (status, named) {
+        if let Some(hint) = hint_of(rt.alloc(), &HostDisk { rt }, files) {
+            let _told = eprintln!(rt; "{hint}");
+        }
+    }
+    status
 }
 
 /// Does what is asked for at one line.
@@ -220,33 +238,8 @@ where
         options,
     ) {
         Ok((_, end)) => status_of_live(&end),
-        Err(Unserved::NotRead { path, why }) if is_kept_at(options, path) => {
-            kept_not_read(rt, path, why)
-        }
         Err(unserved) => not_served(rt, unserved),
     }
-}
-
-/// Whether kept values are read from this path.
-fn is_kept_at(options: &LiveOptions, path: &str) -> bool {
-    match options.beside.keep {
-        Some(keep) => keep == path,
-        None => false,
-    }
-}
-
-/// Reports that a file of kept values is there and wasn't read, and why.
-fn kept_not_read<R: Print + Eprint>(rt: &R, path: &str, why: DiskFault) -> ExitStatus {
-    let why = match why {
-        DiskFault::Denied => "permission denied",
-        DiskFault::Memory => return no_memory(rt),
-        DiskFault::Absent | DiskFault::Failed => "an input error",
-    };
-    printed(
-        rt,
-        eprintln!(rt; "cannot read {path}: {why}"),
-        ExitStatus::Failed,
-    )
 }
 
 /// The machine's standard error, which is told what is about to run, and why a building doesn't run.
@@ -278,14 +271,19 @@ pub(crate) fn not_served<R: Print + Eprint>(rt: &R, unserved: Unserved) -> ExitS
     }
 }
 
-/// Reports that a file wasn't read.
+/// Reports that a file wasn't read, and why.
 fn not_read<R: Print + Eprint>(rt: &R, path: &str, why: DiskFault) -> ExitStatus {
-    match why {
-        DiskFault::Memory => no_memory(rt),
-        DiskFault::Absent | DiskFault::Denied | DiskFault::Failed => {
-            printed(rt, eprintln!(rt; "cannot read {path}"), ExitStatus::Failed)
-        }
-    }
+    let why = match why {
+        DiskFault::Memory => return no_memory(rt),
+        DiskFault::Absent => "no such file",
+        DiskFault::Denied => "permission denied",
+        DiskFault::Failed => "an input error",
+    };
+    printed(
+        rt,
+        eprintln!(rt; "cannot read {path}: {why}"),
+        ExitStatus::Failed,
+    )
 }
 
 /// Reports that a file wasn't written.

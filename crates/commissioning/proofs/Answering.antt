@@ -10,7 +10,7 @@ use Rattle.buslink.specs.Performing.{after_report}
 use Rattle.commissioning.specs.declared.asking.AskFault.{AskFault}
 use Rattle.commissioning.specs.declared.asking.AskFault.TheVariants.{Memory, Failed}
 use Rattle.commissioning.specs.declared.asking.Asked.{Asked}
-use Rattle.commissioning.specs.Asking.{IsAnswered, IsOneAsked, AreAsked, AreAnswered, EndsBy, IsWhole}
+use Rattle.commissioning.specs.Asking.{IsAnswered, AreAsked, AreAnswered, EndsBy, IsWhole}
 
 abbrev IsMet : Asked → Type 0
 IsMet a = ¬ (a.outcome ≡ outcome.Failed)

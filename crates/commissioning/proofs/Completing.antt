@@ -1,6 +1,6 @@
 -- What is left of a survey that is broken off: silence at the questions that were not asked yet.
 use Rattle.std.proofs.Common.{◌≡◌, ℕ, suc, ◌≤◌, ◌<◌, List, [], ◌++◌, Bool, true, false, MatchBool, refl, sym, subst}
-use Rattle.std.proofs.Common.{append-nil, append_assoc, eq-or-lt_of_le, inl, inr, ⊎_elim, arith}
+use Rattle.std.proofs.Common.{append-nil, eq-or-lt_of_le, inl, inr, ⊎_elim, arith}
 use Rattle.gearcmd.specs.declared.requests.Command.{Command}
 use Rattle.gearcmd.specs.declared.requests.Command.TheVariants.{GearAsk, DevAsk}
 use Rattle.transact.specs.declared.marks.Outcome.{Outcome}
@@ -9,7 +9,7 @@ use Rattle.transact.specs.declared.marks.Reply.TheVariants.{Quiet}
 use Rattle.buslink.specs.BusLog.{BusLog}
 use Rattle.commissioning.specs.declared.asking.AskFault.{AskFault}
 use Rattle.commissioning.specs.declared.asking.Asked.{Asked}
-use Rattle.commissioning.specs.Asking.{AreAnswered, Begins, IsBrokenOff}
+use Rattle.commissioning.specs.Asking.{Begins, IsBrokenOff}
 use Rattle.commissioning.specs.Blinking.{Asks}
 use Rattle.commissioning.specs.Surveys.{AreParts, AreQueries, IsQuestion, IsSomeQuestion, IsQueryPart, IsGearPart}
 use Rattle.commissioning.specs.Surveys.{IsInstancePart, IsSomeInstancePart, IsDevicePart, IsSurvey}

@@ -1,6 +1,6 @@
 -- What gear is asked that blinks, one command after another.
 use Rattle.std.proofs.Common.{◌≡◌, ℕ, suc, ◌+◌, ◌≤◌, ◌<◌, List, [], ◌∷◌, ◌++◌, refl, sym, ap}
-use Rattle.std.proofs.Common.{append_assoc, subst, arith}
+use Rattle.std.proofs.Common.{subst, arith}
 use Rattle.daliframe.specs.declared.addressing.Address.TheVariants.{Short}
 use Rattle.gearcmd.specs.declared.requests.Command.{Command}
 use Rattle.gearcmd.specs.declared.requests.Command.TheVariants.{GearAsk, GearDo, GearLevel}
@@ -11,7 +11,6 @@ use Rattle.buslink.specs.BusLog.{BusLog}
 use Rattle.commissioning.specs.declared.asking.AskFault.{AskFault}
 use Rattle.commissioning.specs.declared.asking.AskFault.TheVariants.{Memory, Failed}
 use Rattle.commissioning.specs.declared.asking.Asked.{Asked}
-use Rattle.commissioning.specs.declared.blinking.Blinked.{Blinked}
 use Rattle.commissioning.specs.declared.blinking.Blinked.TheVariants.{Back, NoLevel}
 use Rattle.commissioning.specs.Asking.{IsBrokenOff, IsUnanswered}
 use Rattle.commissioning.specs.Blinking.{Asks, IsBlink, IsFlash, IsLevel, IsOne, IsSomeBlink}

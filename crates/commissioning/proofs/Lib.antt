@@ -1,9 +1,14 @@
 mod Answering
+mod Appending
+mod Numbering
 mod Breaking
 mod Surveying
 mod Completing
 mod Flashing
 mod Hearing
+mod Lookups
 mod Finding
+mod First
 mod Retrying
 mod Showing
+mod Telling

@@ -1,6 +1,6 @@
 -- The query to all, tried once, and again after a loss.
 use Rattle.std.specs.Prelude.{Result, Ok, Err, IfErr, IfOk, IsTrue, true, false}
-use Rattle.std.proofs.Common.{◌≡◌, ℕ, zero, suc, ◌+◌, ◌-◌, ◌<◌, List, [], ◌∷◌, ◌++◌, refl, sym, ◌∙◌, ap, append_assoc}
+use Rattle.std.proofs.Common.{◌≡◌, ℕ, zero, suc, ◌-◌, ◌<◌, List, [], ◌∷◌, ◌++◌, refl, sym, ◌∙◌, ap, append_assoc}
 use Rattle.std.proofs.Common.{arith, inl, inr, subst}
 use Rattle.std.proofs.lemmas.List.Elements.{All-nil}
 use Rattle.daliframe.specs.declared.addressing.Address.TheVariants.{Broadcast}
@@ -15,7 +15,7 @@ use Rattle.transact.specs.Marks.{IsBroken, outcome_of}
 use Rattle.transact.specs.Attempts.{Attempt, IsAttempt, IsReport, all_marks, all_sent, last_mark}
 use Rattle.buslink.specs.declared.faults.Fault.{Fault}
 use Rattle.buslink.specs.BusLog.{BusLog, after_send, mark_of_send, with_spare}
-use Rattle.buslink.specs.Performing.{after_report, failures_after}
+use Rattle.buslink.specs.Performing.{failures_after}
 use Rattle.buslink.specs.PerformingSteps.{IsSent, failures_with}
 use Rattle.commissioning.specs.declared.asking.AskFault.{AskFault}
 use Rattle.commissioning.specs.Unaddressed.{IsMissingAnswered, IsMissingAsked, IsMissingUnanswered, missing_frame}

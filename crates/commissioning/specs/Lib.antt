@@ -1,6 +1,9 @@
 pub mod Asking
 pub mod Blinking
+pub mod Differences
 pub mod Listening
+pub mod ListeningSteps
+pub mod Places
 pub mod Probing
 pub mod Serving
 pub mod Surveys

@@ -1,16 +1,16 @@
 -- What a survey of a bus asks: each short address whether gear is there, and gear that is there what it is; and the
 -- instances of each device, up to one that is silent.
 use Rattle.std.specs.Prelude.{◌≡◌, ℕ, zero, suc, ◌==◌, ◌||◌, ◌&&◌, ◌++◌, ◌⊎◌, List, [], ◌∷◌, Bool, true, false}
-use Rattle.std.specs.Prelude.{nat_le, MatchBool, Result, Ok, Err}
+use Rattle.std.specs.Prelude.{nat_le, MatchBool, Some, slice_get}
+use Rattle.std.specs.List.{AllWithin}
 use Rattle.gearcmd.specs.declared.requests.Command.{Command}
 use Rattle.gearcmd.specs.declared.requests.Command.TheVariants.{GearAsk, DevAsk}
 use Rattle.transact.specs.declared.marks.Outcome.{Outcome}
 use Rattle.transact.specs.declared.marks.Outcome.TheVariants.{Done, GaveUp, Failed}
 use Rattle.transact.specs.declared.marks.Reply.TheVariants.{Quiet, Answer, Damaged, Lost}
 use Rattle.buslink.specs.BusLog.{BusLog}
-use Rattle.commissioning.specs.declared.asking.AskFault.{AskFault}
 use Rattle.commissioning.specs.declared.asking.Asked.{Asked}
-use Rattle.commissioning.specs.Asking.{AreAnswered, IsBrokenOff}
+use Rattle.commissioning.specs.Asking.{AreAnswered}
 
 -- something answered: two at once are damage
 abbrev pub is_answer : Outcome → Bool
@@ -105,3 +105,10 @@ pub record AsksMore (P : List Asked → Type 0) (before after : List Asked) (old
   pub is : after ≡ before ++ more
   pub asked : AreAnswered more old new
   pub those : P more
+
+-- this one asked the command, at some place, and none before it did
+pub record IsFirstOf (command : Command) (asked : Asked) (survey : List Asked) : Type 0 where
+  pub asks : asked.command ≡ command
+  pub place : ℕ
+  pub there : slice_get survey place ≡ Some asked
+  pub none_before : AllWithin (λ a. ¬ (a.command ≡ command)) survey 0 place

@@ -15,10 +15,12 @@
 //! ```
 #![tactic(auto)]
 
+mod asked;
 mod asking;
 mod blinking;
 mod comparing;
 mod declared;
+mod differences;
 mod houses;
 mod listening;
 mod objects;
@@ -33,6 +35,7 @@ pub use asking::{AskFault, Asked, ask};
 pub use blinking::{Blinked, Shown, blink};
 pub use comparing::write_differences;
 pub use declared::DeclaredBus;
+pub use differences::{Difference, Levels, Member};
 pub use listening::{ListenEnd, Silenced, listen};
 pub use probing::{Probed, probe};
 pub use serving::{ProbeForm, Served, serve_ask, serve_blink, serve_listen, serve_probe};

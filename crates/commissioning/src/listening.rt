@@ -1,7 +1,9 @@
 //! What comes to be heard on a bus, in words.
 
-ghost use Rattle.std.specs.Prelude.{◌<◌, OnOk};
-ghost use Rattle.commissioning.specs.Listening.{SendsNothing};
+ghost use Rattle.std.specs.Prelude.{◌<◌, [], None, Some, IfOk, MatchResult, OnOk};
+ghost use Rattle.std.specs.Io.KnownBytes.{Appends};
+ghost use Rattle.commissioning.specs.Listening.{IsListened, IsRecorded, SendsNothing, lines_of};
+ghost use Rattle.commissioning.specs.ListeningSteps.{Hears, frames_of};
 
 use crate::asking::AskFault;
 use crate::places::Places;
@@ -38,9 +40,9 @@ pub enum Silenced {
     NoClock,
 }
 
-/// Writes what comes on a bus, a line each: the moment in milliseconds since it began, what came, and
-/// where it is bound, or by which line it could be bound. `record` gets each event as lines of a
-/// scenario. Nothing is sent.
+/// Writes what comes on a bus, a line each: the moment in milliseconds since it began, what came,
+/// and where it is bound, or by which line it could be bound. `scenario` gets each event as lines of
+/// a scenario: all that was heard, where no writer failed. Nothing is sent.
 ///
 /// # Errors
 ///
@@ -50,11 +52,13 @@ pub fn listen<B: Bus, W: Write, P: Write, R: Timer, S: StopCondition>(
     number: u8,
     binding: Option<&Binding>,
     to: &mut W,
-    record: &mut P,
+    scenario: &mut P,
     timer: &R,
     end: &ListenEnd<S>,
 ) -> io::Result<Silenced>
-    ensures { SendsNothing (B.log bus.old) (B.log bus.new) }
+    ensures silent { SendsNothing (B.log bus.old) (B.log bus.new) }
+    ensures listened { IfOk result (λ silenced. IsListened number silenced
+        (B.log bus.old) (B.log bus.new) (P.contents scenario.old) (P.contents scenario.new)) }
 {
     let Ok(start) = Instant::now(timer) else {
         return Ok(Silenced::NoClock);
@@ -67,7 +71,7 @@ pub fn listen<B: Bus, W: Write, P: Write, R: Timer, S: StopCondition>(
         if is_over(end, moment) {
             return Ok(Silenced::Ended);
         }
-        if let Some(fault) = listen_once(bus, &mut places, to, record, timer, moment)? {
+        if let Some(fault) = listen_once(bus, &mut places, to, scenario, timer, number, moment)? {
             return Ok(Silenced::Fault(fault));
         }
     }
@@ -79,15 +83,18 @@ fn listen_once<B: Bus, W: Write, P: Write, R: Timer>(
     bus: &mut B,
     places: &mut Places,
     to: &mut W,
-    record: &mut P,
+    scenario: &mut P,
     timer: &R,
+    number: u8,
     moment: u64,
 ) -> io::Result<Option<AskFault>>
-    ensures { SendsNothing (B.log bus.old) (B.log bus.new) }
+    ensures silent { SendsNothing (B.log bus.old) (B.log bus.new) }
+    ensures turn { IfOk result (λ fault. IsRecorded number fault
+        (B.log bus.old) (B.log bus.new) (P.contents scenario.old) (P.contents scenario.new)) }
 {
     match hear(bus) {
         Ok(Some(frame)) => {
-            record_event(record, places.bus(), moment, frame)?;
+            record_event(scenario, number, moment, frame)?;
             write_event(to, places, moment, frame)?;
             Ok(None)
         }
@@ -101,7 +108,10 @@ fn listen_once<B: Bus, W: Write, P: Write, R: Timer>(
 
 /// The next frame that came.
 fn hear<B: Bus>(bus: &mut B) -> Result<Option<Frame24>, AskFault>
-    ensures { SendsNothing (B.log bus.old) (B.log bus.new) }
+    ensures silent { SendsNothing (B.log bus.old) (B.log bus.new) }
+    ensures heard { MatchResult result
+        (λ frame. Hears (frames_of frame) None (B.log bus.old) (B.log bus.new))
+        (λ fault. Hears [] (Some fault) (B.log bus.old) (B.log bus.new)) }
 {
     bus.room(1)?;
     match bus.hear() {
@@ -122,10 +132,12 @@ fn is_over<S: StopCondition>(end: &ListenEnd<S>, moment: u64) -> bool {
 }
 
 /// Writes an event as lines of a scenario.
-fn record_event<P: Write>(record: &mut P, bus: u8, moment: u64, frame: Frame24) -> io::Result<()> {
-    writeln!(record, "tick {moment}")?;
-    writeln!(record, "event {bus} {frame}")?;
-    record.flush()
+fn record_event<P: Write>(scenario: &mut P, bus: u8, moment: u64, frame: Frame24) -> io::Result<()>
+    ensures { OnOk result (Appends (P.contents scenario.old) (P.contents scenario.new)
+        (lines_of bus (record { moment = moment; frame = frame }))) }
+{
+    writeln!(scenario, "tick {moment}\nevent {bus} {frame}")?;
+    scenario.flush()
 }
 
 /// Writes what came, and where it is bound or could be.

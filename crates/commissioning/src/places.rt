@@ -1,5 +1,8 @@
 //! The places of a bus that sources of events are bound to, or could be.
 
+ghost use Rattle.std.specs.Prelude.{◌≡◌, ◌↔◌, IsSomeAnd, IsTrue, is_none, position};
+ghost use Rattle.commissioning.specs.Places.{HasSource, with_source};
+
 use dalievent::EventSource;
 use wordlines::Binding;
 
@@ -49,26 +52,45 @@ impl Places {
         self.places.get(number).copied().flatten()
     }
 
+    /// The number of the first place that is free.
+    fn first_free(&self) -> Option<usize>
+        ensures { result ≡ position is_none self.now.places }
+    {
+        self.places.iter().position(|place| place.is_none())
+    }
+
     /// Whether a place has this source.
-    fn has(&self, source: EventSource) -> bool {
-        self.places
-            .iter()
-            .any(|place| place.is_some_and(|place| place.source == source))
+    fn has(&self, source: EventSource) -> bool
+        ensures { IsTrue result ↔ HasSource source self.now.places }
+    {
+        self.places.iter().any(|place| has_source(place, source))
     }
 
     /// Gives a source that no place has the first place that is free, where there is one.
-    pub(crate) fn note(&mut self, source: EventSource) {
+    pub(crate) fn note(&mut self, source: EventSource)
+        ensures bus { self.new.bus ≡ self.old.bus }
+        ensures known { HasSource source self.old.places → self.new.places ≡ self.old.places }
+        ensures noted { ¬ HasSource source self.old.places
+            → self.new.places ≡ with_source source self.old.places }
+    {
         if self.has(source) {
             return;
         }
-        for place in &mut self.places {
-            if place.is_none() {
-                *place = Some(Place {
-                    source,
-                    is_bound: false,
-                });
-                return;
-            }
+        if let Some(number) = self.first_free() {
+            self.places[number] = Some(Place {
+                source,
+                is_bound: false,
+            });
         }
+    }
+}
+
+/// Whether a place has this source.
+fn has_source(place: &Option<Place>, source: EventSource) -> bool
+    ensures { IsTrue result ↔ IsSomeAnd place.now (λ p. p.source ≡ source) }
+{
+    match place {
+        Some(place) => place.source == source,
+        None => false,
     }
 }

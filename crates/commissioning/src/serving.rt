@@ -1,12 +1,13 @@
 //! The commands at one line: what they do, and what they print.
 
-ghost use Rattle.std.specs.Prelude.{◌≡◌, ◌≤◌, IfOk, Ok};
+ghost use Rattle.std.specs.Prelude.{◌≡◌, ◌≤◌, IfOk, OnOk, Ok};
 ghost use Rattle.transact.specs.Attempts.{most_sent};
 ghost use Rattle.commissioning.specs.Asking.{HasAsked};
 ghost use Rattle.commissioning.specs.Blinking.{HasBlinked};
 ghost use Rattle.commissioning.specs.Listening.{SendsNothing};
 ghost use Rattle.commissioning.specs.Probing.{HasProbed};
-ghost use Rattle.commissioning.specs.Serving.{IsServed, served_as, served_of};
+ghost use Rattle.commissioning.specs.Serving.{EndsWith, IsListenServed, IsServed};
+ghost use Rattle.commissioning.specs.Serving.{differences_told, served_as, served_by, served_of};
 
 use crate::asking::{AskFault, ask};
 use crate::blinking::{Blinked, Shown, blink};
@@ -67,7 +68,7 @@ pub struct ProbeForm<'a> {
 
 /// Probes a bus, and writes which gear and which instances are there, as rows of a table that are
 /// written as they come, or as JSON; and where a text is given, how they differ from what it
-/// declares. `record` gets a line of a scenario for each gear that answered, once all of the bus
+/// declares. `scenario` gets a line of a scenario for each gear that answered, once all of the bus
 /// was asked.
 ///
 /// # Errors
@@ -78,32 +79,35 @@ pub fn serve_probe<B: Bus, W: Write, P: Write, R: Write>(
     bus: &mut B,
     to: &mut W,
     progress: &mut P,
-    record: &mut R,
+    scenario: &mut R,
     form: ProbeForm,
 ) -> io::Result<Served>
-    ensures { IsServed (λ probed. HasProbed probed (B.log bus.old) (B.log bus.new)) result }
+    ensures { IsServed (λ probed. HasProbed probed (B.log bus.old) (B.log bus.new)
+        × OnOk result (EndsWith W.contents (differences_told form.entry probed) to.new)) result }
 {
     let mut table = Table::new(to, !form.as_json);
     let probed = probe(alloc, bus, &mut table, progress);
     let written = table.finish();
-    write_probed(alloc, to, record, &probed, written, form)
+    write_probed(alloc, to, scenario, &probed, written, form)
 }
 
 /// Writes what was found, and what is behind the rows of a table.
 fn write_probed<W: Write, R: Write>(
     alloc: Global,
     to: &mut W,
-    record: &mut R,
+    scenario: &mut R,
     probed: &Result<Probed, AskFault>,
     written: io::Result<()>,
     form: ProbeForm,
 ) -> io::Result<Served>
-    ensures { IfOk result (λ served. served ≡ served_as probed.now) }
+    ensures served { IfOk result (λ served. served ≡ served_as probed.now) }
+    ensures printed { OnOk result
+        (EndsWith W.contents (differences_told form.entry probed.now) to.new) }
 {
     written?;
     match probed {
         Ok(probed) => {
-            write_house(record, form.bus, &probed.survey)?;
+            write_house(scenario, form.bus, &probed.survey)?;
             write_survey(alloc, to, probed, form)?;
             Ok(Served::Done)
         }
@@ -122,7 +126,10 @@ fn write_survey<W: Write>(
     to: &mut W,
     probed: &Probed,
     form: ProbeForm,
-) -> io::Result<()> {
+) -> io::Result<()>
+    ensures { OnOk result
+        (EndsWith W.contents (differences_told form.entry (Ok probed.now)) to.new) }
+{
     if form.as_json {
         return write_found(alloc, to, form.bus, probed, form.declared);
     }
@@ -165,18 +172,22 @@ pub fn serve_listen<B: Bus, W: Write, P: Write, R: Timer, S: StopCondition>(
     number: u8,
     binding: Option<&Binding>,
     to: &mut W,
-    record: &mut P,
+    scenario: &mut P,
     timer: &R,
     end: &ListenEnd<S>,
 ) -> io::Result<Served>
-    ensures { SendsNothing (B.log bus.old) (B.log bus.new) }
+    ensures silent { SendsNothing (B.log bus.old) (B.log bus.new) }
+    ensures served { IfOk result (λ served. IsListenServed number served
+        (B.log bus.old) (B.log bus.new) (P.contents scenario.old) (P.contents scenario.new)) }
 {
-    let silenced = listen(bus, number, binding, to, record, timer, end)?;
+    let silenced = listen(bus, number, binding, to, scenario, timer, end)?;
     write_silenced(to, silenced)
 }
 
 /// Writes why listening ended before its end.
-fn write_silenced<W: Write>(to: &mut W, silenced: Silenced) -> io::Result<Served> {
+fn write_silenced<W: Write>(to: &mut W, silenced: Silenced) -> io::Result<Served>
+    ensures { IfOk result (λ served. served ≡ served_by silenced) }
+{
     match silenced {
         Silenced::Ended => Ok(Served::Done),
         Silenced::Fault(fault) => write_fault(to, fault),

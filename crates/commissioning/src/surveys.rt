@@ -1,12 +1,12 @@
 //! A survey of one bus: which gear and which instances of devices are there, and what they are.
 
 ghost use Rattle.std.specs.Prelude.{◌≡◌, ◌<◌, ◌↔◌, ⊤, true, IsTrue, IfErr, IfOk, OnOk, MatchOption};
-ghost use Rattle.std.specs.Prelude.{All, Contains};
+ghost use Rattle.std.specs.Prelude.{All};
 ghost use Rattle.gearcmd.specs.declared.requests.Command.TheVariants.{GearAsk, DevAsk};
 ghost use Rattle.commissioning.specs.Asking.{AreAnswered, IsBrokenOff};
 ghost use Rattle.commissioning.specs.Surveys.{AreParts, AsksMore, IsQueryPart, IsGearPart};
-ghost use Rattle.commissioning.specs.Surveys.{IsInstancePart, IsDevicePart, IsQuestion, IsSurvey};
-ghost use Rattle.commissioning.specs.Surveys.{IsSomeInstancePart, IsSomeQuestion};
+ghost use Rattle.commissioning.specs.Surveys.{IsFirstOf, IsInstancePart, IsDevicePart, IsQuestion};
+ghost use Rattle.commissioning.specs.Surveys.{IsSomeInstancePart, IsSomeQuestion, IsSurvey};
 ghost use Rattle.commissioning.specs.Surveys.{is_answer, is_surveyed};
 
 use crate::asking::{AskFault, Asked, ask};
@@ -35,10 +35,11 @@ impl Model for Survey {
 }
 
 impl Survey {
-    /// How a command ended that was asked: the first of its kind.
+    /// How a command ended that was asked: the first time that it was.
     pub fn outcome(&self, command: Command) -> Option<Outcome>
         ensures { MatchOption result (All (λ a. ¬ (a.command ≡ command)) self.now)
-            (λ outcome. Contains self.now (record { command = command; outcome = outcome })) }
+            (λ outcome. IsFirstOf command (record { command = command; outcome = outcome })
+            self.now) }
     {
         outcome_in(&self.asked, command)
     }
@@ -51,10 +52,11 @@ impl Survey {
     }
 }
 
-/// How a command ended that was asked: the first of its kind.
+/// How a command ended that was asked: the first time that it was.
 pub(crate) fn outcome_in(asked: &[Asked], command: Command) -> Option<Outcome>
     ensures { MatchOption result (All (λ a. ¬ (a.command ≡ command)) asked.now)
-        (λ outcome. Contains asked.now (record { command = command; outcome = outcome })) }
+        (λ outcome. IsFirstOf command (record { command = command; outcome = outcome })
+        asked.now) }
 {
     let found = asked_of(asked, command)?;
     Some(found.outcome)
@@ -63,7 +65,7 @@ pub(crate) fn outcome_in(asked: &[Asked], command: Command) -> Option<Outcome>
 /// The first of these that asked this command.
 fn asked_of(asked: &[Asked], command: Command) -> Option<&Asked>
     ensures { MatchOption result (All (λ a. ¬ (a.command ≡ command)) asked.now)
-        (λ found. Contains asked.now found.now × (found.now.command ≡ command)) }
+        (λ found. IsFirstOf command found.now asked.now) }
 {
     asked.iter().find(|one| one.is_of(&command))
 }

@@ -42,6 +42,20 @@ pub(crate) const OTHER_TYPE: Advice = Advice {
     line: "LD button\nJMPC bright\nLD 50\nJMP set\nbright: LD 200\nset: ST level",
 };
 
+/// A number that is meant as a truth value.
+pub(crate) const TRUTH: Advice = Advice {
+    what: "a value of the wrong type",
+    cure: "write TRUE or FALSE: 1 and 0 are numbers here",
+    line: "",
+};
+
+/// A divisor that is written as 0.
+pub(crate) const ZERO: Advice = Advice {
+    what: "a divisor that is 0",
+    cure: "write another number",
+    line: "DIV 2",
+};
+
 /// What is said of a cause.
 pub(crate) fn advice_of(cause: Cause) -> Advice {
     match cause {

@@ -1,6 +1,6 @@
 //! Files with their faults.
 
-use crate::code_answers::{Refused, answer_code};
+use crate::code_answers::{Refused, answer_code, mark_of};
 use crate::requests::write_requests;
 use crate::ways::write_way;
 use badlines::{BadLine, binding_fault, scenario_fault};
@@ -136,20 +136,23 @@ fn explain_code<'q, W: Write>(
         code: &code,
         functions: &functions,
     };
-    let answer = answer_code(alloc, &Refused::of(asked, &names, refused))?;
-    write_refused(out, asked, refused, &answer)?;
+    let word = Refused::of(asked, &names, refused);
+    let answer = answer_code(alloc, &word)?;
+    write_refused(out, asked, refused, &answer, mark_of(alloc, &word)?)?;
     write_calls(alloc, out, asked, &names, refused)
 }
 
-/// Writes the first line of a refused task, the line of the text, and what helps.
+/// Writes the first line of a refused task, the line of the text with a mark at this column, and
+/// what helps.
 fn write_refused<W: Write>(
     out: &mut W,
     asked: &AskedText,
     refused: &RefusedTask,
     answer: &FaultAnswer,
+    mark: Option<usize>,
 ) -> io::Result<()> {
     let refusal = refused.refusal();
-    let col = first_column(asked.text, refusal.line);
+    let col = mark.unwrap_or(first_column(asked.text, refusal.line));
     write_place(out, asked.path, refusal.line, col)?;
     let task = refused.task_name();
     let cause = refusal.cause.number();
@@ -159,7 +162,7 @@ fn write_refused<W: Write>(
         "task {task} refused {cause} at word {word}: {}",
         answer.what.as_str()
     )?;
-    write_line(out, asked.text, refusal.line, None)?;
+    write_line(out, asked.text, refusal.line, mark)?;
     write_answer(out, answer, refusal.line)
 }
 

@@ -16,6 +16,8 @@ mod block_commands;
 mod code_answers;
 mod code_causes;
 mod files;
+mod guards;
+mod mismatch;
 mod requests;
 mod taken;
 mod ways;

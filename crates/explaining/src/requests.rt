@@ -2,7 +2,7 @@
 
 use ilcode::{Code, Word};
 use iltypes::Condition;
-use listing::{TaskNames, WordText};
+use listing::{TaskNames, WordText, line_at};
 use std::alloc::{AllocError, Global};
 use std::io;
 use std::io::Write;
@@ -50,10 +50,7 @@ fn write_call<W: Write>(
     let Some(word) = names.code.get(place) else {
         return Ok(());
     };
-    let line = match names.code.lines().get(place) {
-        Some(line) => *line,
-        None => 0,
-    };
+    let line = line_at(names.code, place);
     let text = WordText { names, word };
     let text = format!(in alloc; "{text}")?;
     writeln!(out, "{line:>6} | {text}")
@@ -61,10 +58,7 @@ fn write_call<W: Write>(
 
 /// The most requests on ways up to each place of the programs, the word's own among them.
 fn most_up_to(alloc: Global, code: &Code, word: usize) -> Result<Vec<Most>, AllocError> {
-    let mut most = Vec::new(alloc);
-    for _ in 0..word.saturating_add(1) {
-        most.push(UNMET)?;
-    }
+    let mut most = vec![in alloc; UNMET; word.saturating_add(1)]?;
     if let Some(first) = most.get_mut(0) {
         first.is_met = true;
     }

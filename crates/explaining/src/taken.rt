@@ -1,7 +1,7 @@
 //! Which ways of a code a value goes.
 
 use ilcode::{Code, Word};
-use ilranges::after_word;
+use ilranges::{Change, Entry, Known, after_word};
 use ilverify::{Pass, Passed};
 use std::alloc::{AllocError, Global};
 
@@ -12,12 +12,17 @@ pub(crate) struct Ways {
     goes_on: bool,
     /// Where a value goes by a jump.
     target: Option<usize>,
+    /// The current result before the word and behind it, where there is one.
+    before: Option<Known>,
+    behind: Option<Known>,
 }
 
 /// A word that no scan reaches.
 const UNREACHED: Ways = Ways {
     goes_on: false,
     target: None,
+    before: None,
+    behind: None,
 };
 
 /// The ways from each word up to one.
@@ -51,12 +56,86 @@ fn ways_from(code: &Code, pass: &Pass, place: usize) -> Ways {
                 Word::Jump { target, .. } if changes.target.is_some() => Some(target as usize),
                 _ => None,
             },
+            before: entry.result,
+            behind: match changes.next {
+                Some(change) => result_behind(code, entry, change),
+                None => None,
+            },
         },
-        Err(_) => Ways {
-            goes_on: false,
-            target: None,
-        },
+        Err(_) => UNREACHED,
     }
+}
+
+/// The current result behind a word with this change.
+fn result_behind(code: &Code, entry: &Entry, change: Change) -> Option<Known> {
+    match change {
+        Change::Give(known, _) | Change::Close(known) => Some(known),
+        Change::Forget | Change::Open(_) => None,
+        Change::Return(function) => {
+            let body = code.functions().get(usize::from(function))?;
+            let slot = body.first.saturating_add(body.inputs);
+            code.slots().get(slot).copied().map(Known::of)
+        }
+        _ => entry.result,
+    }
+}
+
+/// Why there is no current result at a word.
+#[derive(Clone, Copy)]
+pub(crate) enum Lack {
+    /// The word at this place calls a block.
+    Called(usize),
+    /// These meet, each from the word at its place.
+    Meeting {
+        one: (usize, Known),
+        other: (usize, Known),
+    },
+}
+
+/// How far a result is looked for back from a word.
+const MOST_STEPS: usize = 16;
+
+/// Why there is no current result at a word, as far as that is found.
+pub(crate) fn lack_at(code: &Code, ways: &[Ways], word: usize) -> Option<Lack> {
+    let mut place = word;
+    for _ in 0..MOST_STEPS {
+        let mut first: Option<(usize, Known)> = None;
+        for from in (0..place).rev() {
+            let Some(brought) = brought_by(code, ways, from, place) else {
+                continue;
+            };
+            match (first, brought) {
+                (None, Some(known)) => first = Some((from, known)),
+                (Some(other), Some(known)) if is_other_kind(other.1, known) => {
+                    let one = (from, known);
+                    return Some(Lack::Meeting { one, other });
+                }
+                (_, None) if matches!(code.get(from), Some(Word::Call(_))) => {
+                    return Some(Lack::Called(from));
+                }
+                _ => {}
+            }
+        }
+        place = place_before(code, ways, place)?;
+    }
+    None
+}
+
+/// The result that comes from one place to another, where a value goes that way.
+fn brought_by(code: &Code, ways: &[Ways], from: usize, place: usize) -> Option<Option<Known>> {
+    let found = ways.get(from)?;
+    if from.saturating_add(1) == place && goes_on(code, ways, from) {
+        Some(found.behind)
+    } else if jumps_to(code, ways, from, place) {
+        Some(found.before)
+    } else {
+        None
+    }
+}
+
+/// Whether one is a number and the other a truth value.
+fn is_other_kind(one: Known, other: Known) -> bool {
+    matches!(one, Known::Bool) != matches!(other, Known::Bool)
 }
 
 /// A place from which a value goes to this one, of the same body: the one before it, or else the

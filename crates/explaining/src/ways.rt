@@ -4,9 +4,9 @@ use crate::taken::{Ways, jumps_to, place_before, ways_up_to};
 use curing::{Spot, part, place_of, shown_text};
 use ilcode::{Code, Word};
 use ilranges::Entry;
-use iltokens::{Keyword, Lexed, What, token};
+use iltokens::{Delimiter, Keyword, Lexed, What, token};
 use ilverify::{Pass, Passed};
-use listing::{KnownText, TaskNames, WordText};
+use listing::{KnownText, TaskNames, WordText, line_at};
 use std::alloc::{AllocError, Global};
 use std::io;
 use std::io::Write;
@@ -104,15 +104,7 @@ fn jump_on(text: &[u8], line: usize) -> Option<&[u8]> {
     let mut from: Option<usize> = None;
     let mut at: usize = 0;
     for _ in 0..line.len() {
-        if at >= line.len() {
-            break;
-        }
-        let Lexed::Token {
-            what,
-            from: first,
-            to,
-        } = token(line, at)
-        else {
+        let Some((what, first, to)) = token_at(line, at) else {
             break;
         };
         at = to;
@@ -121,6 +113,57 @@ fn jump_on(text: &[u8], line: usize) -> Option<&[u8]> {
         }
     }
     Some(part(line, from?, at))
+}
+
+/// What an operand stands behind on its line.
+#[derive(Clone, Copy)]
+pub(crate) enum Behind {
+    /// The instruction's word.
+    Instruction,
+    /// The name of an input.
+    Input(&'static [u8]),
+    /// The name of a function and the operands before it: this is its number, from 1 on.
+    Function(usize),
+}
+
+/// The column of the operand on a line.
+pub(crate) fn operand_column(line: &[u8], behind: Behind) -> Option<usize> {
+    let mut at: usize = 0;
+    let mut number: usize = 0;
+    let mut is_next = false;
+    for _ in 0..line.len() {
+        let (what, from, to) = token_at(line, at)?;
+        at = to;
+        let is_sign = matches!(
+            what,
+            What::Delimiter(Delimiter::Open | Delimiter::Assign | Delimiter::Colon)
+        );
+        if is_next && !is_sign {
+            return Some(from.saturating_add(1));
+        }
+        number = match what {
+            What::Delimiter(Delimiter::Colon) => 0,
+            What::Delimiter(Delimiter::Comma) => number.saturating_add(1),
+            _ => number.max(1),
+        };
+        is_next = match behind {
+            Behind::Instruction => is_next || matches!(what, What::Keyword(_)),
+            Behind::Input(name) => is_next || part(line, from, to).eq_ignore_ascii_case(name),
+            Behind::Function(operand) => number == operand,
+        };
+    }
+    None
+}
+
+/// The token of a line from a place on, with where it begins and ends.
+fn token_at(line: &[u8], at: usize) -> Option<(What, usize, usize)> {
+    if at >= line.len() {
+        return None;
+    }
+    match token(line, at) {
+        Lexed::Token { what, from, to } if to > at => Some((what, from, to)),
+        _ => None,
+    }
 }
 
 /// Whether a token is a jump.
@@ -147,14 +190,6 @@ fn write_known<W: Write>(
 ) -> io::Result<()> {
     let known = KnownText { names, word, entry };
     writeln!(out, "{known}")
-}
-
-/// The line of a word.
-fn line_at(code: &Code, place: usize) -> usize {
-    match code.lines().get(place) {
-        Some(line) => *line as usize,
-        None => 0,
-    }
 }
 
 /// Writes where else control comes from to a place of the way.

@@ -33,6 +33,7 @@ impl Model for BlockState {
 impl BlockState {
     ghost use Rattle.std.specs.Prelude.{◌≡◌, ℕ, ◌<◌, ◌^◌, slice_set};
     ghost use Rattle.ilblocks.specs.Calls.{IsBlockOf, at_first, truth, number, natural, rises};
+    ghost use Rattle.ilblocks.specs.Ports.{most_ports};
 
     /// An instance before its first call.
     pub fn at_first(kind: BlockKind) -> BlockState
@@ -47,6 +48,23 @@ impl BlockState {
             ports,
             before: false,
             start: 0,
+        }
+    }
+
+    /// An instance that keeps these: a value for each port, five at most; the first input as it was
+    /// at the last call; and the moment at which IN of TON became TRUE.
+    pub fn new(ports: &[Value], before: bool, start: u64) -> BlockState
+        requires { length ports.now ≤ most_ports }
+        ensures { result ≡ record { ports = ports.now; before = before; start = start } }
+    {
+        let mut kept = ArrayVec::new();
+        for port in ports {
+            kept.push(*port);
+        }
+        BlockState {
+            ports: kept,
+            before,
+            start,
         }
     }
 
@@ -97,6 +115,13 @@ impl BlockState {
         self.truth(0) && !self.before
     }
 
+    /// The first input as it was at the last call.
+    pub fn before(&self) -> bool
+        ensures { result ≡ self.now.before }
+    {
+        self.before
+    }
+
     /// Keeps the first input, as it was at this call.
     pub(crate) fn remember(&mut self, first: bool)
         ensures { self.new ≡ record self.old { before = first } }
@@ -105,7 +130,7 @@ impl BlockState {
     }
 
     /// The moment at which IN of TON became TRUE.
-    pub(crate) fn start(&self) -> u64
+    pub fn start(&self) -> u64
         ensures { result ≡ self.now.start }
     {
         self.start

@@ -4,6 +4,7 @@ use Rattle.std.specs.Prelude.{flat_map}
 use Rattle.std.specs.List.{AllZip}
 use Rattle.iltypes.specs.declared.value.IlType.{IlType}
 use Rattle.iltypes.specs.declared.value.Value.{Value}
+use Rattle.ilblocks.specs.Stores.{Lasting}
 use Rattle.ilsource.specs.Places.{line_at}
 use Rattle.ilsource.specs.Words as counts
 use Rattle.ilplan.specs.Functions.{PlannedFunction, function_types}
@@ -33,98 +34,98 @@ laid buses text functions task slots types =
     (map (line_at text) (places_of_programs programs ++ flat_map places_of_body bodies))
     (bodies_from end slots bodies)
 
-same_layout : (buses : ℕ) (text : List ℕ) (functions : List PlannedFunction) (task : PlannedTask) (values : List Value)
-    → laid_out buses text functions (task_with task values) ≡ laid_out buses text functions task
-same_layout buses text functions task values =
-    ap (λ (n : ℕ). laid buses text functions task n (types_of (task_with task values)))
-    (length_with slot_with task.slots values)
-    ∙ ap (λ (types : List IlType). laid buses text functions task (length task.slots) types) (same_types task values)
+same_layout : (buses : ℕ) (text : List ℕ) (functions : List PlannedFunction) (task : PlannedTask) (first : Lasting)
+    → laid_out buses text functions (task_with task first) ≡ laid_out buses text functions task
+same_layout buses text functions task first =
+    ap (λ (n : ℕ). laid buses text functions task n (types_of (task_with task first)))
+    (length_with slot_with task.slots first.slots)
+    ∙ ap (λ (types : List IlType). laid buses text functions task (length task.slots) types) (same_types task first)
 
-code_kept : (plan : Planned) (globals : List Value) (slots : List (List Value)) (task : PlannedTask) (code : Accepted)
-    → IsCodeOf plan task code → IsCodeOf (plan_with plan globals slots) task code
-code_kept plan globals slots task code is =
+code_kept : (plan : Planned) (globals : List Value) (begins : List Lasting) (task : PlannedTask) (code : Accepted)
+    → IsCodeOf plan task code → IsCodeOf (plan_with plan globals begins) task code
+code_kept plan globals begins task code is =
     record { laid = is.laid; meant = is.meant; certified = is.certified; bound = is.bound }
 
-code_begun : (plan : Planned) (globals : List Value) (slots : List (List Value)) (task : PlannedTask)
-    (values : List Value) (code : Accepted) → IsCodeOf plan task code
-    → IsCodeOf (plan_with plan globals slots) (task_with task values) code
-code_begun plan globals slots task values code is =
-    let same = same_layout plan.buses plan.text plan.functions task values in
+code_begun : (plan : Planned) (globals : List Value) (begins : List Lasting) (task : PlannedTask)
+    (first : Lasting) (code : Accepted) → IsCodeOf plan task code
+    → IsCodeOf (plan_with plan globals begins) (task_with task first) code
+code_begun plan globals begins task first code is =
+    let same = same_layout plan.buses plan.text plan.functions task first in
     record {
       laid = is.laid ∙ sym same;
       meant = subst (λ (types : List IlType). IsMeant (scan_by plan.buses plan.functions task types) code.code)
-          (sym (same_types task values)) is.meant;
+          (sym (same_types task first)) is.meant;
       certified = subst IsAccepted (sym same) is.certified;
       bound = is.bound;
     }
 
-all_kept : (plan : Planned) (globals : List Value) (slots : List (List Value)) (tasks : List PlannedTask)
+all_kept : (plan : Planned) (globals : List Value) (begins : List Lasting) (tasks : List PlannedTask)
     (codes : List Accepted) → AllZip (IsCodeOf plan) tasks codes
-    → AllZip (IsCodeOf (plan_with plan globals slots)) tasks codes
-all_kept plan globals slots [] [] are = tt
-all_kept plan globals slots [] (code ∷ codes) are = absurd are
-all_kept plan globals slots (task ∷ tasks) [] are = absurd are
-all_kept plan globals slots (task ∷ tasks) (code ∷ codes) are =
-    (code_kept plan globals slots task code are.0, all_kept plan globals slots tasks codes are.1)
+    → AllZip (IsCodeOf (plan_with plan globals begins)) tasks codes
+all_kept plan globals begins [] [] are = tt
+all_kept plan globals begins [] (code ∷ codes) are = absurd are
+all_kept plan globals begins (task ∷ tasks) [] are = absurd are
+all_kept plan globals begins (task ∷ tasks) (code ∷ codes) are =
+    (code_kept plan globals begins task code are.0, all_kept plan globals begins tasks codes are.1)
 
-each_code : (plan : Planned) (globals : List Value) (all : List (List Value)) (tasks : List PlannedTask)
-    (slots : List (List Value)) (codes : List Accepted) → AllZip (IsCodeOf plan) tasks codes
-    → AllZip (IsCodeOf (plan_with plan globals all)) (each_with task_with tasks slots) codes
-each_code plan globals all [] slots [] are = tt
-each_code plan globals all [] slots (code ∷ codes) are = absurd are
+each_code : (plan : Planned) (globals : List Value) (all : List Lasting) (tasks : List PlannedTask)
+    (begins : List Lasting) (codes : List Accepted) → AllZip (IsCodeOf plan) tasks codes
+    → AllZip (IsCodeOf (plan_with plan globals all)) (each_with task_with tasks begins) codes
+each_code plan globals all [] begins [] are = tt
+each_code plan globals all [] begins (code ∷ codes) are = absurd are
 each_code plan globals all (task ∷ tasks) [] codes are = all_kept plan globals all (task ∷ tasks) codes are
-each_code plan globals all (task ∷ tasks) (values ∷ slots) [] are = absurd are
-each_code plan globals all (task ∷ tasks) (values ∷ slots) (code ∷ codes) are = (
-  code_begun plan globals all task values code are.0,
-  each_code plan globals all tasks slots codes are.1,
+each_code plan globals all (task ∷ tasks) (first ∷ begins) [] are = absurd are
+each_code plan globals all (task ∷ tasks) (first ∷ begins) (code ∷ codes) are = (
+  code_begun plan globals all task first code are.0,
+  each_code plan globals all tasks begins codes are.1,
 )
 
-pub codes_begun : (plan : Planned) (globals : List Value) (slots : List (List Value)) (codes : List Accepted)
-    → AreCodes plan codes → AreCodes (plan_with plan globals slots) codes
-codes_begun plan globals slots codes are = each_code plan globals slots plan.tasks slots codes are
+pub codes_begun : (plan : Planned) (globals : List Value) (begins : List Lasting) (codes : List Accepted)
+    → AreCodes plan codes → AreCodes (plan_with plan globals begins) codes
+codes_begun plan globals begins codes are = each_code plan globals begins plan.tasks begins codes are
 
 -- ---- and back
 
-code_left : (plan : Planned) (globals : List Value) (slots : List (List Value)) (task : PlannedTask) (code : Accepted)
-    → IsCodeOf (plan_with plan globals slots) task code → IsCodeOf plan task code
-code_left plan globals slots task code is =
+code_left : (plan : Planned) (globals : List Value) (begins : List Lasting) (task : PlannedTask) (code : Accepted)
+    → IsCodeOf (plan_with plan globals begins) task code → IsCodeOf plan task code
+code_left plan globals begins task code is =
     record { laid = is.laid; meant = is.meant; certified = is.certified; bound = is.bound }
 
-code_before : (plan : Planned) (globals : List Value) (slots : List (List Value)) (task : PlannedTask)
-    (values : List Value) (code : Accepted) → IsCodeOf (plan_with plan globals slots) (task_with task values) code
+code_before : (plan : Planned) (globals : List Value) (begins : List Lasting) (task : PlannedTask)
+    (first : Lasting) (code : Accepted) → IsCodeOf (plan_with plan globals begins) (task_with task first) code
     → IsCodeOf plan task code
-code_before plan globals slots task values code is =
-    let same = same_layout plan.buses plan.text plan.functions task values in
+code_before plan globals begins task first code is =
+    let same = same_layout plan.buses plan.text plan.functions task first in
     record {
       laid = is.laid ∙ same;
       meant = subst (λ (types : List IlType). IsMeant (scan_by plan.buses plan.functions task types) code.code)
-          (same_types task values) is.meant;
+          (same_types task first) is.meant;
       certified = subst IsAccepted same is.certified;
       bound = is.bound;
     }
 
-all_left : (plan : Planned) (globals : List Value) (slots : List (List Value)) (tasks : List PlannedTask)
-    (codes : List Accepted) → AllZip (IsCodeOf (plan_with plan globals slots)) tasks codes
+all_left : (plan : Planned) (globals : List Value) (begins : List Lasting) (tasks : List PlannedTask)
+    (codes : List Accepted) → AllZip (IsCodeOf (plan_with plan globals begins)) tasks codes
     → AllZip (IsCodeOf plan) tasks codes
-all_left plan globals slots [] [] are = tt
-all_left plan globals slots [] (code ∷ codes) are = absurd are
-all_left plan globals slots (task ∷ tasks) [] are = absurd are
-all_left plan globals slots (task ∷ tasks) (code ∷ codes) are =
-    (code_left plan globals slots task code are.0, all_left plan globals slots tasks codes are.1)
+all_left plan globals begins [] [] are = tt
+all_left plan globals begins [] (code ∷ codes) are = absurd are
+all_left plan globals begins (task ∷ tasks) [] are = absurd are
+all_left plan globals begins (task ∷ tasks) (code ∷ codes) are =
+    (code_left plan globals begins task code are.0, all_left plan globals begins tasks codes are.1)
 
-each_before : (plan : Planned) (globals : List Value) (all : List (List Value)) (tasks : List PlannedTask)
-    (slots : List (List Value)) (codes : List Accepted)
-    → AllZip (IsCodeOf (plan_with plan globals all)) (each_with task_with tasks slots) codes
+each_before : (plan : Planned) (globals : List Value) (all : List Lasting) (tasks : List PlannedTask)
+    (begins : List Lasting) (codes : List Accepted)
+    → AllZip (IsCodeOf (plan_with plan globals all)) (each_with task_with tasks begins) codes
     → AllZip (IsCodeOf plan) tasks codes
-each_before plan globals all [] slots [] are = tt
-each_before plan globals all [] slots (code ∷ codes) are = absurd are
+each_before plan globals all [] begins [] are = tt
+each_before plan globals all [] begins (code ∷ codes) are = absurd are
 each_before plan globals all (task ∷ tasks) [] codes are = all_left plan globals all (task ∷ tasks) codes are
-each_before plan globals all (task ∷ tasks) (values ∷ slots) [] are = absurd are
-each_before plan globals all (task ∷ tasks) (values ∷ slots) (code ∷ codes) are = (
-  code_before plan globals all task values code are.0,
-  each_before plan globals all tasks slots codes are.1,
+each_before plan globals all (task ∷ tasks) (first ∷ begins) [] are = absurd are
+each_before plan globals all (task ∷ tasks) (first ∷ begins) (code ∷ codes) are = (
+  code_before plan globals all task first code are.0,
+  each_before plan globals all tasks begins codes are.1,
 )
 
-pub codes_before : (plan : Planned) (globals : List Value) (slots : List (List Value)) (codes : List Accepted)
-    → AreCodes (plan_with plan globals slots) codes → AreCodes plan codes
-codes_before plan globals slots codes are = each_before plan globals slots plan.tasks slots codes are
+pub codes_before : (plan : Planned) (globals : List Value) (begins : List Lasting) (codes : List Accepted)
+    → AreCodes (plan_with plan globals begins) codes → AreCodes plan codes
+codes_before plan globals begins codes are = each_before plan globals begins plan.tasks begins codes are

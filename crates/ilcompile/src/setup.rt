@@ -1,6 +1,6 @@
 //! A plan with its verified codes.
 
-use ilplan::Plan;
+use ilplan::{Plan, TaskState};
 use iltypes::Value;
 use ilverify::Verified;
 use std::marker::Model;
@@ -40,7 +40,7 @@ impl Model for Setup {
 impl Setup {
     ghost use Rattle.std.specs.Prelude.{◌≡◌, ◌<◌, length, slice_get, IfSome, Some};
     ghost use Rattle.std.specs.Arc.{arc_value};
-    ghost use Rattle.ilplan.specs.Beginnings.{MayBegin, lists_of, plan_with};
+    ghost use Rattle.ilplan.specs.Beginnings.{MayBegin, plan_with};
     ghost use Rattle.ilcompile.specs.Loaded.{AreCodes, IsCodeOf, Loaded, accepted_of, loaded_of};
 
     /// The setup of a plan and its tasks' codes.
@@ -51,15 +51,14 @@ impl Setup {
         Setup { plan, verified }
     }
 
-    /// Lets the plan's variables begin with these values, as [`Plan::begin_with`] does. The codes
-    /// stay as they are: none has the value with which a variable begins.
-    pub fn begin_with(&mut self, globals: &[Value], slots: &[Vec<Value>])
-        requires { MayBegin self.old.plan globals.now (lists_of (λ values. values.items) slots.now) }
-        ensures { self.new ≡ loaded_of
-            (plan_with self.old.plan globals.now (lists_of (λ values. values.items) slots.now))
+    /// Lets the plan's variables and block instances begin so, as [`Plan::begin_with`] does. The
+    /// codes stay as they are: none has what a variable or an instance begins with.
+    pub fn begin_with(&mut self, globals: &[Value], tasks: &[TaskState])
+        requires { MayBegin self.old.plan globals.now tasks.now }
+        ensures { self.new ≡ loaded_of (plan_with self.old.plan globals.now tasks.now)
             self.old.codes }
     {
-        self.plan.begin_with(globals, slots);
+        self.plan.begin_with(globals, tasks);
     }
 
     /// The plan.

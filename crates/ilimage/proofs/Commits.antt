@@ -12,10 +12,11 @@ use Rattle.ilblocks.specs.Calls.{Block}
 use Rattle.ilblocks.proofs.Blocks.{set_typed, value_at}
 use Rattle.ilcode.specs.Listings.{lasting_types}
 use Rattle.ilimage.specs.declared.external.External.{External}
+use Rattle.ilimage.specs.Images.{first_task}
 use Rattle.ilimage.specs.Images.{TaskLayout, TaskImage, ProcessImage, ImageVariable, Global, Own, image_of, layout_of}
 use Rattle.ilimage.specs.Images.{value_of, blocks_of, written_at, written_in, AreTyped, AreApart}
 use Rattle.ilimage.specs.Images.{IsLawful, IsLawfulTask, IsImage}
-use Rattle.ilimage.specs.ImageSteps.{task_of, stored_globals}
+use Rattle.ilimage.specs.ImageSteps.{stored_globals}
 use Rattle.ilimage.proofs.Places.{at_all, layout_at, typed_there}
 
 -- ---- an item that is set
@@ -110,7 +111,7 @@ written_global types (type ∷ slots) (x ∷ more) (v ∷ others) globals (suc s
 -- ---- the image after a scan
 
 abbrev pub left : TaskImage → List Value → List Block → TaskImage
-left t vs blocks = task_of t.layout.verified t.layout.externals (drop (length t.layout.externals) vs) blocks
+left t vs blocks = first_task t.layout.verified t.layout.externals (drop (length t.layout.externals) vs) blocks
 
 abbrev pub committed : ProcessImage → ℕ → TaskImage → List Value → List Block → ProcessImage
 committed image task t vs blocks =

@@ -4,19 +4,10 @@ use Rattle.iltypes.specs.declared.value.IlType.{IlType}
 use Rattle.iltypes.specs.declared.value.Value.{Value}
 use Rattle.iltypes.specs.declared.value.Value.TheVariants as values
 use Rattle.iltypes.specs.Values.{AreOf}
-use Rattle.ilblocks.specs.Calls.{Block}
 use Rattle.ilcode.specs.Listings.{lasting_types}
-use Rattle.ilverify.specs.Verdicts.{Accepted}
 use Rattle.ilimage.specs.declared.external.External.{External}
 use Rattle.ilimage.specs.declared.overriding.Override.{Override}
 use Rattle.ilimage.specs.Images.{TaskLayout, TaskImage, AreTyped}
-
-abbrev pub task_of : Accepted → List External → List Value → List Block → TaskImage
-task_of verified externals values blocks =
-    record {
-      layout = record { verified = verified; externals = externals };
-      own = record { slots = values; blocks = blocks };
-    }
 
 abbrev pub global_value : List Value → External → Value
 global_value globals external = slice_index_or globals external.global (values.Bool false)

@@ -8,7 +8,7 @@ use Rattle.iltypes.specs.declared.value.IlType.{IlType}
 use Rattle.iltypes.specs.declared.value.Value.{Value}
 use Rattle.iltypes.specs.Values.{AreOf}
 use Rattle.ilblocks.specs.Calls.{Block, IsBlockOf}
-use Rattle.ilblocks.specs.Stores.{Lasting, blocks_at_first}
+use Rattle.ilblocks.specs.Stores.{Lasting}
 use Rattle.ilcode.specs.Listings.{lasting_types}
 use Rattle.ilverify.specs.Verdicts.{Accepted}
 use Rattle.ilimage.specs.declared.external.External.{External}
@@ -43,12 +43,12 @@ pub record Layout : Type 0 where
 abbrev pub layout_of : ProcessImage → Layout
 layout_of image = record { types = image.types; tasks = map (λ t. t.layout) image.tasks }
 
--- a task with these values of its own variables, and each block instance as it is before its first call
-abbrev pub first_task : Accepted → List External → List Value → TaskImage
-first_task verified externals values =
+-- a task before its first scan, with these values of its own variables and these block instances
+abbrev pub first_task : Accepted → List External → List Value → List Block → TaskImage
+first_task verified externals values blocks =
     record {
       layout = record { verified = verified; externals = externals };
-      own = record { slots = values; blocks = blocks_at_first verified.code.kinds };
+      own = record { slots = values; blocks = blocks };
     }
 
 -- the code of a task, and what it keeps in its block instances

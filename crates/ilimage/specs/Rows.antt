@@ -28,9 +28,10 @@ external global stored = record { global = global; stored = stored }
 abbrev pub setter : ℕ → TaskImage
 setter count =
     first_task (accepted (level ∷ types.Bool ∷ level ∷ [])) (external 1 true ∷ external 0 false ∷ []) (whole count ∷ [])
+    []
 
 abbrev pub watcher : TaskImage
-watcher = first_task (accepted (level ∷ types.Bool ∷ [])) (external 1 false ∷ []) (values.Bool true ∷ [])
+watcher = first_task (accepted (level ∷ types.Bool ∷ [])) (external 1 false ∷ []) (values.Bool true ∷ []) []
 
 -- a task whose code has a function with an input and its result, behind the slots of the first task
 abbrev pub calling : TaskLayout

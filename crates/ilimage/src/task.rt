@@ -3,7 +3,6 @@
 ghost use Rattle.std.specs.Prelude.{◌≡◌, ◌<◌, All, IfOk, length, map};
 ghost use Rattle.ilimage.specs.ImageSteps.{global_value};
 
-use crate::code_rows::first_blocks;
 use crate::external::External;
 use crate::prepared::PreparedCode;
 use ilblocks::BlockState;
@@ -26,15 +25,14 @@ pub struct TaskImage {
 
 impl Model for TaskImage {
     ghost use Rattle.std.specs.Arc.{arc_value};
-    ghost use Rattle.ilimage.specs.Images.{TaskImage, IsTaskImage};
-    ghost use Rattle.ilimage.specs.ImageSteps.{task_of};
+    ghost use Rattle.ilimage.specs.Images.{TaskImage, IsTaskImage, first_task};
 
     ghost Value = { TaskImage };
 
-    ghost view = { λ t. task_of (arc_value t.prepared) t.externals.items t.values.items
+    ghost view = { λ t. first_task (arc_value t.prepared) t.externals.items t.values.items
         t.blocks.items };
 
-    ghost invariant = { λ t. IsTaskImage (task_of (arc_value t.prepared) t.externals.items
+    ghost invariant = { λ t. IsTaskImage (first_task (arc_value t.prepared) t.externals.items
         t.values.items t.blocks.items) };
 }
 
@@ -49,20 +47,22 @@ impl TaskImage {
     ghost use Rattle.ilimage.specs.ImageSteps.{slot_values};
 
     /// A task of this code, whose first slots are these global variables, with these values of its
-    /// own variables, one in its type for each slot of the programs that is left, and with each
-    /// block instance as it is before its first call.
+    /// own variables, one in its type for each slot of the programs that is left, and with these
+    /// block instances, one of its kind for each of the code's.
     pub fn new(
         alloc: Global,
         verified: Arc<Verified, Global>,
         externals: Vec<External>,
         values: Vec<Value>,
+        blocks: Vec<BlockState>,
     ) -> Result<TaskImage, AllocError>
-        requires { AreOf values.items
+        requires values { AreOf values.items
             (drop (length externals.items) (lasting_types (arc_value verified).code)) }
+        requires blocks { AllZip (IsBlockOf (arc_value verified).code.buses) blocks.items
+            (arc_value verified).code.kinds }
         ensures { IfOk result (λ made.
-            made ≡ first_task (arc_value verified) externals.items values.items) }
+            made ≡ first_task (arc_value verified) externals.items values.items blocks.items) }
     {
-        let blocks = first_blocks(alloc, verified.code().kinds())?;
         let prepared = PreparedCode::shared(alloc, verified)?;
         Ok(TaskImage {
             prepared,

@@ -54,6 +54,16 @@ module _ {X Y : Type 0} (put : X → Y → X) where
       ap (λ (a : Y). a ∷ map view (each_with put xs ys)) (took x y)
       ∙ ap (λ (rest : List Y). y ∷ rest) (map_given view took xs ys (omega arith))
 
+-- where an item takes the place of the one that was there
+abbrev pub in_place : {X : Type 0} → X → X → X
+in_place old new = new
+
+pub all_in_place : {X : Type 0} (xs ys : List X) → length ys ≡ length xs → each_with in_place xs ys ≡ ys
+all_in_place [] [] long = refl
+all_in_place [] (y ∷ ys) long = absurd (omega arith)
+all_in_place (x ∷ xs) [] long = absurd (omega arith)
+all_in_place {X} (x ∷ xs) (y ∷ ys) long = ap (λ (rest : List X). y ∷ rest) (all_in_place xs ys (omega arith))
+
 -- what stands at the same place of both lists
 pub zip_at : {X Y : Type 0} (R : X → Y → Type 0) (xs : List X) (ys : List Y) (k : ℕ) (x : X) (y : Y) → AllZip R xs ys
     → slice_get xs k ≡ Some x → slice_get ys k ≡ Some y → R x y

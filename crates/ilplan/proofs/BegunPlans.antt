@@ -5,10 +5,14 @@ use Rattle.std.specs.Prelude.{All, AllPairs, IfSome, slice_get}
 use Rattle.std.specs.List.{AllByRecursion, AllZip}
 use Rattle.std.proofs.lemmas.List.Elements.{All-nil, All-cons, All-head, All-tail}
 use Rattle.std.proofs.lemmas.Option.{some_pair_parts}
+use Rattle.std.proofs.lemmas.Slice.Zip.{AllZip-long}
 use Rattle.iltypes.specs.declared.value.IlType.{IlType}
 use Rattle.iltypes.specs.declared.value.Value.{Value}
 use Rattle.iltypes.specs.Values.{AreOf}
 use Rattle.wordlines.specs.Wirings.{Wiring}
+use Rattle.ilblocks.specs.declared.kind.BlockKind.{BlockKind}
+use Rattle.ilblocks.specs.Calls.{Block, IsBlockOf}
+use Rattle.ilblocks.specs.Stores.{Lasting}
 use Rattle.ilplan.specs.declared.activation.Activation.{Activation}
 use Rattle.ilplan.specs.declared.activation.Activation.TheVariants.{Cyclic, Event}
 use Rattle.ilplan.specs.declared.global.Global.{Global as GlobalVariable}
@@ -19,7 +23,8 @@ use Rattle.ilplan.specs.declared.slot.SlotOwner.TheVariants.{Global, Own}
 use Rattle.ilplan.specs.Functions.{PlannedFunction}
 use Rattle.ilplan.specs.Plans.{Planned, PlannedTask, KeepsLimits, IsLawful, IsDeclared, IsTaskOf, HasTrigger, AreApart}
 use Rattle.ilplan.specs.Plans.{IsLocatedIn, AreLinesOf, AreOrdered, wiring_of, kinds_of, inputs_of, all_lines}
-use Rattle.ilplan.specs.Plans.{type_and_initial, types_of}
+use Rattle.ilplan.specs.Plans.{HasStates, type_and_initial, types_of}
+use Rattle.ilplan.specs.BeginningSteps.{FitsTask}
 use Rattle.ilplan.specs.Beginnings.{each_with, global_with, slot_with, task_with, plan_with, BeginsAs}
 use Rattle.ilplan.specs.Beginnings.{MayBeginTask, MayBegin}
 use Rattle.ilplan.proofs.Beginnings.{length_with, map_with, map_given}
@@ -123,9 +128,11 @@ all_declared globals values (s ∷ slots) (v ∷ firsts) long are begin = (
   all_declared globals values slots firsts long are.1 begin.1,
 )
 
-keeps : (functions : List PlannedFunction) (globals : List Value) (task : PlannedTask) (values : List Value)
-    → KeepsLimits functions task → MayBeginTask globals task values → KeepsLimits functions (task_with task values)
-keeps functions globals task values k may =
+keeps : (functions : List PlannedFunction) (buses : ℕ) (globals : List Value) (task : PlannedTask) (begins : Lasting)
+    → KeepsLimits functions task → MayBeginTask buses globals task begins
+    → KeepsLimits functions (task_with task begins)
+keeps functions buses globals task begins k may =
+    let values = begins.slots in
     let many = length_with slot_with task.slots values in
     let types = map_with slot_with (λ (s : Slot). s.value_type) (λ s v. refl) task.slots values in
     let long = as_long values (types_of task) may.typed ∙ length_map (λ (s : Slot). s.value_type) task.slots in
@@ -150,38 +157,47 @@ keeps functions globals task values k may =
       interval = k.interval;
     }
 
-all_keep : (functions : List PlannedFunction) (globals : List Value) (tasks : List PlannedTask)
-    (slots : List (List Value)) → AllByRecursion (KeepsLimits functions) tasks
-    → AllZip (MayBeginTask globals) tasks slots → AllByRecursion (KeepsLimits functions) (each_with task_with tasks slots)
-all_keep functions globals [] slots all may = tt
-all_keep functions globals (task ∷ tasks) [] all may = absurd may
-all_keep functions globals (task ∷ tasks) (values ∷ slots) all may =
-    (keeps functions globals task values all.0 may.0, all_keep functions globals tasks slots all.1 may.1)
+all_keep : (functions : List PlannedFunction) (buses : ℕ) (globals : List Value) (tasks : List PlannedTask)
+    (begins : List Lasting) → AllByRecursion (KeepsLimits functions) tasks
+    → AllZip (MayBeginTask buses globals) tasks begins
+    → AllByRecursion (KeepsLimits functions) (each_with task_with tasks begins)
+all_keep functions buses globals [] begins all may = tt
+all_keep functions buses globals (task ∷ tasks) [] all may = absurd may
+all_keep functions buses globals (task ∷ tasks) (first ∷ begins) all may =
+    (keeps functions buses globals task first all.0 may.0, all_keep functions buses globals tasks begins all.1 may.1)
 
-all_tasks : (globals : List GlobalVariable) (values : List Value) (tasks : List PlannedTask) (slots : List (List Value))
-    → length values ≡ length globals → AllByRecursion (IsTaskOf globals) tasks
-    → AllZip (MayBeginTask values) tasks slots
-    → AllByRecursion (IsTaskOf (each_with global_with globals values)) (each_with task_with tasks slots)
-all_tasks globals values [] slots long all may = tt
-all_tasks globals values (task ∷ tasks) [] long all may = absurd may
-all_tasks globals values (task ∷ tasks) (firsts ∷ slots) long all may = (
+all_tasks : (globals : List GlobalVariable) (values : List Value) (buses : ℕ) (tasks : List PlannedTask)
+    (begins : List Lasting) → length values ≡ length globals → AllByRecursion (IsTaskOf globals) tasks
+    → AllZip (MayBeginTask buses values) tasks begins
+    → AllByRecursion (IsTaskOf (each_with global_with globals values)) (each_with task_with tasks begins)
+all_tasks globals values buses [] begins long all may = tt
+all_tasks globals values buses (task ∷ tasks) [] long all may = absurd may
+all_tasks globals values buses (task ∷ tasks) (first ∷ begins) long all may = (
   (
     trigger globals values task.activation long all.0.0,
-    all_declared globals values task.slots firsts long all.0.1 may.0.same,
+    all_declared globals values task.slots first.slots long all.0.1 may.0.same,
   ),
-  all_tasks globals values tasks slots long all.1 may.1,
+  all_tasks globals values buses tasks begins long all.1 may.1,
 )
+
+all_states : (buses : ℕ) (globals : List Value) (tasks : List PlannedTask) (begins : List Lasting)
+    → AllZip (MayBeginTask buses globals) tasks begins
+    → AllByRecursion (HasStates buses) (each_with task_with tasks begins)
+all_states buses globals [] begins may = tt
+all_states buses globals (task ∷ tasks) [] may = absurd may
+all_states buses globals (task ∷ tasks) (first ∷ begins) may =
+    (may.0.blocks, all_states buses globals tasks begins may.1)
 
 -- ---- the plan
 
-pub begun_lawful : (plan : Planned) (globals : List Value) (slots : List (List Value)) → IsLawful plan
-    → MayBegin plan globals slots → IsLawful (plan_with plan globals slots)
-begun_lawful plan globals slots lawful may =
+pub begun_lawful : (plan : Planned) (globals : List Value) (begins : List Lasting) → IsLawful plan
+    → MayBegin plan globals begins → IsLawful (plan_with plan globals begins)
+begun_lawful plan globals begins lawful may =
     let long = as_long globals (map (λ (g : GlobalVariable). g.value_type) plan.globals) may.typed
     ∙ length_map (λ (g : GlobalVariable). g.value_type) plan.globals in
     let types = map_with global_with (λ (g : GlobalVariable). g.value_type) (λ g v. refl) plan.globals globals in
     let firsts = map_given global_with (λ (g : GlobalVariable). g.initial) (λ g v. refl) plan.globals globals long in
-    let many = length_with task_with plan.tasks slots in
+    let many = length_with task_with plan.tasks begins in
     record {
       text = lawful.text;
       wiring = lawful.wiring;
@@ -194,28 +210,37 @@ begun_lawful plan globals slots lawful may =
       most_functions = lawful.most_functions;
       functions = lawful.functions;
       depths = lawful.depths;
-      limits = all_keep plan.functions globals plan.tasks slots lawful.limits may.tasks;
-      tasks = all_tasks plan.globals globals plan.tasks slots long lawful.tasks may.tasks;
+      limits = all_keep plan.functions plan.buses globals plan.tasks begins lawful.limits may.tasks;
+      tasks = all_tasks plan.globals globals plan.buses plan.tasks begins long lawful.tasks may.tasks;
+      states = all_states plan.buses globals plan.tasks begins may.tasks;
     }
 
 -- there is a value for each
-pub globals_long : (plan : Planned) (globals : List Value) (slots : List (List Value)) → MayBegin plan globals slots
+pub globals_long : (plan : Planned) (globals : List Value) (begins : List Lasting) → MayBegin plan globals begins
     → length globals ≡ length plan.globals
-globals_long plan globals slots may =
+globals_long plan globals begins may =
     as_long globals (map (λ (g : GlobalVariable). g.value_type) plan.globals) may.typed
     ∙ length_map (λ (g : GlobalVariable). g.value_type) plan.globals
 
-tasks_long : (globals : List Value) (tasks : List PlannedTask) (slots : List (List Value))
-    → AllZip (MayBeginTask globals) tasks slots
-    → AllZip (λ task values. length values ≡ length task.slots) tasks slots
-tasks_long globals [] [] may = tt
-tasks_long globals [] (values ∷ slots) may = absurd may
-tasks_long globals (task ∷ tasks) [] may = absurd may
-tasks_long globals (task ∷ tasks) (values ∷ slots) may = (
-  as_long values (types_of task) may.0.typed ∙ length_map (λ (s : Slot). s.value_type) task.slots,
-  tasks_long globals tasks slots may.1,
+blocks_long : (buses : ℕ) (blocks others : List Block) (kinds : List BlockKind)
+    → AllZip (IsBlockOf buses) blocks kinds → AllZip (IsBlockOf buses) others kinds → length blocks ≡ length others
+blocks_long buses blocks others kinds all also =
+    sym (AllZip-long (IsBlockOf buses) blocks kinds all) ∙ AllZip-long (IsBlockOf buses) others kinds also
+
+tasks_fit : (buses : ℕ) (globals : List Value) (tasks : List PlannedTask) (begins : List Lasting)
+    → AllByRecursion (HasStates buses) tasks → AllZip (MayBeginTask buses globals) tasks begins
+    → AllZip FitsTask tasks begins
+tasks_fit buses globals [] [] have may = tt
+tasks_fit buses globals [] (first ∷ begins) have may = absurd may
+tasks_fit buses globals (task ∷ tasks) [] have may = absurd may
+tasks_fit buses globals (task ∷ tasks) (first ∷ begins) have may = (
+  record {
+    values = as_long first.slots (types_of task) may.0.typed ∙ length_map (λ (s : Slot). s.value_type) task.slots;
+    blocks = blocks_long buses first.blocks task.states (kinds_of task) may.0.blocks have.0;
+  },
+  tasks_fit buses globals tasks begins have.1 may.1,
 )
 
-pub slots_long : (plan : Planned) (globals : List Value) (slots : List (List Value)) → MayBegin plan globals slots
-    → AllZip (λ task values. length values ≡ length task.slots) plan.tasks slots
-slots_long plan globals slots may = tasks_long globals plan.tasks slots may.tasks
+pub all_fit : (plan : Planned) (globals : List Value) (begins : List Lasting) → IsLawful plan
+    → MayBegin plan globals begins → AllZip FitsTask plan.tasks begins
+all_fit plan globals begins lawful may = tasks_fit plan.buses globals plan.tasks begins lawful.states may.tasks

@@ -2,9 +2,8 @@
 use Rattle.std.proofs.Common.{◌≡◌, ℕ, zero, suc, List, [], ◌∷◌, map, Option, Some, refl, sym, ap, ◌∙◌}
 use Rattle.std.specs.Prelude.{slice_get}
 use Rattle.iltypes.specs.declared.value.IlType.{IlType}
-use Rattle.iltypes.specs.declared.value.Value.{Value}
 use Rattle.ilsource.specs.Passes.{scan}
-use Rattle.ilblocks.specs.Stores.{Store}
+use Rattle.ilblocks.specs.Stores.{Lasting, Store}
 use Rattle.ilplan.specs.declared.slot.Slot.{Slot}
 use Rattle.ilplan.specs.Functions.{PlannedFunction}
 use Rattle.ilplan.specs.PlanMeaning.{number_same, places_of, functions_given, plan_scan}
@@ -21,13 +20,13 @@ scan_by buses functions task types store =
       kinds = kinds_of task;
     }) (functions_given functions)) (map (λ i. i.lines) task.instances) store
 
-pub same_types : (task : PlannedTask) (values : List Value) → types_of (task_with task values) ≡ types_of task
-same_types task values = map_with slot_with (λ (s : Slot). s.value_type) (λ s v. refl) task.slots values
+pub same_types : (task : PlannedTask) (begins : Lasting) → types_of (task_with task begins) ≡ types_of task
+same_types task begins = map_with slot_with (λ (s : Slot). s.value_type) (λ s v. refl) task.slots begins.slots
 
-pub same_scan : (buses : ℕ) (functions : List PlannedFunction) (task : PlannedTask) (values : List Value) (store : Store)
-    → plan_scan buses functions (task_with task values) store ≡ plan_scan buses functions task store
-same_scan buses functions task values store =
-    ap (λ (types : List IlType). scan_by buses functions task types store) (same_types task values)
+pub same_scan : (buses : ℕ) (functions : List PlannedFunction) (task : PlannedTask) (begins : Lasting) (store : Store)
+    → plan_scan buses functions (task_with task begins) store ≡ plan_scan buses functions task store
+same_scan buses functions task begins store =
+    ap (λ (types : List IlType). scan_by buses functions task types store) (same_types task begins)
 
 -- a task that may begin with other values: the task that it was, which means the same
 pub record IsTaskBegun (tasks : List PlannedTask) (number : ℕ) (begun : PlannedTask) : Type 0 where
@@ -36,20 +35,20 @@ pub record IsTaskBegun (tasks : List PlannedTask) (number : ℕ) (begun : Planne
   pub means : (buses : ℕ) (functions : List PlannedFunction) (store : Store)
       → plan_scan buses functions begun store ≡ plan_scan buses functions task store
 
-pub begun_task : (tasks : List PlannedTask) (slots : List (List Value)) (number : ℕ) (begun : PlannedTask)
-    → slice_get (each_with task_with tasks slots) number ≡ Some begun → IsTaskBegun tasks number begun
-begun_task [] slots number begun is = absurd (cc)
+pub begun_task : (tasks : List PlannedTask) (begins : List Lasting) (number : ℕ) (begun : PlannedTask)
+    → slice_get (each_with task_with tasks begins) number ≡ Some begun → IsTaskBegun tasks number begun
+begun_task [] begins number begun is = absurd (cc)
 begun_task (task ∷ tasks) [] number begun is =
     record { task = begun; there = is; means = λ buses functions store. refl }
-begun_task (task ∷ tasks) (values ∷ slots) zero begun is =
-    let same : task_with task values ≡ begun = cc in
+begun_task (task ∷ tasks) (first ∷ begins) zero begun is =
+    let same : task_with task first ≡ begun = cc in
     record {
       task = task;
       there = refl;
       means = λ buses functions store.
           ap (λ (t : PlannedTask). plan_scan buses functions t store) (sym same)
-          ∙ same_scan buses functions task values store;
+          ∙ same_scan buses functions task first store;
     }
-begun_task (task ∷ tasks) (values ∷ slots) (suc number) begun is =
-    let rest = begun_task tasks slots number begun is in
+begun_task (task ∷ tasks) (first ∷ begins) (suc number) begun is =
+    let rest = begun_task tasks begins number begun is in
     record { task = rest.task; there = rest.there; means = rest.means }

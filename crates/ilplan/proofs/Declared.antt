@@ -19,6 +19,7 @@ use Rattle.ilplan.specs.declared.slot.SlotOwner.{SlotOwner}
 use Rattle.ilplan.specs.declared.slot.SlotOwner.TheVariants.{Global, Own}
 use Rattle.ilplan.specs.Functions.{PlannedFunction}
 use Rattle.ilplan.specs.Plans.{Planned, PlannedTask, KeepsLimits, IsLawful, IsDeclared, IsTaskOf, HasTrigger, IsThere}
+use Rattle.ilplan.specs.Plans.{HasStates}
 use Rattle.ilplan.specs.Plans.{type_and_initial, first_value, first_values, is_trigger_of, types_of}
 
 -- one of all
@@ -81,6 +82,10 @@ task_limits plan k task lawful is = at (KeepsLimits plan.functions) plan.tasks k
 pub task_of_plan : (plan : Planned) (k : ℕ) (task : PlannedTask) → IsLawful plan → slice_get plan.tasks k ≡ Some task
     → IsTaskOf plan.globals task
 task_of_plan plan k task lawful is = at (IsTaskOf plan.globals) plan.tasks k task lawful.tasks is
+
+pub task_states : (plan : Planned) (k : ℕ) (task : PlannedTask) → IsLawful plan → slice_get plan.tasks k ≡ Some task
+    → HasStates plan.buses task
+task_states plan k task lawful is = at (HasStates plan.buses) plan.tasks k task lawful.states is
 
 module _ (globals : List GlobalVariable) (task : PlannedTask) (declared : IsTaskOf globals task) where
   pub firsts_typed : (functions : List PlannedFunction) → KeepsLimits functions task

@@ -1,3 +1,4 @@
+pub mod BeginningSteps
 pub mod Beginnings
 pub mod Constants
 pub mod Functions

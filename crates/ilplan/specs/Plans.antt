@@ -3,7 +3,7 @@ use Rattle.std.specs.Prelude.{◌≡◌, ℕ, pos, ◌+◌, ◌<◌, ◌≤◌, 
 use Rattle.std.specs.Prelude.{Bool, true, false, ⊤}
 use Rattle.std.specs.Prelude.{Option, None, Some, IfSome, slice_get, option_and_then, option_map, if◌then◌else◌}
 use Rattle.std.specs.Prelude.{All, AllPairs, Any, ◌≤ℤ◌, IsSomeAnd}
-use Rattle.std.specs.List.{AllByRecursion, list_any}
+use Rattle.std.specs.List.{AllByRecursion, AllZip, list_any}
 use Rattle.limits.specs.Limits as limits
 use Rattle.iltypes.specs.declared.value.IlType.{IlType}
 use Rattle.iltypes.specs.declared.value.IlType.TheVariants as types
@@ -29,8 +29,9 @@ use Rattle.ilsource.specs.Names.{text_of}
 use Rattle.gearcmd.specs.declared.requests.TaskKind.{TaskKind}
 use Rattle.gearcmd.specs.declared.requests.TaskKind.TheVariants as kinds
 use Rattle.ilblocks.specs.declared.kind.BlockKind.{BlockKind}
+use Rattle.ilblocks.specs.Calls.{Block, IsBlockOf}
 use Rattle.ilblocks.specs.Ports.{ports_of}
-use Rattle.ilblocks.specs.Stores.{Shape}
+use Rattle.ilblocks.specs.Stores.{Shape, blocks_at_first}
 use Rattle.ilplan.specs.declared.activation.Activation.{Activation}
 use Rattle.ilplan.specs.declared.activation.Activation.TheVariants.{Cyclic, Event}
 use Rattle.ilplan.specs.declared.global.Global.{Global as GlobalVariable}
@@ -62,14 +63,15 @@ pub record PlannedInstance : Type 0 where
   pub name : Name
   pub lines : List (Line Place ℕ)
 
--- a task: its name's bytes, what starts it, its priority (0 is the first), its variables, its block instances, its
--- constants, its program instances
+-- a task: its name's bytes, what starts it, its priority (0 is the first), its variables, its block instances, what each
+-- of these keeps before the first scan, its constants, its program instances
 pub record PlannedTask : Type 0 where
   pub name : List ℕ
   pub activation : Activation
   pub priority : ℕ
   pub slots : List Slot
   pub blocks : List FunctionBlock
+  pub states : List Block
   pub constants : List Value
   pub instances : List PlannedInstance
 
@@ -84,20 +86,28 @@ pub record Planned : Type 0 where
   pub functions : List PlannedFunction
   pub tasks : List PlannedTask
 
--- the task, and the plan, of these parts
-abbrev pub task_of : List ℕ → Activation → ℕ → List Slot → List FunctionBlock → List Value → List PlannedInstance
-    → PlannedTask
-task_of name activation priority slots blocks constants instances =
+-- the task of these parts
+abbrev pub task_in : List ℕ → Activation → ℕ → List Slot → List FunctionBlock → List Block → List Value
+    → List PlannedInstance → PlannedTask
+task_in name activation priority slots blocks states constants instances =
     record {
       name = name;
       activation = activation;
       priority = priority;
       slots = slots;
       blocks = blocks;
+      states = states;
       constants = constants;
       instances = instances;
     }
 
+-- the same, with each block instance as it is before its first call
+abbrev pub task_of : List ℕ → Activation → ℕ → List Slot → List FunctionBlock → List Value → List PlannedInstance
+    → PlannedTask
+task_of name activation priority slots blocks constants instances =
+    task_in name activation priority slots blocks (blocks_at_first (map (λ b. b.kind) blocks)) constants instances
+
+-- the plan of these parts
 abbrev pub plan_of : List ℕ → ℕ → List BoundSource → List BusTries → List GlobalVariable → List PlannedFunction
     → List PlannedTask → Planned
 plan_of text buses sources tries globals functions tasks =
@@ -373,9 +383,13 @@ IsTaskOf globals task =
     HasTrigger globals task.activation
     × AllByRecursion (λ s. IsDeclared globals s.variable s.value_type s.initial) task.slots
 
+-- what each block instance of a task keeps is one of its kind's, on so many buses
+abbrev pub HasStates : ℕ → PlannedTask → Type 0
+HasStates buses task = AllZip (IsBlockOf buses) task.states (kinds_of task)
+
 -- its text is no longer than the limit, its buses and sources are those of a binding, its global variables are located
 -- where they may be, each at an address of its own, no function is deeper than the limit or calls one that stands behind
--- it, and its tasks keep their limits and name what is there
+-- it, and its tasks keep their limits, name what is there, and have block instances that are of their kinds
 pub record IsLawful (plan : Planned) : Type 0 where
   pub text : length plan.text ≤ limits.most_bytes
   pub wiring : IsWithinLimits (wiring_of plan)
@@ -388,6 +402,7 @@ pub record IsLawful (plan : Planned) : Type 0 where
   pub depths : All (λ depth. depth ≤ limits.most_calls) (depths_from [] plan.functions)
   pub limits : AllByRecursion (KeepsLimits plan.functions) plan.tasks
   pub tasks : AllByRecursion (IsTaskOf plan.globals) plan.tasks
+  pub states : AllByRecursion (HasStates plan.buses) plan.tasks
 
 -- a task's slot, where there is one
 abbrev pub slot_at : Planned → ℕ → ℕ → Option Slot

@@ -2,12 +2,14 @@
 
 ghost use Rattle.std.specs.Prelude.{◌≡◌, length};
 ghost use Rattle.std.specs.List.{AllZip};
-ghost use Rattle.ilplan.specs.Beginnings.{each_with, global_with, task_with, lists_of};
+ghost use Rattle.ilplan.specs.Beginnings.{each_with, global_with, task_with};
+ghost use Rattle.ilplan.specs.BeginningSteps.{FitsTask};
 
 use crate::declared_name::{DeclaredName, SlotName};
 use crate::function::UserFunction;
 use crate::global::Global;
 use crate::slot::SlotOwner;
+use crate::state::TaskState;
 use crate::task::Task;
 use crate::usage::used_functions;
 use gearcmd::TaskKind;
@@ -70,8 +72,8 @@ impl Plan {
     ghost use Rattle.iltypes.specs.Values.{AreOf};
     ghost use Rattle.ilplan.specs.Plans.{Planned, KeepsLimits, IsLawful, plan_of, slot_at};
     ghost use Rattle.ilplan.specs.Plans.{first_values, task_kind, types_of, used_functions};
-    ghost use Rattle.ilplan.specs.Plans.{IsTaskOf, IsThere, instance_name, variable_name};
-    ghost use Rattle.ilplan.specs.Beginnings.{MayBegin, plan_with, lists_of};
+    ghost use Rattle.ilplan.specs.Plans.{HasStates, IsTaskOf, IsThere, instance_name, variable_name};
+    ghost use Rattle.ilplan.specs.Beginnings.{MayBegin, plan_with};
 
     /// The plan of these tasks and functions, whose names stand in `text`, on so many buses with
     /// these sources of events and these attempts.
@@ -100,16 +102,15 @@ impl Plan {
         }
     }
 
-    /// Lets its variables begin with these values: each global variable with one of its type, and
-    /// each slot of each task with one of its type, which for the slot of a global variable is the
-    /// one of that.
-    pub fn begin_with(&mut self, globals: &[Value], slots: &[Vec<Value>])
-        requires { MayBegin self.old globals.now (lists_of (λ values. values.items) slots.now) }
-        ensures { self.new
-            ≡ plan_with self.old globals.now (lists_of (λ values. values.items) slots.now) }
+    /// Lets its variables and block instances begin so: each global variable with a value of its
+    /// type, and each slot of each task with one of its type, which for the slot of a global
+    /// variable is the one of that; and each block instance with what one of its kind keeps.
+    pub fn begin_with(&mut self, globals: &[Value], tasks: &[TaskState])
+        requires { MayBegin self.old globals.now tasks.now }
+        ensures { self.new ≡ plan_with self.old globals.now tasks.now }
     {
         begin_globals(&mut self.globals, globals);
-        begin_tasks(&mut self.tasks, slots);
+        begin_tasks(&mut self.tasks, tasks);
     }
 
     /// The text that its names and places are of.
@@ -180,6 +181,7 @@ impl Plan {
         ensures value { slice_get self.now.tasks task ≡ Some result.now }
         ensures limits { KeepsLimits self.now.functions result.now }
         ensures declared { IsTaskOf self.now.globals result.now }
+        ensures states { HasStates self.now.buses result.now }
         // A trigger is BOOL, so that it may be TRUE.
         ensures typed { AreOf (first_values result.now) (types_of result.now) }
     {
@@ -278,15 +280,13 @@ fn begin_globals(globals: &mut Vec<Global>, values: &[Value])
     }
 }
 
-/// Lets the slots of tasks begin with these values: for each task a list, and in it one for each
-/// slot.
-fn begin_tasks(tasks: &mut Vec<Task>, slots: &[Vec<Value>])
-    requires { AllZip (λ task values. length values ≡ length task.slots) tasks.old.items
-        (lists_of (λ values. values.items) slots.now) }
-    ensures { tasks.new.items ≡ each_with task_with tasks.old.items
-        (lists_of (λ values. values.items) slots.now) }
+/// Lets tasks begin so: for each task a value for each of its slots, and what each of its block
+/// instances keeps.
+fn begin_tasks(tasks: &mut Vec<Task>, firsts: &[TaskState])
+    requires { AllZip FitsTask tasks.old.items firsts.now }
+    ensures { tasks.new.items ≡ each_with task_with tasks.old.items firsts.now }
 {
     for i in 0..tasks.len() {
-        tasks[i].begin_with(&slots[i]);
+        tasks[i].begin_with(&firsts[i]);
     }
 }

@@ -1,13 +1,16 @@
 //! Tasks.
 
-ghost use Rattle.std.specs.Prelude.{◌≡◌, length};
+ghost use Rattle.std.specs.Prelude.{◌≡◌, IfOk, length, map};
+ghost use Rattle.ilblocks.specs.Stores.{blocks_at_first};
 ghost use Rattle.ilplan.specs.Beginnings.{each_with, slot_with};
 
 use crate::activation::Activation;
 use crate::constants::Constants;
 use crate::instance::{FunctionBlock, ProgramInstance};
 use crate::slot::{Slot, SlotOwner};
+use crate::state::TaskState;
 use crate::stored::stored_slots;
+use ilblocks::BlockState;
 use iltypes::Value;
 use std::alloc::{AllocError, Global};
 use std::marker::Model;
@@ -20,6 +23,8 @@ pub struct Task {
     priority: u16,
     slots: Vec<Slot>,
     blocks: Vec<FunctionBlock>,
+    /// What each block instance keeps before the first scan.
+    states: Vec<BlockState>,
     constants: Constants,
     instances: Vec<ProgramInstance>,
     /// For each slot whether a line stores to it.
@@ -35,6 +40,7 @@ impl Drop for Task {
             priority: _,
             slots: _,
             blocks: _,
+            states: _,
             constants: _,
             instances: _,
             stored: _,
@@ -46,15 +52,15 @@ impl Model for Task {
     ghost use Rattle.std.specs.Prelude.{string_bytes, length};
     ghost use Rattle.std.specs.Coded.{codes};
     ghost use Rattle.ilplan.specs.contracts.instance.ProgramInstance as instance;
-    ghost use Rattle.ilplan.specs.Plans.{PlannedTask, task_of};
+    ghost use Rattle.ilplan.specs.Plans.{PlannedTask, task_in};
     ghost use Rattle.ilplan.specs.StoreSteps.{AreStored};
 
     ghost Value = { PlannedTask };
 
     ghost coded = { Prim.hlevel (codes, instance.the_row.coded) };
 
-    ghost view = { λ t. task_of (string_bytes t.name) t.activation t.priority t.slots.items
-        t.blocks.items t.constants t.instances.items };
+    ghost view = { λ t. task_in (string_bytes t.name) t.activation t.priority t.slots.items
+        t.blocks.items t.states.items t.constants t.instances.items };
 
     ghost invariant = { λ t. AreStored t.instances.items (length t.slots.items) t.stored.items };
 }
@@ -65,8 +71,8 @@ impl Task {
     ghost use Rattle.ilplan.specs.Plans.{first_value, first_values};
     ghost use Rattle.ilplan.specs.Beginnings.{task_with};
 
-    /// The task of these parts. That they keep the limits is asked of a plan, which has the
-    /// functions.
+    /// The task of these parts, with each block instance as it is before its first call. That they
+    /// keep the limits is asked of a plan, which has the functions.
     ///
     /// # Errors
     ///
@@ -85,12 +91,14 @@ impl Task {
             slots.items blocks.items constants instances.items) }
     {
         let stored = stored_slots(alloc, slots.len(), &instances)?;
+        let states = states_at_first(alloc, &blocks)?;
         Ok(Task {
             name,
             activation,
             priority,
             slots,
             blocks,
+            states,
             constants,
             instances,
             stored,
@@ -163,12 +171,14 @@ impl Task {
         }
     }
 
-    /// Lets its variables begin with these values, one for each.
-    pub(crate) fn begin_with(&mut self, values: &[Value])
-        requires { length values.now ≡ length self.old.slots }
-        ensures { self.new ≡ task_with self.old values.now }
+    /// Lets its variables begin with these values, and its block instances as these, one for each.
+    pub(crate) fn begin_with(&mut self, firsts: &TaskState)
+        requires values { length firsts.now.slots ≡ length self.old.slots }
+        requires blocks { length firsts.now.blocks ≡ length self.old.states }
+        ensures { self.new ≡ task_with self.old firsts.now }
     {
-        begin_slots(&mut self.slots, values);
+        begin_slots(&mut self.slots, firsts.values());
+        begin_blocks(&mut self.states, firsts.blocks());
     }
 
     /// The block instances of its program instances, in declared order.
@@ -176,6 +186,13 @@ impl Task {
         ensures value { result.now ≡ self.now.blocks }
     {
         &self.blocks
+    }
+
+    /// What each block instance keeps before the first scan.
+    pub fn states(&self) -> &[BlockState]
+        ensures value { result.now ≡ self.now.states }
+    {
+        &self.states
     }
 
     /// The different constants of its lines and of the functions that it uses, in order of first
@@ -203,4 +220,33 @@ fn begin_slots(slots: &mut Vec<Slot>, values: &[Value])
         let slot = &mut slots[i];
         slot.initial = values[i];
     }
+}
+
+/// Lets block instances begin as these, one for each.
+fn begin_blocks(states: &mut Vec<BlockState>, firsts: &[BlockState])
+    requires { length firsts.now ≡ length states.old.items }
+    ensures { states.new.items ≡ firsts.now }
+{
+    for i in 0..states.len() {
+        states[i] = copy_of(&firsts[i]);
+    }
+}
+
+/// What a block instance keeps, once more.
+fn copy_of(state: &BlockState) -> BlockState
+    ensures { result ≡ state.now }
+{
+    state.clone().unwrap()
+}
+
+/// What these block instances keep before their first call.
+fn states_at_first(alloc: Global, blocks: &[FunctionBlock]) -> Result<Vec<BlockState>, AllocError>
+    ensures { IfOk result (λ states.
+        states.items ≡ blocks_at_first (map (λ b. b.kind) blocks.now)) }
+{
+    let mut states = Vec::new(alloc);
+    for block in blocks {
+        states.push(BlockState::at_first(block.kind))?;
+    }
+    Ok(states)
 }

@@ -27,9 +27,10 @@ use Rattle.ilscope.specs.Declarations.{declared_functions}
 use Rattle.ilscope.specs.Faults.{IsNoTriggerOf, IsTrigger, IsUnknownName, IsUnknownTriggerOf}
 use Rattle.ilscope.proofs.Sound.{IsSoundAt, IsSoundGlobal}
 use Rattle.ilscope.proofs.Typed.{declared_typed_globals, IsTypedGlobal}
+use Rattle.ilblocks.proofs.Stores.{at_first_are}
 use Rattle.ilplan.specs.declared.activation.Activation.TheVariants.{Cyclic, Event}
 use Rattle.ilplan.specs.Plans.{AreFunctions, HasTrigger, IsLawful, IsTaskOf, IsTrigger as IsPlannedTrigger}
-use Rattle.ilplan.specs.Plans.{KeepsLimits}
+use Rattle.ilplan.specs.Plans.{HasStates, KeepsLimits, kinds_of}
 use Rattle.iluses.proofs.Lists.{at_some}
 use Rattle.ilsyms.specs.Faults.{IsWellNamed}
 use Rattle.ilsyms.specs.Resolved.{location, plan_of_tree, planned_function, planned_functions, planned_global}
@@ -146,6 +147,13 @@ module _ (tree : Tree) (wiring : Wiring) (named : IsWellNamed tree wiring) where
   each_task [] h = tt
   each_task (t ∷ ts) h = (h 0 t refl, each_task ts (λ n s e. h (suc n) s e))
 
+-- each block instance is as it is before its first call
+states_at_first : (tree : Tree) (buses : ℕ) (ts : List SourceTask)
+    → AllByRecursion (HasStates buses) (map (planned_task tree) ts)
+states_at_first tree buses [] = tt
+states_at_first tree buses (t ∷ ts) =
+    (at_first_are buses (kinds_of (planned_task tree t)), states_at_first tree buses ts)
+
 initials_typed : (gs : List DeclaredGlobal) → All IsTypedGlobal gs
     → AreOf (map (λ g. g.initial) (map planned_global gs)) (map (λ g. g.value_type) (map planned_global gs))
 initials_typed [] h = tt
@@ -171,4 +179,5 @@ lawful tree wiring short limits named keep functions =
       depths = shallow_calls tree wiring named;
       limits = keep;
       tasks = each_task tree wiring named (tasks_of tree) (one_task tree wiring named);
+      states = states_at_first tree wiring.buses (tasks_of tree);
     }

@@ -1,7 +1,8 @@
--- A plan may begin with kept values: each is of its variable's type, and a slot of a global variable begins as that does.
+-- A plan may begin with kept values: each is of its variable's type, a slot of a global variable begins as that does, and
+-- each port of a block instance has a value of its type.
 use Rattle.std.proofs.Common.{◌≡◌, ℕ, Bool, true, false, List, [], ◌∷◌, map, Option, Some, None, option_map}
 use Rattle.std.proofs.Common.{refl, sym, ap, ◌∙◌, subst}
-use Rattle.std.specs.Prelude.{if◌then◌else◌, slice_get, unwrap_or}
+use Rattle.std.specs.Prelude.{if◌then◌else◌, slice_get, unwrap_or, option_and_then}
 use Rattle.std.specs.List.{AllByRecursion, AllZip}
 use Rattle.std.proofs.lemmas.Option.{slice_get-map, some_pair_parts}
 use Rattle.iltypes.specs.declared.value.IlType.{IlType}
@@ -9,6 +10,11 @@ use Rattle.iltypes.specs.declared.value.Value.{Value}
 use Rattle.iltypes.specs.Slots.{is_of}
 use Rattle.iltypes.specs.Values.{IsOf, AreOf}
 use Rattle.iltypes.proofs.TypeTests.{holds_test}
+use Rattle.ilblocks.specs.declared.port.Port.{Port}
+use Rattle.ilblocks.specs.Calls.{Block, IsBlockOf, at_first}
+use Rattle.ilblocks.specs.Ports.{ports_of, type_of}
+use Rattle.ilblocks.proofs.Blocks.{at_first_typed}
+use Rattle.ilplan.specs.declared.instance.FunctionBlock.{FunctionBlock}
 use Rattle.ilplan.specs.declared.global.Global.{Global as GlobalVariable}
 use Rattle.ilplan.specs.declared.slot.Slot.{Slot}
 use Rattle.ilplan.specs.declared.slot.SlotOwner.{SlotOwner}
@@ -16,8 +22,11 @@ use Rattle.ilplan.specs.declared.slot.SlotOwner.TheVariants.{Global, Own}
 use Rattle.ilplan.specs.Plans.{Planned, PlannedTask, KeepsLimits, IsLawful, IsDeclared, IsTaskOf, type_and_initial}
 use Rattle.ilplan.specs.Beginnings.{BeginsAs, MayBeginTask, MayBegin}
 use Rattle.keeping.specs.KeptFiles.{KeptEntry}
-use Rattle.keeping.specs.KeptPlans.{fitting, is_trigger, kept_value, kept_under, own_name, global_name, global_first}
-use Rattle.keeping.specs.KeptPlans.{first_in, slot_first, global_firsts, task_firsts, slot_firsts}
+use Rattle.keeping.specs.KeptBlocks.{block_first, block_name, block_of, kept_block, kept_last, kept_port}
+use Rattle.keeping.specs.KeptBlocks.{kept_ports, kept_start, port_name}
+use Rattle.keeping.specs.KeptPlans.{is_trigger, global_first, first_in, slot_first, global_firsts}
+use Rattle.keeping.specs.KeptPlans.{task_first, task_firsts}
+use Rattle.keeping.specs.KeptValues.{fitting, kept_value, kept_under, own_name, global_name}
 
 -- a value that fits, or the first one
 fits : (type : IlType) (kept : Option Value) (initial : Value) → IsOf initial type
@@ -102,20 +111,83 @@ slots_same plan kept (s ∷ slots) are declared = (
   slots_same plan kept slots are.1 declared.1,
 )
 
+-- ---- block instances
+
+fitting_typed : (type : IlType) (o : Option Value) (value : Value) → fitting type o ≡ Some value → IsOf value type
+fitting_typed type None value e = absurd (cc)
+fitting_typed type (Some kept) value e =
+    (elim (is_of type kept) as (λ (b : Bool). is_of type kept ≡ b
+    → (if b then Some kept else None) ≡ Some value → IsOf value type) [
+      | true ↦ λ yes same. let is : kept ≡ value = cc in
+          subst (λ (v : Value). IsOf v type) is (holds_test type kept yes)
+      | false ↦ λ no same. absurd (cc)
+    ]) refl e
+
+module _ (kept : List KeptEntry) (buses : ℕ) (block : List ℕ) where
+  abbrev types_of_them : List Port → List IlType
+  types_of_them ports = map (λ port. type_of buses port.values) ports
+
+  port_typed : (port : Port) (ports : List Port) (o : Option Value) (r : Option (List Value)) (values : List Value)
+      → kept_port kept buses block port ≡ o → ((more : List Value) → r ≡ Some more → AreOf more (types_of_them ports))
+      → option_and_then (λ value. option_map (λ more. value ∷ more) r) o ≡ Some values
+      → AreOf values (types_of_them (port ∷ ports))
+  port_typed port ports None r values here rest e = absurd (cc)
+  port_typed port ports (Some value) None values here rest e = absurd (cc)
+  port_typed port ports (Some value) (Some more) values here rest e =
+      let same : value ∷ more ≡ values = cc in
+      let typed = fitting_typed (type_of buses port.values) (kept_under kept (port_name block port)) value here in
+      subst (λ (vs : List Value). AreOf vs (types_of_them (port ∷ ports))) same (typed, rest more refl)
+
+  ports_typed : (ports : List Port) (values : List Value) → kept_ports kept buses block ports ≡ Some values
+      → AreOf values (types_of_them ports)
+  ports_typed [] values e =
+      let same : [] ≡ values = cc in subst (λ (vs : List Value). AreOf vs []) same tt
+  ports_typed (port ∷ ports) values e =
+      port_typed port ports (kept_port kept buses block port) (kept_ports kept buses block ports) values refl
+      (λ more is. ports_typed ports more is) e
+
+-- the ports of an instance that was kept
+pub state_ports : (o : Option (List Value)) (l : Option Bool) (s : Option ℕ) (state : Block)
+    → option_and_then (λ ports. option_and_then (λ last. option_map (block_of ports last) s) l) o ≡ Some state
+    → o ≡ Some state.ports
+state_ports None l s state e = absurd (cc)
+state_ports (Some ports) None s state e = absurd (cc)
+state_ports (Some ports) (Some last) None state e = absurd (cc)
+state_ports (Some ports) (Some last) (Some start) state e =
+    let same : block_of ports last start ≡ state = cc in ap (λ (b : Block). Some b.ports) same
+
+block_typed : (plan : Planned) (kept : List KeptEntry) (b : FunctionBlock) (o : Option Block)
+    → kept_block plan kept b ≡ o → IsBlockOf plan.buses (unwrap_or o (at_first b.kind)) b.kind
+block_typed plan kept b None is = at_first_typed plan.buses b.kind
+block_typed plan kept b (Some state) is =
+    let name = block_name plan.text b in
+    ports_typed kept plan.buses name (ports_of b.kind) state.ports
+    (state_ports (kept_ports kept plan.buses name (ports_of b.kind)) (kept_last kept name)
+    (kept_start kept name b.kind) state is)
+
+blocks_typed : (plan : Planned) (kept : List KeptEntry) (blocks : List FunctionBlock)
+    → AllZip (IsBlockOf plan.buses) (map (block_first plan kept) blocks) (map (λ b. b.kind) blocks)
+blocks_typed plan kept [] = tt
+blocks_typed plan kept (b ∷ blocks) =
+    (block_typed plan kept b (kept_block plan kept b) refl, blocks_typed plan kept blocks)
+
+-- ---- tasks
+
 tasks_fit : (plan : Planned) (kept : List KeptEntry) (tasks : List PlannedTask)
     → AllByRecursion (KeepsLimits plan.functions) tasks → AllByRecursion (IsTaskOf plan.globals) tasks
-    → AllZip (MayBeginTask (global_firsts plan kept)) tasks (map (task_firsts plan kept) tasks)
+    → AllZip (MayBeginTask plan.buses (global_firsts plan kept)) tasks (map (task_first plan kept) tasks)
 tasks_fit plan kept [] limits declared = tt
 tasks_fit plan kept (task ∷ tasks) limits declared = (
   record {
     typed = slots_typed plan kept task.slots limits.0.initials declared.0.1;
     same = slots_same plan kept task.slots limits.0.initials declared.0.1;
+    blocks = blocks_typed plan kept task.blocks;
   },
   tasks_fit plan kept tasks limits.1 declared.1,
 )
 
 pub may_begin : (plan : Planned) (kept : List KeptEntry) → IsLawful plan
-    → MayBegin plan (global_firsts plan kept) (slot_firsts plan kept)
+    → MayBegin plan (global_firsts plan kept) (task_firsts plan kept)
 may_begin plan kept lawful =
     record {
       typed = globals_fit plan.text kept plan.globals lawful.initials;

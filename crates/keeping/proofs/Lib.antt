@@ -1,7 +1,8 @@
 mod Begun
 mod ChangedSums
-mod HeldLists
+mod ComesBack
 mod KeptEntries
+mod KeptParts
 mod PrintedFiles
 mod ReadFiles
 mod TakenLists

@@ -301,7 +301,7 @@ named_more (first ∷ done) entry name h k =
     none_of (bytes_eq first.name name) (has_name done name) (has_name (done ++ entry ∷ []) name) h
     (λ none. named_more done entry name none k)
 
-abbrev same_name : KeptEntry → KeptEntry → Bool
+abbrev pub same_name : KeptEntry → KeptEntry → Bool
 same_name one other = bytes_eq one.name other.name
 
 -- the names of these are none of those before them
@@ -318,7 +318,7 @@ all_new : (left : List KeptEntry) → AreNew [] left
 all_new [] = tt
 all_new (entry ∷ left) = (refl, all_new left)
 
-apart_parts : (entry : KeptEntry) (left : List KeptEntry) → IsDistinct same_name (entry ∷ left)
+pub apart_parts : (entry : KeptEntry) (left : List KeptEntry) → IsDistinct same_name (entry ∷ left)
     → AllByRecursion (λ other. same_name entry other ≡ false) left × IsDistinct same_name left
 unfolding IsDistinct
 apart_parts entry left apart = apart

@@ -1,13 +1,11 @@
--- Plans whose variables begin with kept values (profile): each with the value that was kept under its name, where that
--- is one of its type. A trigger never does: it is TRUE for a scan that its event starts, and has no value to keep.
-use Rattle.std.specs.Prelude.{◌≡◌, ℕ, List, [], ◌++◌, codes, map, slice_get, bytes_eq, if◌then◌else◌}
-use Rattle.std.specs.Prelude.{Bool, true, false, not, Option, Some, None, option_map, option_to_list, unwrap_or, filter}
-use Rattle.std.specs.Prelude.{find, flat_map}
+-- Plans that begin with kept values (profile): each variable with the value that was kept under its name, where that is
+-- one of its type, and each block instance with what was kept of it. A trigger never does: it is TRUE for a scan that its
+-- event starts, and has no value to keep.
+use Rattle.std.specs.Prelude.{◌≡◌, ℕ, List, [], ◌++◌, map, slice_get, flat_map, filter, if◌then◌else◌}
+use Rattle.std.specs.Prelude.{Bool, true, false, not, Option, Some, option_map, option_to_list, unwrap_or}
 use Rattle.iltypes.specs.declared.value.IlType.{IlType}
 use Rattle.iltypes.specs.declared.value.Value.{Value}
-use Rattle.iltypes.specs.Slots.{is_of}
-use Rattle.ilsource.specs.declared.name.Name.{Name}
-use Rattle.ilsource.specs.Names.{text_of}
+use Rattle.ilblocks.specs.Stores.{Lasting}
 use Rattle.ilplan.specs.declared.global.Global.{Global as GlobalVariable}
 use Rattle.ilplan.specs.declared.global.Location.{Location}
 use Rattle.ilplan.specs.declared.global.Location.TheVariants.{Trigger}
@@ -16,35 +14,13 @@ use Rattle.ilplan.specs.declared.slot.SlotOwner.{SlotOwner}
 use Rattle.ilplan.specs.declared.slot.SlotOwner.TheVariants.{Global, Own}
 use Rattle.ilplan.specs.Plans.{Planned, PlannedTask}
 use Rattle.ilplan.specs.Beginnings.{plan_with}
+use Rattle.keeping.specs.KeptBlocks.{block_firsts, block_taken}
 use Rattle.keeping.specs.KeptFiles.{KeptEntry, entry_of, has_name}
-
--- ---- names
-
-abbrev pub global_name : List ℕ → GlobalVariable → List ℕ
-global_name text g = text_of text g.name
-
--- `light.seen`: the variable `seen` of the program instance `light`
-abbrev pub own_name : List ℕ → Name → Name → List ℕ
-own_name text instance name = text_of text instance ++ (codes "." ++ text_of text name)
+use Rattle.keeping.specs.KeptValues.{global_name, own_name, kept_value}
 
 abbrev pub is_trigger : Option Location → Bool
 is_trigger (Some (Trigger bus source)) = true
 is_trigger _ = false
-
--- ---- the kept value of a variable
-
--- the value that was kept under a name
-abbrev pub kept_under : List KeptEntry → List ℕ → Option Value
-kept_under kept name = option_map (λ entry. entry.value) (find (λ entry. bytes_eq entry.name name) kept)
-
--- the value, where a variable of the type may have it
-abbrev pub fitting : IlType → Option Value → Option Value
-fitting type None = None
-fitting type (Some value) = if is_of type value then Some value else None
-
--- the value that was kept under the name, where a variable of the type may have it
-abbrev pub kept_value : List KeptEntry → List ℕ → IlType → Option Value
-kept_value kept name type = fitting type (kept_under kept name)
 
 -- ---- what variables begin with
 
@@ -68,17 +44,21 @@ slot_first plan kept s = first_in plan kept s.value_type s.initial s.variable
 abbrev pub global_firsts : Planned → List KeptEntry → List Value
 global_firsts plan kept = map (global_first plan.text kept) plan.globals
 
-abbrev pub task_firsts : Planned → List KeptEntry → PlannedTask → List Value
-task_firsts plan kept task = map (slot_first plan kept) task.slots
+abbrev pub slot_firsts : Planned → List KeptEntry → PlannedTask → List Value
+slot_firsts plan kept task = map (slot_first plan kept) task.slots
 
-abbrev pub slot_firsts : Planned → List KeptEntry → List (List Value)
-slot_firsts plan kept = map (task_firsts plan kept) plan.tasks
+-- what a task begins with
+abbrev pub task_first : Planned → List KeptEntry → PlannedTask → Lasting
+task_first plan kept task = record { slots = slot_firsts plan kept task; blocks = block_firsts plan kept task }
 
--- the plan, but that its variables begin so
+abbrev pub task_firsts : Planned → List KeptEntry → List Lasting
+task_firsts plan kept = map (task_first plan kept) plan.tasks
+
+-- the plan, but that it begins so
 abbrev pub begun_plan : List KeptEntry → Planned → Planned
-begun_plan kept plan = plan_with plan (global_firsts plan kept) (slot_firsts plan kept)
+begun_plan kept plan = plan_with plan (global_firsts plan kept) (task_firsts plan kept)
 
--- the second plan is the first, but that its variables begin with kept values
+-- the second plan is the first, but that it begins with kept values
 abbrev pub IsKeptPlan : List KeptEntry → Planned → Planned → Type 0
 IsKeptPlan kept old new = new ≡ begun_plan kept old
 
@@ -100,13 +80,14 @@ taken_in text kept type (Own instance name) = taken_by kept (own_name text insta
 abbrev pub slot_taken : List ℕ → List KeptEntry → Slot → List KeptEntry
 slot_taken text kept s = taken_in text kept s.value_type s.variable
 
-abbrev pub task_taken : List ℕ → List KeptEntry → PlannedTask → List KeptEntry
-task_taken text kept task = flat_map (slot_taken text kept) task.slots
+abbrev pub task_taken : Planned → List KeptEntry → PlannedTask → List KeptEntry
+task_taken plan kept task =
+    flat_map (slot_taken plan.text kept) task.slots ++ flat_map (block_taken plan kept) task.blocks
 
--- of what was kept that with which the variables of the plan begin
+-- of what was kept that with which the variables and block instances of the plan begin
 abbrev pub taken : List KeptEntry → Planned → List KeptEntry
-taken kept plan = flat_map (global_taken plan.text kept) plan.globals ++ flat_map (task_taken plan.text kept) plan.tasks
+taken kept plan = flat_map (global_taken plan.text kept) plan.globals ++ flat_map (task_taken plan kept) plan.tasks
 
--- the kept values with which no variable begins, in their order
+-- the kept values with which nothing begins, in their order
 abbrev pub left_out_of : List KeptEntry → Planned → List KeptEntry
 left_out_of kept plan = filter (λ entry. not (has_name (taken kept plan) entry.name)) kept

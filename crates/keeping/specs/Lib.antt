@@ -1,7 +1,11 @@
 pub mod CheckSums
 pub mod Faults
+pub mod KeptBlocks
 pub mod KeptFiles
 pub mod KeptLines
 pub mod KeptPlans
 pub mod KeptStates
+pub mod KeptValues
 pub mod Printed
+pub mod Returns
+pub mod Rows

@@ -1,29 +1,33 @@
-//! With which values the variables of a plan begin.
+//! With what a plan begins.
 
-ghost use Rattle.std.specs.Prelude.{◌≡◌, IfOk, unwrap_or};
-ghost use Rattle.ilplan.specs.Beginnings.{MayBegin, lists_of};
-ghost use Rattle.keeping.specs.KeptPlans.{fitting, global_first, global_firsts};
-ghost use Rattle.keeping.specs.KeptPlans.{is_trigger, kept_value, own_name, slot_first};
-ghost use Rattle.keeping.specs.KeptPlans.{slot_firsts, task_firsts};
+ghost use Rattle.std.specs.Prelude.{◌≡◌, IfOk, map, unwrap_or};
+ghost use Rattle.ilplan.specs.Beginnings.{MayBegin};
+ghost use Rattle.keeping.specs.KeptBlocks.{block_firsts};
+ghost use Rattle.keeping.specs.KeptPlans.{global_first, global_firsts, is_trigger};
+ghost use Rattle.keeping.specs.KeptPlans.{slot_first, slot_firsts, task_first, task_firsts};
+ghost use Rattle.keeping.specs.KeptValues.{fitting, kept_value, own_name};
 
+use crate::blocks::block_first;
 use crate::kept::Kept;
-use ilplan::{Global as GlobalVariable, Location, Plan, Slot, SlotOwner, Task};
+use ilblocks::BlockState;
+use ilplan::{Global as GlobalVariable, Location, Plan, Slot, SlotOwner, Task, TaskState};
 use ilsource::Name;
 use iltypes::{IlType, Value};
 use std::alloc::{AllocError, Global};
 
-/// With which values the variables of a plan begin.
+/// With what a plan begins.
 #[derive(Drop)]
 pub struct FirstValues {
-    /// One for each global variable.
+    /// A value for each global variable.
     pub globals: Vec<Value>,
-    /// For each task one for each of its slots.
-    pub slots: Vec<Vec<Value>>,
+    /// For each task a value for each of its slots, and what each of its block instances keeps.
+    pub tasks: Vec<TaskState>,
 }
 
-/// With which values the variables of a plan begin: each with the value that was kept under its
-/// name, where that is one of its type, else with its own first value. A trigger begins with its
-/// own.
+/// With what a plan begins: each variable with the value that was kept under its name, where that
+/// is one of its type, else with its own first value; each block instance with all that was kept of
+/// it, where each part is there and of its type, else as before its first call. A trigger begins
+/// with its own value.
 ///
 /// # Errors
 ///
@@ -31,17 +35,16 @@ pub struct FirstValues {
 pub fn first_values_of(alloc: Global, plan: &Plan, kept: &Kept) -> Result<FirstValues, AllocError>
     ensures globals { IfOk result (λ begun.
         begun.globals.items ≡ global_firsts plan.now kept.now.values) }
-    ensures slots { IfOk result (λ begun.
-        lists_of (λ values. values.items) begun.slots.items
-        ≡ slot_firsts plan.now kept.now.values) }
+    ensures tasks { IfOk result (λ begun.
+        begun.tasks.items ≡ task_firsts plan.now kept.now.values) }
     // So the plan may begin with them.
-    ensures may_begin { IfOk result (λ begun. MayBegin plan.now begun.globals.items
-        (lists_of (λ values. values.items) begun.slots.items)) }
+    ensures may_begin { IfOk result (λ begun.
+        MayBegin plan.now begun.globals.items begun.tasks.items) }
 {
     let _lawful = plan.buses();
     let globals = globals_first(alloc, plan, kept)?;
-    let slots = slots_first(alloc, plan, kept)?;
-    Ok(FirstValues { globals, slots })
+    let tasks = tasks_first(alloc, plan, kept)?;
+    Ok(FirstValues { globals, tasks })
 }
 
 /// What each global variable begins with.
@@ -56,34 +59,59 @@ fn globals_first(alloc: Global, plan: &Plan, kept: &Kept) -> Result<Vec<Value>, 
     Ok(values)
 }
 
-/// What the slots of each task begin with.
+/// What each task begins with.
 #[tactic(auto, using(crate::proofs::TakenLists::map_at))]
-fn slots_first(alloc: Global, plan: &Plan, kept: &Kept) -> Result<Vec<Vec<Value>>, AllocError>
-    ensures { IfOk result (λ slots. lists_of (λ values. values.items) slots.items
-        ≡ slot_firsts plan.now kept.now.values) }
+fn tasks_first(alloc: Global, plan: &Plan, kept: &Kept) -> Result<Vec<TaskState>, AllocError>
+    ensures { IfOk result (λ tasks. tasks.items ≡ task_firsts plan.now kept.now.values) }
 {
-    let mut slots = Vec::new(alloc);
+    let mut tasks = Vec::new(alloc);
     for task in 0..plan.tasks() {
-        slots.push(task_first(alloc, plan, kept, plan.task(task))?)?;
+        tasks.push(task_first(alloc, plan, kept, plan.task(task))?)?;
     }
-    Ok(slots)
+    Ok(tasks)
+}
+
+/// What a task begins with.
+fn task_first(alloc: Global, plan: &Plan, kept: &Kept, task: &Task) -> Result<TaskState, AllocError>
+    ensures { IfOk result (λ state. state ≡ task_first plan.now kept.now.values task.now) }
+{
+    let values = slots_first(alloc, plan, kept, task)?;
+    let blocks = blocks_first(alloc, plan, kept, task)?;
+    Ok(TaskState::new(values, blocks))
 }
 
 /// What the slots of a task begin with.
-fn task_first(
+fn slots_first(
     alloc: Global,
     plan: &Plan,
     kept: &Kept,
     task: &Task,
 ) -> Result<Vec<Value>, AllocError>
     ensures { IfOk result (λ values.
-        values.items ≡ task_firsts plan.now kept.now.values task.now) }
+        values.items ≡ slot_firsts plan.now kept.now.values task.now) }
 {
     let mut values = Vec::new(alloc);
     for slot in task.slots() {
         values.push(slot_first(alloc, plan, kept, *slot)?)?;
     }
     Ok(values)
+}
+
+/// What the block instances of a task begin with.
+fn blocks_first(
+    alloc: Global,
+    plan: &Plan,
+    kept: &Kept,
+    task: &Task,
+) -> Result<Vec<BlockState>, AllocError>
+    ensures { IfOk result (λ blocks.
+        blocks.items ≡ block_firsts plan.now kept.now.values task.now) }
+{
+    let mut blocks = Vec::new(alloc);
+    for block in task.blocks() {
+        blocks.push(block_first(alloc, plan, kept, *block)?)?;
+    }
+    Ok(blocks)
 }
 
 /// What a slot begins with: that of a global variable as that does, that of a program instance's

@@ -2,20 +2,23 @@
 
 ghost use Rattle.std.specs.Prelude.{◌≡◌, ◌<◌, ◌++◌, IfOk, OnOk, Some, length, slice_get};
 ghost use Rattle.std.specs.List.{AllZip};
-ghost use Rattle.ilplan.specs.Beginnings.{lists_of};
+ghost use Rattle.ilplan.specs.Beginnings.{HasEach};
 ghost use Rattle.keeping.specs.KeptStates.{entries_by, entries_for, entries_of, global_entries};
-ghost use Rattle.keeping.specs.KeptStates.{slot_entries};
+ghost use Rattle.keeping.specs.KeptStates.{instance_entries, slot_entries, task_entries};
 ghost use Rattle.ilplan.specs.declared.global.Global.{Global as GlobalVariable};
 
+use crate::blocks::keep_block;
 use crate::first_values::{is_trigger, own_name};
 use crate::value::KeptValue;
-use ilplan::{Plan, Slot, SlotOwner, Task};
+use ilblocks::BlockState;
+use ilplan::{Plan, Slot, SlotOwner, Task, TaskState};
 use iltypes::Value;
 use std::alloc::{AllocError, Global};
 
 /// What is kept where the variables of a plan have these values, one for each global variable, and
-/// for each task one for each of its slots: that of each global variable but the triggers, and
-/// then, task by task, that of each variable of a program instance.
+/// this lasts of each task, a value for each of its slots and the state of each of its block
+/// instances: the value of each global variable but the triggers, and then, task by task, that of
+/// each variable of a program instance, and what each block instance keeps.
 ///
 /// # Errors
 ///
@@ -24,19 +27,33 @@ pub fn kept_values(
     alloc: Global,
     plan: &Plan,
     globals: &[Value],
-    slots: &[Vec<Value>],
+    tasks: &[TaskState],
 ) -> Result<Vec<KeptValue>, AllocError>
     requires globals { length globals.now ≡ length plan.now.globals }
-    requires slots { AllZip (λ task values. length values ≡ length task.slots) plan.now.tasks
-        (lists_of (λ values. values.items) slots.now) }
-    ensures { IfOk result (λ kept. kept.items
-        ≡ entries_of plan.now globals.now (lists_of (λ values. values.items) slots.now)) }
+    requires tasks { AllZip HasEach plan.now.tasks tasks.now }
+    ensures { IfOk result (λ kept. kept.items ≡ entries_of plan.now globals.now tasks.now) }
 {
     let mut kept = kept_globals(alloc, plan, globals)?;
     for task in 0..plan.tasks() {
-        keep_slots(alloc, &mut kept, plan.text(), plan.task(task), &slots[task])?;
+        keep_task(alloc, &mut kept, plan.text(), plan.task(task), &tasks[task])?;
     }
     Ok(kept)
+}
+
+/// Keeps what lasts of a task.
+fn keep_task(
+    alloc: Global,
+    kept: &mut Vec<KeptValue>,
+    text: &[u8],
+    task: &Task,
+    state: &TaskState,
+) -> Result<(), AllocError>
+    requires { HasEach task.now state.now }
+    ensures { OnOk result (kept.new.items
+        ≡ kept.old.items ++ task_entries text.now task.now state.now) }
+{
+    keep_slots(alloc, kept, text, task, state.values())?;
+    keep_blocks(alloc, kept, text, task, state.blocks())
 }
 
 /// What is kept where the global variables of a plan have these values, one for each.
@@ -105,6 +122,25 @@ fn keep_slot(
     if let SlotOwner::Own { instance, name } = slot.variable {
         let name = own_name(alloc, text, instance, name)?;
         kept.push(KeptValue::new(alloc, &name, value)?)?;
+    }
+    Ok(())
+}
+
+/// Keeps what the block instances of a task keep.
+fn keep_blocks(
+    alloc: Global,
+    kept: &mut Vec<KeptValue>,
+    text: &[u8],
+    task: &Task,
+    states: &[BlockState],
+) -> Result<(), AllocError>
+    requires { length states.now ≡ length task.now.blocks }
+    ensures { OnOk result (kept.new.items
+        ≡ kept.old.items ++ instance_entries text.now task.now.blocks states.now) }
+{
+    let blocks = task.blocks();
+    for i in 0..blocks.len() {
+        keep_block(alloc, kept, text, blocks[i], &states[i])?;
     }
     Ok(())
 }

@@ -32,7 +32,7 @@ impl Model for Kept {
 
 impl Kept {
     ghost use Rattle.std.specs.Prelude.{◌≡◌, IfErr, IfOk, Result};
-    ghost use Rattle.keeping.specs.KeptPlans.{kept_under};
+    ghost use Rattle.keeping.specs.KeptValues.{kept_under};
     ghost use Rattle.keeping.specs.KeptFiles.{IsKeptFile, KeptState};
     ghost use Rattle.keeping.specs.Faults.{IsReadAs, IsKeptFaultOrMemory};
     ghost use Rattle.keeping.specs.declared.fault.KeptFault.{KeptFault};

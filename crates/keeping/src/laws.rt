@@ -1,15 +1,30 @@
 //! What is so of every file of kept values.
 
-ghost use Rattle.std.specs.Prelude.{◌++◌, ◌∷◌, ◌≢◌, ◌<◌, ℕ, List, Some};
+ghost use Rattle.std.specs.Prelude.{◌≡◌, ◌++◌, ◌∷◌, ◌≢◌, ◌<◌, ℕ, List, Some};
+ghost use Rattle.iltypes.specs.declared.value.Value.{Value as ValueOf};
+ghost use Rattle.ilblocks.specs.Stores.{Lasting};
+ghost use Rattle.ilplan.specs.Beginnings.{plan_with};
+ghost use Rattle.ilplan.specs.Plans.{Planned};
 ghost use Rattle.keeping.specs.CheckSums.{sum_of};
 ghost use Rattle.keeping.specs.KeptFiles.{IsKeptFile, IsSummed, KeptEntry, state_of, sum_line};
+ghost use Rattle.keeping.specs.KeptPlans.{begun_plan};
+ghost use Rattle.keeping.specs.KeptStates.{entries_of};
 ghost use Rattle.keeping.specs.Printed.{AreKeepable, printed_file};
+ghost use Rattle.keeping.specs.Returns.{MayComeBack};
 ghost use Rattle.keeping.specs.declared.kept_at.KeptAt.{KeptAt};
 
 /// What is written is what is read: the file that is made of values is one of these values.
 pub fn a_written_file_is_one()
     ensures { (at : KeptAt) (values : List KeptEntry) → AreKeepable at values
         → IsKeptFile (printed_file at values) (state_of (Some at) values) }
+{}
+
+/// What is kept comes back: the plan that begins with what is kept of some values and instances
+/// begins with just these. So does a building that begins with the file that it wrote.
+pub fn entries_come_back()
+    ensures { (plan : Planned) (globals : List ValueOf) (lasting : List Lasting)
+        → MayComeBack plan globals lasting
+        → begun_plan (entries_of plan globals lasting) plan ≡ plan_with plan globals lasting }
 {}
 
 /// One changed byte changes the check sum.

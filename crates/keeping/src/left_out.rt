@@ -1,9 +1,11 @@
 //! Kept values with which no variable begins.
 
 ghost use Rattle.std.specs.Prelude.{◌≡◌, ◌++◌, IfOk, OnOk, flat_map};
+ghost use Rattle.keeping.specs.KeptBlocks.{block_taken};
 ghost use Rattle.keeping.specs.KeptPlans.{global_taken, left_out_of, slot_taken, taken, taken_by};
 ghost use Rattle.keeping.specs.KeptPlans.{task_taken};
 
+use crate::blocks::take_block;
 use crate::first_values::{is_trigger, kept_value, own_name};
 use crate::kept::Kept;
 use crate::reading::has_name;
@@ -14,8 +16,9 @@ use std::alloc::{AllocError, Global};
 use std::fmt;
 use std::marker::Model;
 
-/// A kept value with which no variable begins: none has its name, the one that has it is a trigger,
-/// or the value isn't one of its type.
+/// A kept value with which nothing begins: no variable and no part of a block instance has its name,
+/// the variable that has it is a trigger, the value isn't one of its type, or another part of the
+/// instance was not kept.
 #[derive(Drop)]
 pub struct LeftOut {
     kept: KeptValue,
@@ -65,7 +68,7 @@ impl fmt::Debug for LeftOut {
     }
 }
 
-/// The kept values with which no variable of a plan begins, in their order.
+/// The kept values with which no variable and no block instance of a plan begins, in their order.
 ///
 /// # Errors
 ///
@@ -84,14 +87,14 @@ pub fn left_out_of(alloc: Global, plan: &Plan, kept: &Kept) -> Result<Vec<LeftOu
     Ok(left)
 }
 
-/// Of what was kept that with which the variables of a plan begin.
+/// Of what was kept that with which the variables and block instances of a plan begin.
 #[tactic(auto, using(crate::proofs::TakenLists::flat_at))]
 fn taken(alloc: Global, plan: &Plan, kept: &Kept) -> Result<Vec<KeptValue>, AllocError>
     ensures { IfOk result (λ values. values.items ≡ taken kept.now.values plan.now) }
 {
     let mut taken = globals_taken(alloc, plan, kept)?;
     for task in 0..plan.tasks() {
-        take_slots(alloc, &mut taken, plan.text(), kept, plan.task(task))?;
+        take_task(alloc, &mut taken, plan, kept, plan.task(task))?;
     }
     Ok(taken)
 }
@@ -132,6 +135,21 @@ fn take_global(
     )
 }
 
+/// Adds that with which a task begins.
+fn take_task(
+    alloc: Global,
+    taken: &mut Vec<KeptValue>,
+    plan: &Plan,
+    kept: &Kept,
+    task: &Task,
+) -> Result<(), AllocError>
+    ensures { OnOk result (taken.new.items
+        ≡ taken.old.items ++ task_taken plan.now kept.now.values task.now) }
+{
+    take_slots(alloc, taken, plan.text(), kept, task)?;
+    take_blocks(alloc, taken, plan, kept, task)
+}
+
 /// Adds that with which the variables of a task's program instances begin.
 fn take_slots(
     alloc: Global,
@@ -141,10 +159,27 @@ fn take_slots(
     task: &Task,
 ) -> Result<(), AllocError>
     ensures { OnOk result (taken.new.items
-        ≡ taken.old.items ++ task_taken text.now kept.now.values task.now) }
+        ≡ taken.old.items ++ flat_map (slot_taken text.now kept.now.values) task.now.slots) }
 {
     for slot in task.slots() {
         take_slot(alloc, taken, text, kept, *slot)?;
+    }
+    Ok(())
+}
+
+/// Adds that with which the block instances of a task begin.
+fn take_blocks(
+    alloc: Global,
+    taken: &mut Vec<KeptValue>,
+    plan: &Plan,
+    kept: &Kept,
+    task: &Task,
+) -> Result<(), AllocError>
+    ensures { OnOk result (taken.new.items
+        ≡ taken.old.items ++ flat_map (block_taken plan.now kept.now.values) task.now.blocks) }
+{
+    for block in task.blocks() {
+        take_block(alloc, taken, plan, kept, *block)?;
     }
     Ok(())
 }

@@ -11,10 +11,12 @@
 //! ```text
 //! let kept = Kept::parse(alloc, &bytes)?; // or it is empty, or torn
 //! let begun = first_values_of(alloc, &plan, &kept)?;
-//! plan.begin_with(&begun.globals, &begun.slots);
+//! plan.begin_with(&begun.globals, &begun.tasks);
 //! ```
 #![tactic(auto)]
 
+mod blocks;
+mod computed_rows;
 mod fault;
 mod first_values;
 mod keep;
@@ -36,6 +38,7 @@ pub use kept::Kept;
 pub use kept_at::KeptAt;
 pub use laws::{
     a_changed_byte_breaks_the_seal, a_changed_byte_changes_the_sum, a_written_file_is_one,
+    entries_come_back,
 };
 pub use left_out::{LeftOut, left_out_of};
 pub use page::kept_file;

@@ -6,6 +6,25 @@ use ilcode::{Code, Target, Word, WordOperand};
 use iltypes::Value;
 use std::alloc::{AllocError, Global};
 
+/// A code as notes see it, with the slot of the trigger that starts its task: that is TRUE in each
+/// scan.
+#[derive(Clone, Copy)]
+pub(crate) struct Seen<'c> {
+    pub code: &'c Code,
+    pub trigger: Option<usize>,
+}
+
+impl Seen<'_> {
+    /// The value that an operand has in each scan, where there is one. A truth value counts as 0 or
+    /// 1.
+    pub fn constant(self, operand: WordOperand) -> Option<i64> {
+        match (operand, self.trigger) {
+            (WordOperand::Slot(slot), Some(trigger)) if usize::from(slot) == trigger => Some(1),
+            _ => constant_of(self.code, operand),
+        }
+    }
+}
+
 /// What is stored to a variable or to a port, by all words of a code, reached or not. FALSE counts
 /// as 0 and TRUE as 1.
 #[derive(Clone, Copy, PartialEq, Eq)]
@@ -68,14 +87,15 @@ pub(crate) fn port_place(block: usize, port: usize) -> usize {
 
 impl Stored {
     /// What the words of a code store.
-    pub fn by(alloc: Global, code: &Code) -> Result<Stored, AllocError> {
+    pub fn by(alloc: Global, seen: Seen) -> Result<Stored, AllocError> {
+        let code = seen.code;
         let mut stored = Stored::nothing(alloc, code)?;
         let mut way = Way::new(alloc, code)?;
         for place in 0..code.len() {
             let word = code.word(place);
             way.arrive(place);
-            stored.add(code, &way, word);
-            way.go_on(code, word);
+            stored.add(seen, &way, word);
+            way.go_on(seen, word);
         }
         Ok(stored)
     }
@@ -83,25 +103,22 @@ impl Stored {
     /// Nothing is stored.
     fn nothing(alloc: Global, code: &Code) -> Result<Stored, AllocError> {
         Ok(Stored {
-            slots: no_slots(alloc, code.slots().len())?,
-            ports: no_ports(alloc, port_place(code.kinds().len(), 0))?,
+            slots: vec![in alloc; UNSTORED; code.slots().len()]?,
+            ports: vec![in alloc; Content::Nothing; port_place(code.kinds().len(), 0)]?,
         })
     }
 
     /// What is stored to a slot.
     pub fn slot(&self, slot: usize) -> SlotContent {
-        match self.slots.get(slot) {
-            Some(kept) => *kept,
-            None => UNSTORED,
-        }
+        self.slots.get(slot).copied().unwrap_or(UNSTORED)
     }
 
     /// What is stored to a port of a block instance.
     pub fn port(&self, block: usize, port: usize) -> Content {
-        match self.ports.get(port_place(block, port)) {
-            Some(kept) => *kept,
-            None => Content::Nothing,
-        }
+        self.ports
+            .get(port_place(block, port))
+            .copied()
+            .unwrap_or(Content::Nothing)
     }
 
     /// Whether what is stored to a slot may differ from scan to scan, since it is computed from
@@ -115,7 +132,7 @@ impl Stored {
     }
 
     /// Adds what a word stores.
-    fn add(&mut self, code: &Code, way: &Way, word: Word) {
+    fn add(&mut self, seen: Seen, way: &Way, word: Word) {
         match word {
             Word::Store { negated, variable } => self.add_store(way, variable, negated),
             Word::Set(variable) => self.add_content(variable, Content::Only(1)),
@@ -126,11 +143,11 @@ impl Stored {
                 operand,
             } => self.add_content(
                 Target::Port { port, block },
-                Content::of(constant_of(code, operand)),
+                Content::of(seen.constant(operand)),
             ),
             Word::Give { operand, slot } => self.add_content(
                 Target::Slot(slot),
-                Content::of(constant_of(code, operand)),
+                Content::of(seen.constant(operand)),
             ),
             _ => {}
         }
@@ -177,31 +194,12 @@ const UNSTORED: SlotContent = SlotContent {
     follows: None,
 };
 
-/// So many slots, to which nothing is stored.
-fn no_slots(alloc: Global, count: usize) -> Result<Vec<SlotContent>, AllocError> {
-    let mut slots = Vec::new(alloc);
-    for _ in 0..count {
-        slots.push(UNSTORED)?;
-    }
-    Ok(slots)
-}
-
-/// So many ports, to which nothing is stored.
-fn no_ports(alloc: Global, count: usize) -> Result<Vec<Content>, AllocError> {
-    let mut ports = Vec::new(alloc);
-    for _ in 0..count {
-        ports.push(Content::Nothing)?;
-    }
-    Ok(ports)
-}
-
 /// The value of an operand that is a constant.
 pub(crate) fn constant_of(code: &Code, operand: WordOperand) -> Option<i64> {
     match operand {
-        WordOperand::Constant(number) => match code.constants().get(usize::from(number)) {
-            Some(value) => Some(number_of(*value)),
-            None => None,
-        },
+        WordOperand::Constant(number) => {
+            Some(number_of(*code.constants().get(usize::from(number))?))
+        }
         _ => None,
     }
 }

@@ -1,8 +1,8 @@
 //! What the words of a straight line say of the current result by themselves.
 
-use crate::contents::constant_of;
+use crate::contents::Seen;
 use crate::paths::start_of;
-use crate::stars::{all_unmarked, is_marked, mark};
+use crate::stars::{is_marked, mark};
 use ilcode::{Code, Word, WordOperand};
 use iltypes::{Function, Operator};
 use std::alloc::{AllocError, Global};
@@ -28,10 +28,7 @@ const UNKNOWN: Current = Current {
 impl Current {
     /// The constant that a store writes, of the result or of its opposite.
     pub fn stored(self, negated: bool) -> Option<i64> {
-        match self.constant {
-            Some(value) => Some(opposite_if(negated, value)),
-            None => None,
-        }
+        Some(opposite_if(negated, self.constant?))
     }
 
     /// Once it is changed.
@@ -53,15 +50,16 @@ impl Current {
     }
 
     /// What is loaded.
-    fn loaded(code: &Code, negated: bool, operand: WordOperand) -> Current {
+    fn loaded(seen: Seen, negated: bool, operand: WordOperand) -> Current {
+        let constant = seen.constant(operand);
         match operand {
-            WordOperand::Slot(slot) => Current {
+            WordOperand::Slot(slot) if constant.is_none() => Current {
                 constant: None,
                 origin: Some(usize::from(slot)),
                 is_changed: negated,
             },
             _ => Current {
-                constant: match constant_of(code, operand) {
+                constant: match constant {
                     Some(value) => Some(opposite_if(negated, value)),
                     None => None,
                 },
@@ -86,9 +84,9 @@ impl Current {
     }
 
     /// After a word.
-    fn after(self, code: &Code, word: Word) -> Current {
+    fn after(self, seen: Seen, word: Word) -> Current {
         match word {
-            Word::Load { negated, operand } => Current::loaded(code, negated, operand),
+            Word::Load { negated, operand } => Current::loaded(seen, negated, operand),
             Word::Apply(operator, _) => self.applied(operator),
             Word::Transform(Function::Not) => self.changed(),
             Word::Transform(_) => self.kept(),
@@ -120,7 +118,7 @@ pub(crate) struct Way {
 impl Way {
     /// Before the first word.
     pub fn new(alloc: Global, code: &Code) -> Result<Way, AllocError> {
-        let mut landings = all_unmarked(alloc, code.len())?;
+        let mut landings = vec![in alloc; false; code.len()]?;
         mark_starts(code, &mut landings);
         mark_targets(code, &mut landings);
         Ok(Way {
@@ -149,8 +147,8 @@ impl Way {
     }
 
     /// Goes on past a word.
-    pub fn go_on(&mut self, code: &Code, word: Word) {
-        self.result = self.result.after(code, word);
+    pub fn go_on(&mut self, seen: Seen, word: Word) {
+        self.result = self.result.after(seen, word);
     }
 }
 

@@ -1,12 +1,13 @@
 //! What notes look at of each task: how its variables and its block instances are used, what is
 //! stored to them, and what is known of their ports at each call.
 
-use crate::contents::{Content, Stored, constant_of, port_place};
+use crate::contents::{Content, Seen, Stored, port_place};
 use crate::current::Way;
-use crate::uses::{Use, line_at, uses_of};
+use crate::uses::{Use, line_at, read_by, uses_of, written_by};
 use ilblocks::BlockKind;
 use ilcode::{Code, Target, Word, WordOperand};
 use ilcompile::Setup;
+use ilplan::{Activation, Plan, SlotOwner};
 use std::alloc::{AllocError, Global};
 
 /// What notes look at of a task.
@@ -33,6 +34,14 @@ pub(crate) struct BlockUse {
     pub is_called_false: bool,
 }
 
+/// How a block instance is used that no word names.
+const UNTOUCHED: BlockUse = BlockUse {
+    is_called: false,
+    is_stored: false,
+    is_read: false,
+    is_called_false: false,
+};
+
 /// A call of a block instance, with what is known of its ports there. A truth value counts as 0 or
 /// 1.
 #[derive(Clone, Copy)]
@@ -47,6 +56,10 @@ pub(crate) struct BlockCall {
     pub address: Option<i64>,
     pub third: Option<i64>,
     pub fourth: Option<i64>,
+    /// The slot whose value is the third of these ports, LEVEL of a GEAR_LEVEL.
+    pub level: Option<usize>,
+    /// Whether no jump leads past the call.
+    pub is_always: bool,
 }
 
 impl BlockCall {
@@ -60,15 +73,31 @@ impl BlockCall {
 pub(crate) fn facts_of(alloc: Global, setup: &Setup) -> Result<Vec<TaskFacts>, AllocError> {
     let mut all = Vec::new(alloc);
     for task in 0..setup.plan().tasks() {
-        all.push(task_facts(alloc, setup.code(task).code())?)?;
+        let code = setup.code(task).code();
+        let trigger = trigger_slot(setup.plan(), task);
+        all.push(task_facts(alloc, Seen { code, trigger })?)?;
     }
     Ok(all)
 }
 
+/// The slot of the trigger that starts a task, where an event starts it and it names the trigger.
+fn trigger_slot(plan: &Plan, task: usize) -> Option<usize> {
+    if task >= plan.tasks() {
+        return None;
+    }
+    let Activation::Event { trigger } = plan.task(task).activation() else {
+        return None;
+    };
+    plan.task(task).slots().iter().position(
+        |slot| matches!(slot.variable, SlotOwner::Global(number) if number == trigger),
+    )
+}
+
 /// What notes look at of the task with this code.
-pub(crate) fn task_facts(alloc: Global, code: &Code) -> Result<TaskFacts, AllocError> {
-    let stored = Stored::by(alloc, code)?;
-    let calls = calls_in(alloc, code, &stored)?;
+fn task_facts(alloc: Global, seen: Seen) -> Result<TaskFacts, AllocError> {
+    let code = seen.code;
+    let stored = Stored::by(alloc, seen)?;
+    let calls = calls_in(alloc, seen, &stored)?;
     Ok(TaskFacts {
         uses: uses_of(alloc, code)?,
         blocks: block_uses(alloc, code, &calls)?,
@@ -83,15 +112,7 @@ fn block_uses(
     code: &Code,
     calls: &[BlockCall],
 ) -> Result<Vec<BlockUse>, AllocError> {
-    let mut uses = Vec::new(alloc);
-    for _ in code.kinds() {
-        uses.push(BlockUse {
-            is_called: false,
-            is_stored: false,
-            is_read: false,
-            is_called_false: false,
-        })?;
-    }
+    let mut uses = vec![in alloc; UNTOUCHED; code.kinds().len()]?;
     for place in 0..code.len() {
         add_word(&mut uses, code.word(place));
     }
@@ -105,42 +126,17 @@ fn block_uses(
 
 /// Adds how a word uses a block instance.
 fn add_word(uses: &mut Vec<BlockUse>, word: Word) {
-    match word {
-        Word::Call(block) => {
-            if let Some(kept) = uses.get_mut(usize::from(block)) {
-                kept.is_called = true;
-            }
+    if let Word::Call(block) = word {
+        if let Some(kept) = uses.get_mut(usize::from(block)) {
+            kept.is_called = true;
         }
-        Word::Store { variable, .. } => add_target(uses, variable),
-        Word::Set(variable) => add_target(uses, variable),
-        Word::Reset(variable) => add_target(uses, variable),
-        Word::Pass {
-            port,
-            block,
-            operand,
-        } => {
-            add_target(uses, Target::Port { port, block });
-            add_operand(uses, operand);
-        }
-        Word::Load { operand, .. } => add_operand(uses, operand),
-        Word::Apply(_, operand) => add_operand(uses, operand),
-        Word::Give { operand, .. } => add_operand(uses, operand),
-        _ => {}
     }
-}
-
-/// Adds that something is stored to.
-fn add_target(uses: &mut Vec<BlockUse>, target: Target) {
-    if let Target::Port { block, .. } = target {
+    if let Some(Target::Port { block, .. }) = written_by(word) {
         if let Some(kept) = uses.get_mut(usize::from(block)) {
             kept.is_stored = true;
         }
     }
-}
-
-/// Adds that something is read.
-fn add_operand(uses: &mut Vec<BlockUse>, operand: WordOperand) {
-    if let WordOperand::Port { block, .. } = operand {
+    if let Some(WordOperand::Port { block, .. }) = read_by(word) {
         if let Some(kept) = uses.get_mut(usize::from(block)) {
             kept.is_read = true;
         }
@@ -153,27 +149,39 @@ struct Held {
     /// The number of the straight line.
     stretch: usize,
     value: Option<i64>,
+    /// The slot that has the value.
+    origin: Option<usize>,
 }
+
+/// Nothing that a straight line stored.
+const UNHELD: Held = Held {
+    stretch: 0,
+    value: None,
+    origin: None,
+};
 
 /// The ports on the way along a code.
 #[derive(Drop)]
 struct Ports {
     held: Vec<Held>,
+    /// The furthest place that a jump before leads to.
+    passed: usize,
 }
 
 /// The calls of block instances in a code, of which this is stored.
-fn calls_in(alloc: Global, code: &Code, stored: &Stored) -> Result<Vec<BlockCall>, AllocError> {
+fn calls_in(alloc: Global, seen: Seen, stored: &Stored) -> Result<Vec<BlockCall>, AllocError> {
+    let code = seen.code;
     let mut calls = Vec::new(alloc);
     let mut ports = Ports::unknown(alloc, code)?;
     let mut way = Way::new(alloc, code)?;
     for place in 0..code.len() {
         let word = code.word(place);
         way.arrive(place);
-        ports.store(code, &way, word);
+        ports.store(seen, &way, word);
         if let Some(call) = ports.call(code, &way, stored, place, word) {
             calls.push(call)?;
         }
-        way.go_on(code, word);
+        way.go_on(seen, word);
     }
     Ok(calls)
 }
@@ -181,28 +189,28 @@ fn calls_in(alloc: Global, code: &Code, stored: &Stored) -> Result<Vec<BlockCall
 impl Ports {
     /// Nothing is stored so far.
     fn unknown(alloc: Global, code: &Code) -> Result<Ports, AllocError> {
-        let mut held = Vec::new(alloc);
-        for _ in 0..port_place(code.kinds().len(), 0) {
-            held.push(Held {
-                stretch: 0,
-                value: None,
-            })?;
-        }
-        Ok(Ports { held })
+        let held = vec![in alloc; UNHELD; port_place(code.kinds().len(), 0)]?;
+        Ok(Ports { held, passed: 0 })
     }
 
-    /// Keeps what a word stores to a port.
-    fn store(&mut self, code: &Code, way: &Way, word: Word) {
-        let constant = way.result().constant;
+    /// Keeps what a word stores to a port, or how far it jumps.
+    fn store(&mut self, seen: Seen, way: &Way, word: Word) {
+        let result = way.result();
         match word {
+            Word::Jump { target, .. } => self.passed = self.passed.max(target as usize),
             Word::Store { negated, variable } => {
-                self.hold(way, variable, way.result().stored(negated));
+                let origin = if result.is_changed || negated {
+                    None
+                } else {
+                    result.origin
+                };
+                self.hold(way, variable, result.stored(negated), origin);
             }
-            Word::Set(variable) if constant != Some(0) => {
-                self.hold(way, variable, constant);
+            Word::Set(variable) if result.constant != Some(0) => {
+                self.hold(way, variable, result.constant, None);
             }
-            Word::Reset(variable) if constant != Some(0) => {
-                self.hold(way, variable, way.result().stored(true));
+            Word::Reset(variable) if result.constant != Some(0) => {
+                self.hold(way, variable, result.stored(true), None);
             }
             Word::Pass {
                 port,
@@ -210,20 +218,25 @@ impl Ports {
                 operand,
             } => {
                 let port = Target::Port { port, block };
-                self.hold(way, port, constant_of(code, operand));
+                let origin = match operand {
+                    WordOperand::Slot(slot) => Some(usize::from(slot)),
+                    _ => None,
+                };
+                self.hold(way, port, seen.constant(operand), origin);
             }
             _ => {}
         }
     }
 
     /// Keeps what is stored.
-    fn hold(&mut self, way: &Way, variable: Target, value: Option<i64>) {
+    fn hold(&mut self, way: &Way, variable: Target, value: Option<i64>, origin: Option<usize>) {
         if let Target::Port { port, block } = variable {
             let place = port_place(usize::from(block), usize::from(port));
             if let Some(kept) = self.held.get_mut(place) {
                 *kept = Held {
                     stretch: way.stretch(),
                     value,
+                    origin,
                 };
             }
         }
@@ -241,6 +254,14 @@ impl Ports {
             Content::Nothing => Some(0),
             Content::Only(value) => Some(value),
             Content::Several => None,
+        }
+    }
+
+    /// The slot whose value the straight line stored to a port.
+    fn origin(&self, way: &Way, block: usize, port: usize) -> Option<usize> {
+        match self.held.get(port_place(block, port)) {
+            Some(held) if held.stretch == way.stretch() => held.origin,
+            _ => None,
         }
     }
 
@@ -271,6 +292,8 @@ impl Ports {
             address: self.known(way, stored, block, 2),
             third: self.known(way, stored, block, 3),
             fourth: self.known(way, stored, block, 4),
+            level: self.origin(way, block, 3),
+            is_always: place >= self.passed,
         })
     }
 }

@@ -3,20 +3,16 @@
 ghost use Rattle.std.specs.Prelude.{◌<◌, length};
 
 use crate::facts::TaskFacts;
-use crate::names::{At, LineStarts, shown};
-use crate::note_lines::{NoteName, NotePlace, Notes};
+use crate::names::shown;
+use crate::note_lines::{Added, NoteName, NotePlace, Notes};
 use crate::stars::count_at;
 use crate::uses::{Use, naming_tasks};
 use ilplan::{Activation, Location, Plan, SlotOwner};
-use iltypes::{IlType, Range};
-use std::alloc::{AllocError, Global};
+use ilsource::Name;
+use iltypes::{IlType, Range, Value};
 
 /// Adds a note for each trigger that a task reads though another event starts it, or the clock.
-pub(crate) fn add_trigger_notes(
-    notes: &mut Notes,
-    plan: &Plan,
-    facts: &[TaskFacts],
-) -> Result<(), AllocError> {
+pub(crate) fn add_trigger_notes(notes: &mut Notes, plan: &Plan, facts: &[TaskFacts]) -> Added {
     for (task, of_task) in facts.iter().enumerate() {
         if task < plan.tasks() {
             add_triggers_of(notes, plan, task, &of_task.uses)?;
@@ -26,12 +22,7 @@ pub(crate) fn add_trigger_notes(
 }
 
 /// Adds a note for each trigger that this task reads and that does not start it.
-fn add_triggers_of(
-    notes: &mut Notes,
-    plan: &Plan,
-    task: usize,
-    uses: &[Use],
-) -> Result<(), AllocError>
+fn add_triggers_of(notes: &mut Notes, plan: &Plan, task: usize, uses: &[Use]) -> Added
     requires { task < length plan.now.tasks }
 {
     let own = match plan.task(task).activation() {
@@ -59,13 +50,7 @@ fn is_trigger(plan: &Plan, number: usize) -> bool {
 }
 
 /// Adds that a task reads a trigger that does not start it.
-fn add_trigger(
-    notes: &mut Notes,
-    plan: &Plan,
-    task: &str,
-    number: usize,
-    line: usize,
-) -> Result<(), AllocError> {
+fn add_trigger(notes: &mut Notes, plan: &Plan, task: &str, number: usize, line: usize) -> Added {
     if number >= plan.globals() {
         return Ok(());
     }
@@ -81,20 +66,14 @@ fn add_trigger(
 
 /// Adds a note for each global variable that is used to no end, for each level that no task
 /// stores, and for each variable that is likely meant as a level.
-pub(crate) fn add_global_notes(
-    alloc: Global,
-    notes: &mut Notes,
-    plan: &Plan,
-    lines: &LineStarts,
-    uses: &[Use],
-) -> Result<(), AllocError> {
-    let naming = naming_tasks(alloc, plan)?;
+pub(crate) fn add_global_notes(notes: &mut Notes, plan: &Plan, uses: &[Use]) -> Added {
+    let naming = naming_tasks(notes.alloc, plan)?;
     for number in 0..plan.globals() {
         if let Some(use_here) = uses.get(number) {
             if is_unlocated_level(plan, number, *use_here, count_at(&naming, number)) {
-                add_unlocated(notes, plan, lines, number)?;
+                add_unlocated(notes, plan, number)?;
             } else {
-                add_global_note(notes, plan, lines, number, *use_here)?;
+                add_global_note(notes, plan, number, *use_here)?;
             }
         }
     }
@@ -114,19 +93,14 @@ fn is_unlocated_level(plan: &Plan, number: usize, use_here: Use, tasks: u32) -> 
 }
 
 /// Adds that a variable that is likely meant as a level has no address.
-fn add_unlocated(
-    notes: &mut Notes,
-    plan: &Plan,
-    lines: &LineStarts,
-    number: usize,
-) -> Result<(), AllocError>
+fn add_unlocated(notes: &mut Notes, plan: &Plan, number: usize) -> Added
     requires { number < length plan.now.globals }
 {
-    let at = lines.at(plan.global(number).name);
+    let at = NotePlace::Name(plan.global(number).name);
     let name = plan.global_name(number);
     notes.add(
         NoteName::LevelWithoutAddress,
-        NotePlace::At(at),
+        at,
         format!(in notes.alloc;
             "{name} has the numbers of a level and no address: it is sent to no gear; a \
          level is declared as {name} AT %QB0.5"
@@ -135,61 +109,84 @@ fn add_unlocated(
 }
 
 /// Adds the note on a global variable that is used so, where there is one.
-fn add_global_note(
-    notes: &mut Notes,
-    plan: &Plan,
-    lines: &LineStarts,
-    number: usize,
-    use_here: Use,
-) -> Result<(), AllocError>
+fn add_global_note(notes: &mut Notes, plan: &Plan, number: usize, use_here: Use) -> Added
     requires { number < length plan.now.globals }
 {
     let global = plan.global(number);
-    let at = lines.at(global.name);
+    let at = NotePlace::Name(global.name);
     let name = shown(plan.text(), global.name);
     let first = global.initial;
     match (global.location, use_here.stored, use_here.read > 0) {
         (Some(Location::Level { .. }), false, _) => notes.add(
             NoteName::LevelNeverStored,
-            NotePlace::At(at),
+            at,
             format!(in notes.alloc; "no task stores the level {name}, which stays {first}")?,
         ),
-        (Some(Location::Trigger { .. }), _, _) => Ok(()),
+        (Some(Location::Trigger { .. }), _, is_read) => {
+            if is_read || starts_task(plan, number) {
+                return Ok(());
+            }
+            notes.add(
+                NoteName::UnusedTrigger,
+                at,
+                format!(in notes.alloc; "{name} starts no task, and no task reads it")?,
+            )
+        }
         (Some(Location::Level { .. }), true, _) => Ok(()),
         (Some(_), _, false) => notes.add(
             NoteName::NeverRead,
-            NotePlace::At(at),
+            at,
             format!(in notes.alloc; "{name} is never read")?,
         ),
-        (None, stored, read) => add_use_note(notes, at, name, (stored, read), first),
+        (None, stored, read) => add_use_note(
+            notes,
+            plan.text(),
+            global.name,
+            (stored, read),
+            first,
+        ),
         _ => Ok(()),
     }
+}
+
+/// Whether a trigger starts a task.
+fn starts_task(plan: &Plan, number: usize) -> bool {
+    for task in 0..plan.tasks() {
+        if let Activation::Event { trigger } = plan.task(task).activation() {
+            if trigger == number {
+                return true;
+            }
+        }
+    }
+    false
 }
 
 /// Adds the note on a variable without an address, by whether it is stored and whether it is
 /// read, where there is one.
 pub(crate) fn add_use_note(
     notes: &mut Notes,
-    at: At,
-    name: ilplan::DeclaredName,
+    text: &[u8],
+    name: Name,
     is: (bool, bool),
-    first: iltypes::Value,
-) -> Result<(), AllocError> {
+    first: Value,
+) -> Added {
+    let at = NotePlace::Name(name);
+    let name = shown(text, name);
     match is {
         (true, true) => Ok(()),
         (true, false) => notes.add(
             NoteName::NeverRead,
-            NotePlace::At(at),
+            at,
             format!(in notes.alloc; "{name} is stored and never read")?,
         ),
         (false, true) => notes.add(
             NoteName::NeverStored,
-            NotePlace::At(at),
+            at,
             format!(in notes.alloc; "{name} is read and never stored, and stays {first}")?,
         ),
         (false, false) => notes.add(
             NoteName::Unused,
-            NotePlace::At(at),
+            at,
             format!(in notes.alloc; "{name} is not used")?,
         ),
     }

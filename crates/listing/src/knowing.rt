@@ -2,7 +2,8 @@
 
 use crate::spelling::SlotText;
 use crate::task_names::TaskNames;
-use ilcode::{Target, Word, WordOperand};
+use crate::uses::{read_by, slot_read_by, slot_written_by};
+use ilcode::Word;
 use ilranges::{Entry, Known};
 use std::fmt;
 
@@ -41,33 +42,12 @@ impl fmt::Display for KnownText<'_> {
     }
 }
 
-/// The slot that a word names.
+/// The slot that a word names: what it reads counts before what it writes.
 fn slot_of(word: Word) -> Option<usize> {
-    match word {
-        Word::Load { operand, .. } => slot_of_operand(operand),
-        Word::Apply(_, operand) => slot_of_operand(operand),
-        Word::Pass { operand, .. } => slot_of_operand(operand),
-        Word::Give { operand, .. } => slot_of_operand(operand),
-        Word::Store { variable, .. } => slot_of_target(variable),
-        Word::Set(variable) => slot_of_target(variable),
-        Word::Reset(variable) => slot_of_target(variable),
-        _ => None,
-    }
-}
-
-/// The slot that an operand is.
-fn slot_of_operand(operand: WordOperand) -> Option<usize> {
-    match operand {
-        WordOperand::Slot(slot) => Some(usize::from(slot)),
-        _ => None,
-    }
-}
-
-/// The slot that is written.
-fn slot_of_target(target: Target) -> Option<usize> {
-    match target {
-        Target::Slot(slot) => Some(usize::from(slot)),
-        Target::Port { .. } => None,
+    if read_by(word).is_some() {
+        slot_read_by(word)
+    } else {
+        slot_written_by(word)
     }
 }
 

@@ -2,9 +2,9 @@
 
 use crate::contents::Content;
 use crate::facts::{BlockCall, TaskFacts};
-use crate::stars::{all_unmarked, is_marked, mark};
+use crate::stars::{is_marked, mark};
 use ilblocks::BlockKind;
-use ilplan::{Activation, Location, Plan, SlotOwner};
+use ilplan::{Activation, DeclaredName, Location, Plan, SlotOwner};
 use std::alloc::{AllocError, Global};
 use std::fmt;
 
@@ -31,6 +31,14 @@ impl Driven {
         match (byte(bus?), byte(address?)) {
             (Some(bus), Some(address)) => Some(Driven { bus, address }),
             _ => None,
+        }
+    }
+
+    /// Another address of the bus.
+    fn at(self, address: u8) -> Driven {
+        Driven {
+            bus: self.bus,
+            address,
         }
     }
 
@@ -73,20 +81,25 @@ pub(crate) struct Level {
     pub is_moved: bool,
 }
 
-/// The levels of all buses.
+/// The levels of all buses of a plan.
 #[derive(Drop)]
-pub(crate) struct Levels {
+pub(crate) struct Levels<'p> {
+    pub plan: &'p Plan,
     levels: Vec<Option<Level>>,
     /// For each address whether the text puts it into the group: first by address, then by group.
     members: Vec<bool>,
 }
 
-impl Levels {
+impl<'p> Levels<'p> {
     /// The levels that tasks store.
-    pub fn of(alloc: Global, plan: &Plan, facts: &[TaskFacts]) -> Result<Levels, AllocError> {
-        let mut levels = Levels::none(alloc, plan.buses())?;
+    pub fn of(
+        alloc: Global,
+        plan: &'p Plan,
+        facts: &[TaskFacts],
+    ) -> Result<Levels<'p>, AllocError> {
+        let mut levels = Levels::none(alloc, plan)?;
         for (task, of_task) in facts.iter().enumerate() {
-            levels.add_task(plan, task, of_task);
+            levels.add_task(task, of_task);
             for call in &of_task.calls {
                 levels.add_member(call);
             }
@@ -94,20 +107,19 @@ impl Levels {
         Ok(levels)
     }
 
-    /// None of so many buses.
-    fn none(alloc: Global, buses: u8) -> Result<Levels, AllocError> {
-        let mut levels = Vec::new(alloc);
-        for _ in 0..usize::from(buses).saturating_mul(ADDRESSES) {
-            levels.push(None)?;
-        }
+    /// None of a plan.
+    fn none(alloc: Global, plan: &'p Plan) -> Result<Levels<'p>, AllocError> {
+        let buses = usize::from(plan.buses());
         Ok(Levels {
-            levels,
-            members: all_unmarked(alloc, usize::from(buses).saturating_mul(MEMBERS))?,
+            plan,
+            levels: vec![in alloc; None; buses.saturating_mul(ADDRESSES)]?,
+            members: vec![in alloc; false; buses.saturating_mul(MEMBERS)]?,
         })
     }
 
     /// Adds the levels that a task stores.
-    fn add_task(&mut self, plan: &Plan, task: usize, facts: &TaskFacts) {
+    fn add_task(&mut self, task: usize, facts: &TaskFacts) {
+        let plan = self.plan;
         if task >= plan.tasks() {
             return;
         }
@@ -137,10 +149,7 @@ impl Levels {
 
     /// The level that drives just this.
     pub fn get(&self, driven: Driven) -> Option<Level> {
-        match self.levels.get(driven.number()) {
-            Some(kept) => *kept,
-            None => None,
-        }
+        self.levels.get(driven.number()).copied().unwrap_or(None)
     }
 
     /// Adds that a call puts a gear into a group.
@@ -166,6 +175,42 @@ impl Levels {
             Some(_) if one.address == BROADCAST => true,
             Some(group) => is_marked(&self.members, member_number(other, group)),
             None => false,
+        }
+    }
+
+    /// A level that what is sent there changes as well, of several the first by its address; not
+    /// one that is soon sent again.
+    pub fn covered(&self, driven: Driven) -> Option<Level> {
+        for address in 0..BROADCAST {
+            let other = driven.at(address);
+            if let Some(level) = self.get(other) {
+                if !level.is_moved && self.covers(driven, other) {
+                    return Some(level);
+                }
+            }
+        }
+        None
+    }
+
+    /// A level of more gear, that of this among it.
+    pub fn covering(&self, driven: Driven) -> Option<Level> {
+        for address in FIRST_GROUP..81 {
+            let other = driven.at(address);
+            if let Some(level) = self.get(other) {
+                if self.covers(other, driven) {
+                    return Some(level);
+                }
+            }
+        }
+        None
+    }
+
+    /// The name of a level.
+    pub fn name(&self, level: Level) -> DeclaredName<'p> {
+        if level.global < self.plan.globals() {
+            self.plan.global_name(level.global)
+        } else {
+            DeclaredName { bytes: b"?" }
         }
     }
 }

@@ -4,9 +4,8 @@
 use crate::contents::Content;
 use crate::facts::{BlockCall, TaskFacts, facts_of};
 use crate::levels::level_of;
-use crate::note_lines::{NoteName, NotePlace, Notes};
+use crate::note_lines::{Added, NoteName, NotePlace, Notes};
 use crate::paths::most_on_paths;
-use crate::stars::all_unused;
 use ilblocks::BlockKind;
 use ilcode::Code;
 use ilcompile::Setup;
@@ -48,14 +47,9 @@ pub fn write_load<W: Write>(alloc: Global, out: &mut W, setup: &Setup) -> io::Re
 }
 
 /// Adds a note for each bus that the cyclic tasks may ask for more frames than it carries.
-pub(crate) fn add_load_notes(
-    alloc: Global,
-    notes: &mut Notes,
-    setup: &Setup,
-    facts: &[TaskFacts],
-) -> Result<(), AllocError> {
+pub(crate) fn add_load_notes(notes: &mut Notes, setup: &Setup, facts: &[TaskFacts]) -> Added {
     for bus in 0..setup.plan().buses() {
-        let frames = frames_on(alloc, setup, facts, bus)?;
+        let frames = frames_on(notes.alloc, setup, facts, bus)?;
         let rate = rate_of(setup.plan(), &frames);
         if rate.tenths > FRAMES_A_SECOND.saturating_mul(10) {
             notes.add(
@@ -203,7 +197,7 @@ fn most_halves(
     bus: u8,
 ) -> Result<u32, AllocError> {
     let mut is_any = false;
-    let mut weights = all_unused(alloc, code.len())?;
+    let mut weights: Vec<u32> = vec![in alloc; 0; code.len()]?;
     for call in &facts.calls {
         let halves = halves_of(facts, call, is_event, bus);
         if let (true, Some(weight)) = (halves > 0, weights.get_mut(call.place)) {

@@ -4,8 +4,8 @@ ghost use Rattle.std.specs.Prelude.{◌<◌, length};
 
 use crate::facts::TaskFacts;
 use crate::globals::add_use_note;
-use crate::names::{LineStarts, shown};
-use crate::note_lines::{NoteName, NotePlace, Notes};
+use crate::names::shown;
+use crate::note_lines::{Added, NoteName, NotePlace, Notes};
 use crate::stars::is_marked;
 use crate::task_names::name_in;
 use crate::uses::Use;
@@ -56,22 +56,20 @@ impl Noted {
 /// Adds a note for each variable that is used to no end, once where several instances have it:
 /// first those of the functions that a task uses, in declared order, then those of programs.
 pub(crate) fn add_own_notes(
-    alloc: Global,
     notes: &mut Notes,
     plan: &Plan,
-    lines: &LineStarts,
     facts: &[TaskFacts],
     used: &[bool],
-) -> Result<(), AllocError> {
-    let mut noted = IndexMap::new(alloc);
-    note_functions(alloc, &mut noted, plan, used)?;
+) -> Added {
+    let mut noted = IndexMap::new(notes.alloc);
+    note_functions(notes.alloc, &mut noted, plan, used)?;
     for (task, of_task) in facts.iter().enumerate() {
         if task < plan.tasks() {
             note_task(&mut noted, plan, task, &of_task.uses)?;
         }
     }
     for (_, variable) in &noted {
-        add_note(notes, plan.text(), lines, variable)?;
+        add_note(notes, plan.text(), variable)?;
     }
     Ok(())
 }
@@ -173,13 +171,8 @@ fn note_line(
 }
 
 /// Adds the note on a variable, where there is one.
-fn add_note(
-    notes: &mut Notes,
-    text: &[u8],
-    lines: &LineStarts,
-    noted: &Noted,
-) -> Result<(), AllocError> {
-    let at = lines.at(noted.name);
+fn add_note(notes: &mut Notes, text: &[u8], noted: &Noted) -> Added {
+    let at = NotePlace::Name(noted.name);
     let name = shown(text, noted.name);
     match noted.kind {
         Kind::Input { function } => {
@@ -189,7 +182,7 @@ fn add_note(
             let function = shown(text, function);
             notes.add(
                 NoteName::NeverRead,
-                NotePlace::At(at),
+                at,
                 format!(in notes.alloc; "the input {name} of {function} is never read")?,
             )
         }
@@ -199,13 +192,13 @@ fn add_note(
             }
             notes.add(
                 NoteName::NeverStored,
-                NotePlace::At(at),
+                at,
                 format!(in notes.alloc; "the result of {name} is never stored, and stays {first}")?,
             )
         }
         Kind::Own { first } => {
             let is = (noted.is_stored, noted.is_read);
-            add_use_note(notes, at, name, is, first)
+            add_use_note(notes, text, noted.name, is, first)
         }
     }
 }

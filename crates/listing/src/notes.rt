@@ -3,22 +3,24 @@
 use crate::block_notes::add_block_notes;
 use crate::facts::{TaskFacts, facts_of};
 use crate::globals::{add_global_notes, add_trigger_notes};
-use crate::level_notes::{Driving, add_command_notes, add_covered_levels};
+use crate::level_notes::{add_command_notes, add_covered_levels, add_shared_gear};
 use crate::levels::Levels;
 use crate::load::add_load_notes;
-use crate::names::LineStarts;
-use crate::note_lines::{NoteLine, NoteName, NoteObject, NotedFiles, NotedText, Notes};
+use crate::note_lines::{Added, NoteLine, NoteName, NoteObject, NotedFiles, NotedText, Notes};
 use crate::noted::add_own_notes;
 use crate::number_notes::add_number_notes;
+use crate::overwritten::add_overwritten;
 use crate::pace_notes::add_pace_notes;
-use crate::programs::{add_function_notes, add_idle_notes, add_program_notes, functions_of_tasks};
+use crate::programs::{
+    add_function_notes, add_idle_notes, add_program_notes, add_task_notes, functions_of_tasks,
+};
 use crate::question_notes::add_question_notes;
+use crate::range_notes::add_range_notes;
 use crate::scenario_notes::{Played, add_scenario_notes};
 use crate::source_notes::add_source_notes;
 use crate::unreached::{add_request_notes, add_unreached};
 use crate::uses::global_uses;
 use ilcompile::Setup;
-use ilplan::Plan;
 use ilsource::Source;
 use std::alloc::{AllocError, Global};
 use std::io;
@@ -49,11 +51,10 @@ pub fn write_notes<W: Write>(
     played: Option<Played>,
     asked: NotesAsked,
 ) -> io::Result<bool> {
-    let lines = LineStarts::of(alloc, source.text())?;
-    let notes = notes_of(alloc, setup, source, &lines, played)?;
+    let notes = notes_of(alloc, setup, source, played)?;
     let on = NotedText {
         text: source.text(),
-        lines: &lines,
+        lines: &notes.lines,
         files: asked.files,
     };
     if asked.is_json {
@@ -69,15 +70,15 @@ fn notes_of(
     alloc: Global,
     setup: &Setup,
     source: &Source,
-    lines: &LineStarts,
     played: Option<Played>,
 ) -> Result<Notes, AllocError> {
-    let mut notes = Notes::new(alloc);
+    let mut notes = Notes::on(alloc, source.text())?;
     let facts = facts_of(alloc, setup)?;
-    add_usage_notes(alloc, &mut notes, setup, source, lines, &facts)?;
-    add_house_notes(alloc, &mut notes, setup, lines, &facts)?;
+    let levels = Levels::of(alloc, setup.plan(), &facts)?;
+    add_usage_notes(&mut notes, setup, source, &facts)?;
+    add_house_notes(&mut notes, setup, &facts, &levels)?;
     if let Some(played) = played {
-        add_scenario_notes(alloc, &mut notes, setup.plan(), &facts, played)?;
+        add_scenario_notes(&mut notes, &levels, played)?;
     }
     Ok(notes)
 }
@@ -118,58 +119,42 @@ fn is_asked(word: &str, name: NoteName) -> bool {
 
 /// Adds the notes on what is used to no end.
 fn add_usage_notes(
-    alloc: Global,
     notes: &mut Notes,
     setup: &Setup,
     source: &Source,
-    lines: &LineStarts,
     facts: &[TaskFacts],
-) -> Result<(), AllocError> {
+) -> Added {
     let plan = setup.plan();
-    let used = functions_of_tasks(alloc, plan)?;
-    let uses = global_uses(alloc, plan, facts)?;
+    let used = functions_of_tasks(notes.alloc, plan)?;
+    let uses = global_uses(notes.alloc, plan, facts)?;
     add_trigger_notes(notes, plan, facts)?;
-    add_global_notes(alloc, notes, plan, lines, &uses)?;
-    add_own_notes(alloc, notes, plan, lines, facts, &used)?;
-    add_function_notes(notes, plan, lines, &used)?;
-    add_program_notes(notes, source, lines)?;
+    add_global_notes(notes, plan, &uses)?;
+    add_own_notes(notes, plan, facts, &used)?;
+    add_function_notes(notes, plan, &used)?;
+    add_program_notes(notes, source)?;
+    add_task_notes(notes, source)?;
     add_idle_notes(notes, plan, source)?;
-    add_unreached(alloc, notes, setup)?;
-    add_source_notes(alloc, notes, plan)
+    add_unreached(notes, setup)?;
+    add_source_notes(notes, plan)
 }
 
 /// Adds the notes on what goes wrong in a house.
 fn add_house_notes(
-    alloc: Global,
     notes: &mut Notes,
     setup: &Setup,
-    lines: &LineStarts,
     facts: &[TaskFacts],
-) -> Result<(), AllocError> {
+    levels: &Levels,
+) -> Added {
     let plan = setup.plan();
-    add_block_notes(alloc, notes, plan, lines, facts)?;
-    add_number_notes(alloc, notes, setup, lines)?;
-    add_question_notes(alloc, notes, plan, facts)?;
-    add_levels_notes(alloc, notes, plan, lines, facts)?;
-    add_pace_notes(notes, plan, lines, facts)?;
-    add_request_notes(alloc, notes, setup)?;
-    add_load_notes(alloc, notes, setup, facts)
-}
-
-/// Adds the notes on levels that something else changes as well.
-fn add_levels_notes(
-    alloc: Global,
-    notes: &mut Notes,
-    plan: &Plan,
-    lines: &LineStarts,
-    facts: &[TaskFacts],
-) -> Result<(), AllocError> {
-    let levels = Levels::of(alloc, plan, facts)?;
-    let driving = Driving {
-        plan,
-        lines,
-        levels: &levels,
-    };
-    add_command_notes(alloc, notes, &driving, facts)?;
-    add_covered_levels(notes, &driving)
+    add_block_notes(notes, plan, facts)?;
+    add_number_notes(notes, setup)?;
+    add_overwritten(notes, setup)?;
+    add_range_notes(notes, setup, facts, levels)?;
+    add_question_notes(notes, plan, facts)?;
+    add_command_notes(notes, levels, facts)?;
+    add_shared_gear(notes, levels, facts)?;
+    add_covered_levels(notes, levels)?;
+    add_pace_notes(notes, plan, facts)?;
+    add_request_notes(notes, setup)?;
+    add_load_notes(notes, setup, facts)
 }

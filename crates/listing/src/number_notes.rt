@@ -2,15 +2,15 @@
 //! and limits the wrong way round.
 
 use crate::contents::constant_of;
-use crate::names::LineStarts;
-use crate::note_lines::{NoteName, NotePlace, Notes};
-use crate::stars::{all_unmarked, is_marked, mark};
+use crate::note_lines::{Added, NoteName, NotePlace, Notes};
+use crate::stars::{is_marked, mark};
 use crate::uses::line_at;
 use ilblocks::BlockKind;
 use ilcode::{Code, Word};
 use ilcompile::Setup;
+use ilplan::{Activation, Plan};
 use iltypes::Operator;
-use std::alloc::{AllocError, Global};
+use std::alloc::AllocError;
 
 /// The number of PT among the ports of a timer.
 const TIME: u8 = 1;
@@ -19,20 +19,13 @@ const TIME: u8 = 1;
 const SHORT: i64 = 1000;
 
 /// Adds the notes on numbers, once for each line of the text.
-pub(crate) fn add_number_notes(
-    alloc: Global,
-    notes: &mut Notes,
-    setup: &Setup,
-    lines: &LineStarts,
-) -> Result<(), AllocError> {
-    let mut told = all_unmarked(alloc, lines.count().saturating_add(1))?;
+pub(crate) fn add_number_notes(notes: &mut Notes, setup: &Setup) -> Added {
+    let mut told = notes.unmarked_lines()?;
     for task in 0..setup.plan().tasks() {
         let code = setup.code(task).code();
         for place in 0..code.len() {
             let line = line_at(code, place);
-            if !is_marked(&told, line)
-                && add_note(notes, setup.plan().text(), lines, code, place, line)?
-            {
+            if !is_marked(&told, line) && add_note(notes, setup, task, place, line)? {
                 mark(&mut told, line);
             }
         }
@@ -40,15 +33,30 @@ pub(crate) fn add_number_notes(
     Ok(())
 }
 
+/// The milliseconds between the scans of a task; 0 where events start it.
+fn interval_of(plan: &Plan, task: usize) -> u32 {
+    if task >= plan.tasks() {
+        return 0;
+    }
+    match plan.task(task).activation() {
+        Activation::Cyclic { interval } => interval,
+        Activation::Event { .. } => 0,
+    }
+}
+
 /// Adds the note on the word at a place, where there is one; whether there is.
 fn add_note(
     notes: &mut Notes,
-    text: &[u8],
-    lines: &LineStarts,
-    code: &Code,
+    setup: &Setup,
+    task: usize,
     place: usize,
     line: usize,
 ) -> Result<bool, AllocError> {
+    let text = setup.plan().text();
+    if task >= setup.plan().tasks() {
+        return Ok(false);
+    }
+    let code = setup.code(task).code();
     if let Some((low, high)) = limits_at(code, place, line) {
         if low > high {
             notes.add(
@@ -62,17 +70,29 @@ fn add_note(
             return Ok(true);
         }
     }
-    match time_at(code, place) {
-        Some(time) if time < SHORT && is_plain(text, lines.start_of(line)) => {
-            notes.add(
-                NoteName::TimeWithoutUnit,
-                NotePlace::Line(line),
-                format!(in notes.alloc; "PT := {time} is {time} ms; {time} seconds are T#{time}s")?,
-            )?;
-            Ok(true)
-        }
-        _ => Ok(false),
+    let Some(time) = time_at(code, place) else {
+        return Ok(false);
+    };
+    let interval = interval_of(setup.plan(), task);
+    if time < SHORT && is_plain(text, notes.lines.start_of(line)) {
+        notes.add(
+            NoteName::TimeWithoutUnit,
+            NotePlace::Line(line),
+            format!(in notes.alloc; "PT := {time} is {time} ms; {time} seconds are T#{time}s")?,
+        )?;
+        return Ok(true);
     }
+    if time < i64::from(interval) {
+        notes.add(
+            NoteName::TimeBelowInterval,
+            NotePlace::Line(line),
+            format!(in notes.alloc;
+                "the time of {time} ms is over at the next scan, {interval} ms later"
+            )?,
+        )?;
+        return Ok(true);
+    }
+    Ok(false)
 }
 
 /// The limits of a LIMIT whose first word stands at a place, where both are constants.

@@ -4,26 +4,20 @@
 use crate::contents::Content;
 use crate::facts::TaskFacts;
 use crate::levels::level_of;
-use crate::names::LineStarts;
-use crate::note_lines::{NoteName, NotePlace, Notes};
+use crate::note_lines::{Added, NoteName, NotePlace, Notes};
+use ilblocks::BlockKind;
 use ilplan::{Activation, Location, Plan, SlotOwner};
-use std::alloc::AllocError;
 
 /// How many milliseconds a level takes on a bus, with the pause before it.
 const FRAME_TIME: u32 = 30;
 
 /// Adds the notes on how often tasks change levels.
-pub(crate) fn add_pace_notes(
-    notes: &mut Notes,
-    plan: &Plan,
-    lines: &LineStarts,
-    facts: &[TaskFacts],
-) -> Result<(), AllocError> {
+pub(crate) fn add_pace_notes(notes: &mut Notes, plan: &Plan, facts: &[TaskFacts]) -> Added {
     for (task, of_task) in facts.iter().enumerate() {
         if task < plan.tasks() {
             match plan.task(task).activation() {
                 Activation::Cyclic { interval } => {
-                    add_fast(notes, plan, lines, task, of_task, interval)?;
+                    add_fast(notes, plan, task, of_task, interval)?;
                 }
                 Activation::Event { trigger } => {
                     add_blind(notes, plan, task, of_task, trigger)?;
@@ -39,11 +33,10 @@ pub(crate) fn add_pace_notes(
 fn add_fast(
     notes: &mut Notes,
     plan: &Plan,
-    lines: &LineStarts,
     task: usize,
     facts: &TaskFacts,
     interval: u32,
-) -> Result<(), AllocError> {
+) -> Added {
     if interval >= FRAME_TIME || task >= plan.tasks() {
         return Ok(());
     }
@@ -54,11 +47,11 @@ fn add_fast(
             facts.stored.is_moved(place),
         ) {
             if global < plan.globals() {
-                let at = lines.at(plan.global(global).name);
+                let at = NotePlace::Name(plan.global(global).name);
                 let level = plan.global_name(global);
                 notes.add(
                     NoteName::LevelAtEachScan,
-                    NotePlace::At(at),
+                    at,
                     format!(in notes.alloc;
                         "the task {name} may change the level {level} at each scan, every \
                      {interval} ms; a bus takes some {FRAME_TIME} ms for a level"
@@ -78,12 +71,19 @@ fn add_blind(
     task: usize,
     facts: &TaskFacts,
     trigger: usize,
-) -> Result<(), AllocError> {
-    let (bus, source) = match source_of(plan, trigger) {
-        Some(found) => found,
-        None => return Ok(()),
+) -> Added {
+    let Some((bus, source)) = source_of(plan, trigger) else {
+        return Ok(());
     };
-    if task >= plan.tasks() || reads_information(plan, task, facts, bus, source) {
+    if task >= plan.tasks() {
+        return Ok(());
+    }
+    match information_read(plan, task, facts, bus, source) {
+        Read::Own => return Ok(()),
+        Read::Other { global, line } => return add_foreign(notes, plan, task, global, line),
+        Read::Nothing => {}
+    }
+    if has_single_edge(facts) {
         return Ok(());
     }
     for (place, slot) in plan.task(task).slots().iter().enumerate() {
@@ -122,36 +122,75 @@ fn source_of(plan: &Plan, trigger: usize) -> Option<(u8, u8)> {
     }
 }
 
-/// Whether a task reads the information of a source.
-fn reads_information(plan: &Plan, task: usize, facts: &TaskFacts, bus: u8, source: u8) -> bool {
+/// Which information a task reads.
+#[derive(Clone, Copy)]
+enum Read {
+    /// That of its own source.
+    Own,
+    /// None of its own, but on this line that of another source, by this global variable.
+    Other { global: usize, line: usize },
+    /// None.
+    Nothing,
+}
+
+/// Which information a task reads that this source starts.
+fn information_read(plan: &Plan, task: usize, facts: &TaskFacts, bus: u8, source: u8) -> Read {
+    let mut found = Read::Nothing;
     if task >= plan.tasks() {
-        return false;
+        return found;
     }
     for (place, slot) in plan.task(task).slots().iter().enumerate() {
-        if let (SlotOwner::Global(number), Some(use_here)) = (
+        if let (SlotOwner::Global(global), Some(use_here)) = (
             slot.variable,
             facts.uses.get(place),
         ) {
-            if use_here.read > 0 && is_information(plan, number, bus, source) {
-                return true;
+            if let (Some((of_bus, of_source)), true) = (
+                information_of(plan, global),
+                use_here.read > 0,
+            ) {
+                if of_bus == bus && of_source == source {
+                    return Read::Own;
+                }
+                let line = use_here.read;
+                found = Read::Other { global, line };
             }
         }
     }
-    false
+    found
 }
 
-/// Whether a global variable is the information of a source.
-fn is_information(plan: &Plan, number: usize, bus: u8, source: u8) -> bool {
-    if number >= plan.globals() {
-        return false;
+/// The bus and the number of the source whose information a global variable is.
+fn information_of(plan: &Plan, global: usize) -> Option<(u8, u8)> {
+    if global >= plan.globals() {
+        return None;
     }
-    match plan.global(number).location {
-        Some(
-            Location::Information {
-                bus: of_bus,
-                source: of_source,
-            },
-        ) => of_bus == bus && of_source == source,
-        _ => false,
+    match plan.global(global).location {
+        Some(Location::Information { bus, source }) => Some((bus, source)),
+        _ => None,
     }
+}
+
+/// Adds that a task reads the information of a source that does not start it.
+fn add_foreign(notes: &mut Notes, plan: &Plan, task: usize, global: usize, line: usize) -> Added {
+    if task >= plan.tasks() || global >= plan.globals() {
+        return Ok(());
+    }
+    let name = plan.task_name(task);
+    let information = plan.global_name(global);
+    notes.add(
+        NoteName::ForeignInformation,
+        NotePlace::Line(line),
+        format!(in notes.alloc;
+            "{information} is the information of another source than the one whose events start the \
+             task {name}"
+        )?,
+    )
+}
+
+/// Whether a task has an edge that comes once: what it does behind that it does once.
+fn has_single_edge(facts: &TaskFacts) -> bool {
+    facts.calls.iter().any(|call| {
+        matches!(call.kind, BlockKind::RTrig)
+            && facts.stored.port(call.block, 0) == Content::Only(1)
+    })
 }

@@ -97,10 +97,7 @@ pub(crate) fn most_on_paths(
     code: &Code,
     weights: &[u32],
 ) -> Result<u32, AllocError> {
-    let mut most = Vec::new(alloc);
-    for _ in 0..code.len() {
-        most.push(NOWHERE)?;
-    }
+    let mut most = vec![in alloc; NOWHERE; code.len()]?;
     for function in 0..code.functions().len() {
         fill(code, &mut most, weights, function.saturating_add(1));
     }
@@ -144,10 +141,7 @@ fn most_at(code: &Code, most: &[Most], body: usize, place: usize) -> Most {
     if place >= code.end_of(body) {
         return AT_END;
     }
-    match most.get(place) {
-        Some(kept) => *kept,
-        None => NOWHERE,
-    }
+    most.get(place).copied().unwrap_or(NOWHERE)
 }
 
 /// The most on paths from a jump's target on, to which the jump at the place may lead.

@@ -1,7 +1,7 @@
 //! Notes on functions and programs that no task has.
 
-use crate::names::{LineStarts, shown};
-use crate::note_lines::{NoteName, NotePlace, Notes};
+use crate::names::shown;
+use crate::note_lines::{Added, NoteName, NotePlace, Notes};
 use crate::stars::{is_marked, mark};
 use ilplan::Plan;
 use ilsource::{Configuration, Element, Name, Source};
@@ -9,10 +9,7 @@ use std::alloc::{AllocError, Global};
 
 /// For each function of a plan whether a task uses it.
 pub(crate) fn functions_of_tasks(alloc: Global, plan: &Plan) -> Result<Vec<bool>, AllocError> {
-    let mut all = Vec::new(alloc);
-    for _ in plan.functions() {
-        all.push(false)?;
-    }
+    let mut all = vec![in alloc; false; plan.functions().len()]?;
     for task in 0..plan.tasks() {
         let used = plan.used_functions(alloc, task)?;
         for (number, is_used) in used.iter().enumerate() {
@@ -25,19 +22,14 @@ pub(crate) fn functions_of_tasks(alloc: Global, plan: &Plan) -> Result<Vec<bool>
 }
 
 /// Adds a note for each function that no task uses.
-pub(crate) fn add_function_notes(
-    notes: &mut Notes,
-    plan: &Plan,
-    lines: &LineStarts,
-    used: &[bool],
-) -> Result<(), AllocError> {
+pub(crate) fn add_function_notes(notes: &mut Notes, plan: &Plan, used: &[bool]) -> Added {
     for (number, function) in plan.functions().iter().enumerate() {
         if !is_marked(used, number) {
-            let at = lines.at(function.name());
+            let at = NotePlace::Name(function.name());
             let name = shown(plan.text(), function.name());
             notes.add(
                 NoteName::UnusedFunction,
-                NotePlace::At(at),
+                at,
                 format!(in notes.alloc; "no task uses the function {name}")?,
             )?;
         }
@@ -47,18 +39,14 @@ pub(crate) fn add_function_notes(
 
 /// Adds a note for each program that no task runs, where the text has a configuration; without
 /// one the task `main` runs all.
-pub(crate) fn add_program_notes(
-    notes: &mut Notes,
-    source: &Source,
-    lines: &LineStarts,
-) -> Result<(), AllocError> {
+pub(crate) fn add_program_notes(notes: &mut Notes, source: &Source) -> Added {
     let Some(configuration) = source.configuration() else {
         return Ok(());
     };
     for element in source.elements() {
         if let Element::Program(program) = element {
             if !is_run(configuration, program.name(), source.text()) {
-                add_not_run(notes, source.text(), lines, program.name())?;
+                add_not_run(notes, source.text(), program.name())?;
             }
         }
     }
@@ -74,27 +62,49 @@ fn is_run(configuration: &Configuration, program: Name, text: &[u8]) -> bool {
 }
 
 /// Adds that no task runs a program.
-fn add_not_run(
-    notes: &mut Notes,
-    text: &[u8],
-    lines: &LineStarts,
-    program: Name,
-) -> Result<(), AllocError> {
-    let at = lines.at(program);
+fn add_not_run(notes: &mut Notes, text: &[u8], program: Name) -> Added {
+    let at = NotePlace::Name(program);
     let name = shown(text, program);
     notes.add(
         NoteName::UnusedProgram,
-        NotePlace::At(at),
+        at,
         format!(in notes.alloc; "no task runs the program {name}")?,
     )
 }
 
+/// Adds a note for each task in which no program runs.
+pub(crate) fn add_task_notes(notes: &mut Notes, source: &Source) -> Added {
+    let Some(configuration) = source.configuration() else {
+        return Ok(());
+    };
+    let text = source.text();
+    for task in configuration.tasks() {
+        if !has_instance(configuration, task.name, text) {
+            let at = NotePlace::Name(task.name);
+            let name = shown(text, task.name);
+            notes.add(
+                NoteName::UnusedTask,
+                at,
+                format!(in notes.alloc; "no program runs in the task {name}")?,
+            )?;
+        }
+    }
+    Ok(())
+}
+
+/// Whether a program runs in a task.
+fn has_instance(configuration: &Configuration, task: Name, text: &[u8]) -> bool {
+    configuration
+        .instances()
+        .iter()
+        .any(|instance| match instance.task {
+            Some(name) => name.is_same(task, text),
+            None => false,
+        })
+}
+
 /// Adds a note where nothing runs: no task is there, or no program.
-pub(crate) fn add_idle_notes(
-    notes: &mut Notes,
-    plan: &Plan,
-    source: &Source,
-) -> Result<(), AllocError> {
+pub(crate) fn add_idle_notes(notes: &mut Notes, plan: &Plan, source: &Source) -> Added {
     if plan.tasks() == 0 {
         return notes.add(
             NoteName::NothingRuns,

@@ -2,7 +2,7 @@
 
 use crate::facts::{BlockCall, TaskFacts};
 use crate::level_notes::BlockName;
-use crate::note_lines::{NoteName, NotePlace, Notes};
+use crate::note_lines::{Added, NoteName, NotePlace, Notes};
 use ilblocks::BlockKind;
 use ilplan::{Location, Plan};
 use std::alloc::{AllocError, Global};
@@ -47,13 +47,8 @@ struct Answerer {
 
 /// Adds a note for each gear and each device of which one variable has the answers to several
 /// questions.
-pub(crate) fn add_question_notes(
-    alloc: Global,
-    notes: &mut Notes,
-    plan: &Plan,
-    facts: &[TaskFacts],
-) -> Result<(), AllocError> {
-    let mut answerers = answerers(alloc, plan)?;
+pub(crate) fn add_question_notes(notes: &mut Notes, plan: &Plan, facts: &[TaskFacts]) -> Added {
+    let mut answerers = answerers(notes.alloc, plan)?;
     for (task, of_task) in facts.iter().enumerate() {
         for call in &of_task.calls {
             if let Some(note) = ask(&mut answerers, call) {
@@ -66,13 +61,10 @@ pub(crate) fn add_question_notes(
 
 /// The gear and the devices with a variable for their answer.
 fn answerers(alloc: Global, plan: &Plan) -> Result<Vec<Option<Answerer>>, AllocError> {
-    let mut all = Vec::new(alloc);
     let places = usize::from(plan.buses())
         .saturating_mul(2)
         .saturating_mul(SHORT_ADDRESSES);
-    for _ in 0..places {
-        all.push(None)?;
-    }
+    let mut all = vec![in alloc; None; places]?;
     for global in 0..plan.globals() {
         if let Some(asked) = answer_of(plan.global(global).location) {
             if let Some(kept) = all.get_mut(asked.number()) {
@@ -177,7 +169,7 @@ fn add_second(
     task: usize,
     call: &BlockCall,
     second: Second,
-) -> Result<(), AllocError> {
+) -> Added {
     if second.global >= plan.globals() {
         return Ok(());
     }

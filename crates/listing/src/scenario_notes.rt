@@ -1,10 +1,9 @@
 //! Notes on a scenario that is played with a text: what it says of buses that are not there, events
 //! that are of no source, and gear that it lacks.
 
-use crate::facts::TaskFacts;
 use crate::levels::{Driven, FIRST_GROUP, Levels};
-use crate::note_lines::{NoteName, NotePlace, Notes};
-use crate::stars::{all_unmarked, is_marked, mark};
+use crate::note_lines::{Added, NoteName, NotePlace, Notes};
+use crate::stars::{is_marked, mark};
 use dalievent::EventSource;
 use daliframe::Frame24;
 use ilplan::Plan;
@@ -40,14 +39,8 @@ struct Comparison {
 }
 
 /// Adds the notes on a scenario.
-pub(crate) fn add_scenario_notes(
-    alloc: Global,
-    notes: &mut Notes,
-    plan: &Plan,
-    facts: &[TaskFacts],
-    played: Played,
-) -> Result<(), AllocError> {
-    let mut comparison = Comparison::with(alloc, plan)?;
+pub(crate) fn add_scenario_notes(notes: &mut Notes, levels: &Levels, played: Played) -> Added {
+    let mut comparison = Comparison::with(notes.alloc, levels.plan)?;
     let mut rest = played.bytes;
     let mut number: usize = 0;
     for statement in played.scenario.lines() {
@@ -59,8 +52,7 @@ pub(crate) fn add_scenario_notes(
         rest = after;
         comparison.add_note(notes, number, statement)?;
     }
-    let levels = Levels::of(alloc, plan, facts)?;
-    comparison.add_lacking_gear(notes, plan, &levels)
+    comparison.add_lacking_gear(notes, levels)
 }
 
 /// Whether a statement is a tick: there is no note on any, and one line may say many.
@@ -108,22 +100,16 @@ impl Comparison {
         Ok(Comparison {
             buses: plan.buses(),
             sources,
-            gear: all_unmarked(alloc, gear_place(limits::MOST_BUSES, 0))?,
-            told_buses: all_unmarked(alloc, usize::from(limits::MOST_BUSES))?,
+            gear: vec![in alloc; false; gear_place(limits::MOST_BUSES, 0)]?,
+            told_buses: vec![in alloc; false; usize::from(limits::MOST_BUSES)]?,
             told_events: IndexMap::new(alloc),
         })
     }
 
     /// Adds the note on the statement of a line, where there is one.
-    fn add_note(
-        &mut self,
-        notes: &mut Notes,
-        line: usize,
-        statement: &Statement,
-    ) -> Result<(), AllocError> {
-        let bus = match bus_of(statement) {
-            Some(bus) => bus,
-            None => return Ok(()),
+    fn add_note(&mut self, notes: &mut Notes, line: usize, statement: &Statement) -> Added {
+        let Some(bus) = bus_of(statement) else {
+            return Ok(());
         };
         if bus >= self.buses {
             return self.add_missing_bus(notes, line, bus);
@@ -139,12 +125,7 @@ impl Comparison {
     }
 
     /// Adds that a bus is not there, once for each.
-    fn add_missing_bus(
-        &mut self,
-        notes: &mut Notes,
-        line: usize,
-        bus: u8,
-    ) -> Result<(), AllocError> {
+    fn add_missing_bus(&mut self, notes: &mut Notes, line: usize, bus: u8) -> Added {
         if is_marked(&self.told_buses, usize::from(bus)) {
             return Ok(());
         }
@@ -157,13 +138,7 @@ impl Comparison {
     }
 
     /// Adds that an event is of no source, once for each, whatever its information.
-    fn add_event(
-        &mut self,
-        notes: &mut Notes,
-        line: usize,
-        bus: u8,
-        frame: Frame24,
-    ) -> Result<(), AllocError> {
+    fn add_event(&mut self, notes: &mut Notes, line: usize, bus: u8, frame: Frame24) -> Added {
         let number = frame.number();
         let key = u64::from(bus)
             .saturating_mul(65_536)
@@ -193,16 +168,11 @@ impl Comparison {
     }
 
     /// Adds a note for each level of a gear that the scenario does not have.
-    fn add_lacking_gear(
-        &self,
-        notes: &mut Notes,
-        plan: &Plan,
-        levels: &Levels,
-    ) -> Result<(), AllocError> {
+    fn add_lacking_gear(&self, notes: &mut Notes, levels: &Levels) -> Added {
         for bus in 0..self.buses {
             for address in 0..FIRST_GROUP {
                 if !is_marked(&self.gear, gear_place(bus, address)) {
-                    add_lacking(notes, plan, levels, Driven { bus, address })?;
+                    add_lacking(notes, levels, Driven { bus, address })?;
                 }
             }
         }
@@ -226,23 +196,13 @@ fn bus_of(statement: &Statement) -> Option<u8> {
 }
 
 /// Adds the note on a gear that the scenario does not have, where a level drives it.
-fn add_lacking(
-    notes: &mut Notes,
-    plan: &Plan,
-    levels: &Levels,
-    driven: Driven,
-) -> Result<(), AllocError> {
-    match levels.get(driven) {
-        Some(level) if level.global < plan.globals() => {
-            let name = plan.global_name(level.global);
-            notes.add(
-                NoteName::ScenarioGear,
-                NotePlace::Whole,
-                format!(in notes.alloc;
-                    "{name} is the level of {driven}, and the scenario has no such gear"
-                )?,
-            )
-        }
-        _ => Ok(()),
-    }
+fn add_lacking(notes: &mut Notes, levels: &Levels, driven: Driven) -> Added {
+    let Some(level) = levels.get(driven) else {
+        return Ok(());
+    };
+    let name = levels.name(level);
+    let message = format!(in notes.alloc;
+        "{name} is the level of {driven}, and the scenario has no such gear"
+    )?;
+    notes.add(NoteName::ScenarioGear, NotePlace::Whole, message)
 }

@@ -1,7 +1,7 @@
 //! Notes on the sources of events that a binding has.
 
-use crate::note_lines::{NoteName, NotePlace, Notes};
-use crate::stars::{all_unmarked, is_marked, mark};
+use crate::note_lines::{Added, NoteName, NotePlace, Notes};
+use crate::stars::{is_marked, mark};
 use ilplan::{Location, Plan};
 use indexmap::IndexMap;
 use std::alloc::{AllocError, Global};
@@ -12,18 +12,14 @@ const SOURCES: usize = limits::MOST_SOURCES as usize;
 
 /// Adds a note for each source of the binding that the text does not use, and for each that is
 /// bound at two places.
-pub(crate) fn add_source_notes(
-    alloc: Global,
-    notes: &mut Notes,
-    plan: &Plan,
-) -> Result<(), AllocError> {
-    add_unused(alloc, notes, plan)?;
-    add_doubled(alloc, notes, plan)
+pub(crate) fn add_source_notes(notes: &mut Notes, plan: &Plan) -> Added {
+    add_unused(notes, plan)?;
+    add_doubled(notes, plan)
 }
 
 /// Adds a note for each source of the binding that the text does not use.
-fn add_unused(alloc: Global, notes: &mut Notes, plan: &Plan) -> Result<(), AllocError> {
-    let used = sources_of(alloc, plan)?;
+fn add_unused(notes: &mut Notes, plan: &Plan) -> Added {
+    let used = sources_of(notes.alloc, plan)?;
     for bound in plan.sources() {
         let bus = bound.bus;
         let number = bound.number;
@@ -49,7 +45,7 @@ fn number_of(bus: u8, source: u8) -> usize {
 
 /// For each source of each bus whether a global variable has an address of it.
 fn sources_of(alloc: Global, plan: &Plan) -> Result<Vec<bool>, AllocError> {
-    let mut used = all_unmarked(alloc, number_of(limits::MOST_BUSES, 0))?;
+    let mut used = vec![in alloc; false; number_of(limits::MOST_BUSES, 0)]?;
     for number in 0..plan.globals() {
         match plan.global(number).location {
             Some(
@@ -64,15 +60,12 @@ fn sources_of(alloc: Global, plan: &Plan) -> Result<Vec<bool>, AllocError> {
 }
 
 /// Adds a note for each source that is bound at a place before as well.
-fn add_doubled(alloc: Global, notes: &mut Notes, plan: &Plan) -> Result<(), AllocError> {
-    let mut first_places = IndexMap::new(alloc);
+fn add_doubled(notes: &mut Notes, plan: &Plan) -> Added {
+    let mut first_places = IndexMap::new(notes.alloc);
     for bound in plan.sources() {
         let key = key_of(bound);
         let number = bound.number;
-        let first: Option<u8> = match first_places.get(&key) {
-            Some(first) => Some(*first),
-            None => None,
-        };
+        let first: Option<u8> = first_places.get(&key).copied();
         match first {
             Some(first) => {
                 let bus = bound.bus;

@@ -125,36 +125,15 @@ pub(crate) fn calls_on_longest(
 fn no_stars(alloc: Global, code: &Code) -> Result<Stars, AllocError> {
     let functions = code.functions().len();
     Ok(Stars {
-        words: all_unmarked(alloc, code.len())?,
-        to_end: all_unused(alloc, functions)?,
-        to_any: all_unused(alloc, functions)?,
+        words: vec![in alloc; false; code.len()]?,
+        to_end: vec![in alloc; 0; functions]?,
+        to_any: vec![in alloc; 0; functions]?,
     })
-}
-
-/// So many, none of them marked.
-pub(crate) fn all_unmarked(alloc: Global, count: usize) -> Result<Vec<bool>, AllocError> {
-    let mut marks = Vec::new(alloc);
-    for _ in 0..count {
-        marks.push(false)?;
-    }
-    Ok(marks)
-}
-
-/// So many, none of them used.
-pub(crate) fn all_unused(alloc: Global, count: usize) -> Result<Vec<u32>, AllocError> {
-    let mut counts = Vec::new(alloc);
-    for _ in 0..count {
-        counts.push(0)?;
-    }
-    Ok(counts)
 }
 
 /// The count at a place.
 pub(crate) fn count_at(counts: &[u32], place: usize) -> u32 {
-    match counts.get(place) {
-        Some(count) => *count,
-        None => 0,
-    }
+    counts.get(place).copied().unwrap_or(0)
 }
 
 /// Adds to the count at a place.
@@ -166,10 +145,7 @@ pub(crate) fn add_at(counts: &mut Vec<u32>, place: usize, times: u32) {
 
 /// Whether a place is marked.
 pub(crate) fn is_marked(marks: &[bool], place: usize) -> bool {
-    match marks.get(place) {
-        Some(is) => *is,
-        None => false,
-    }
+    marks.get(place).copied().unwrap_or(false)
 }
 
 /// Marks a place.

@@ -7,6 +7,7 @@ use crate::knowing::KnownText;
 use crate::paths::words_in;
 use crate::stars::{is_marked, longest_path};
 use crate::task_names::{TaskNames, functions_in};
+use crate::uses::line_at;
 use crate::words::WordText;
 use ilcode::Word;
 use ilcompile::Setup;
@@ -123,10 +124,7 @@ fn write_numbers<W: Write>(out: &mut W, table: &Table, place: usize) -> io::Resu
     let left = table
         .ways
         .words_from(table.names.code.body_at(place), place);
-    let line = match table.names.code.lines().get(place) {
-        Some(line) => *line as usize,
-        None => 0,
-    };
+    let line = line_at(table.names.code, place);
     write!(out, "{star} {place:>5} {line:>5} {left:>5}  ")
 }
 

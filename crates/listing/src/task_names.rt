@@ -41,18 +41,12 @@ pub fn functions_in(alloc: Global, plan: &Plan, task: usize) -> Result<Vec<usize
 impl<'a> TaskNames<'a> {
     /// The name of the function of this number in the code, as declared.
     pub fn function(&self, function: usize) -> Option<DeclaredName<'a>> {
-        match self.user_function(function) {
-            Some(found) => Some(shown(self.plan.text(), found.name())),
-            None => None,
-        }
+        Some(shown(self.plan.text(), self.user_function(function)?.name()))
     }
 
     /// The function of this number in the code.
     fn user_function(&self, function: usize) -> Option<&'a UserFunction> {
-        match self.functions.get(function) {
-            Some(number) => self.plan.functions().get(*number),
-            None => None,
-        }
+        self.plan.functions().get(*self.functions.get(function)?)
     }
 
     /// The name of the program instance of this number, as declared.
@@ -60,10 +54,8 @@ impl<'a> TaskNames<'a> {
         if self.task >= self.plan.tasks() {
             return None;
         }
-        match self.plan.task(self.task).instances().get(instance) {
-            Some(found) => Some(shown(self.plan.text(), found.name())),
-            None => None,
-        }
+        let found = self.plan.task(self.task).instances().get(instance)?;
+        Some(shown(self.plan.text(), found.name()))
     }
 
     /// The name of the variable in a slot, as declared: `instance.variable`, `function.variable`,
@@ -118,14 +110,8 @@ impl<'a> TaskNames<'a> {
 
     /// The name of the variable of this number of a function, which has this number in the code.
     fn own_variable(&self, function: usize, own: usize) -> Option<SlotName<'a>> {
-        let found = match self.user_function(function) {
-            Some(found) => found,
-            None => return None,
-        };
-        match name_in(found, own) {
-            Some(name) => Some(self.name_within(found.name(), name)),
-            None => None,
-        }
+        let found = self.user_function(function)?;
+        Some(self.name_within(found.name(), name_in(found, own)?))
     }
 
     /// The name of a block instance, as declared.
@@ -133,10 +119,8 @@ impl<'a> TaskNames<'a> {
         if self.task >= self.plan.tasks() {
             return None;
         }
-        match self.plan.task(self.task).blocks().get(block) {
-            Some(found) => Some(self.name_within(found.instance, found.name)),
-            None => None,
-        }
+        let found = self.plan.task(self.task).blocks().get(block)?;
+        Some(self.name_within(found.instance, found.name))
     }
 
     /// The name of a port of a block instance.
@@ -144,16 +128,9 @@ impl<'a> TaskNames<'a> {
         if self.task >= self.plan.tasks() {
             return None;
         }
-        let kind = match self.plan.task(self.task).blocks().get(block) {
-            Some(found) => found.kind,
-            None => return None,
-        };
-        match kind.ports().get(port) {
-            Some(port) => Some(DeclaredName {
-                bytes: port.name.spelling(),
-            }),
-            None => None,
-        }
+        let kind = self.plan.task(self.task).blocks().get(block)?.kind;
+        let bytes = kind.ports().get(port)?.name.spelling();
+        Some(DeclaredName { bytes })
     }
 }
 
@@ -161,13 +138,7 @@ impl<'a> TaskNames<'a> {
 /// its VAR.
 pub(crate) fn name_in(function: &UserFunction, own: usize) -> Option<Name> {
     match own.checked_sub(function.inputs().len()) {
-        Some(other) => match function.variables().get(other) {
-            Some(variable) => Some(variable.name),
-            None => None,
-        },
-        None => match function.inputs().get(own) {
-            Some(input) => Some(input.name),
-            None => None,
-        },
+        Some(other) => Some(function.variables().get(other)?.name),
+        None => Some(function.inputs().get(own)?.name),
     }
 }

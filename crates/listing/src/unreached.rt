@@ -1,37 +1,29 @@
 //! Notes on words: those that no scan reaches, and those that make requests.
 
 use crate::bodies::FunctionName;
-use crate::note_lines::{NoteName, NotePlace, Notes};
+use crate::note_lines::{Added, NoteName, NotePlace, Notes};
 use crate::stars::{is_marked, mark};
 use crate::task_names::{TaskNames, functions_in};
 use crate::uses::line_at;
 use ilcompile::Setup;
 use ilverify::{Pass, Passed, most_requests};
-use std::alloc::{AllocError, Global};
 
 /// How many requests of one class wait for a bus at most.
 const MOST_WAITING: u32 = limits::MOST_WAITING as u32;
 
 /// Adds a note for each line of which no scan reaches a word, the first of several one after
 /// another; for a line of a function once, where several tasks use it.
-pub(crate) fn add_unreached(
-    alloc: Global,
-    notes: &mut Notes,
-    setup: &Setup,
-) -> Result<(), AllocError> {
-    let mut told = Vec::new(alloc);
-    for _ in setup.plan().functions() {
-        told.push(false)?;
-    }
+pub(crate) fn add_unreached(notes: &mut Notes, setup: &Setup) -> Added {
+    let mut told = vec![in notes.alloc; false; setup.plan().functions().len()]?;
     for task in 0..setup.plan().tasks() {
-        let functions = functions_in(alloc, setup.plan(), task)?;
+        let functions = functions_in(notes.alloc, setup.plan(), task)?;
         let names = TaskNames {
             plan: setup.plan(),
             task,
             code: setup.code(task).code(),
             functions: &functions,
         };
-        add_unreached_of(alloc, notes, &names, &told)?;
+        add_unreached_of(notes, &names, &told)?;
         for number in &functions {
             mark(&mut told, *number);
         }
@@ -40,13 +32,8 @@ pub(crate) fn add_unreached(
 }
 
 /// Adds the notes on words of a task, without those of functions that were told of.
-fn add_unreached_of(
-    alloc: Global,
-    notes: &mut Notes,
-    names: &TaskNames,
-    told: &[bool],
-) -> Result<(), AllocError> {
-    let mut pass = Pass::begin(alloc, names.code)?;
+fn add_unreached_of(notes: &mut Notes, names: &TaskNames, told: &[bool]) -> Added {
+    let mut pass = Pass::begin(notes.alloc, names.code)?;
     let mut was_reached = true;
     for place in 0..names.code.len() {
         let is_reached = pass.entry().is_some();
@@ -64,12 +51,7 @@ fn add_unreached_of(
 
 /// Adds that no scan comes to the word at a place, or no call of its function, which was not told
 /// of.
-fn add_line(
-    notes: &mut Notes,
-    names: &TaskNames,
-    told: &[bool],
-    place: usize,
-) -> Result<(), AllocError> {
+fn add_line(notes: &mut Notes, names: &TaskNames, told: &[bool], place: usize) -> Added {
     let line = line_at(names.code, place);
     match names.code.body_at(place).checked_sub(1) {
         None => add_task_line(notes, names, line),
@@ -89,7 +71,7 @@ fn add_line(
 }
 
 /// Adds that no scan of the task comes to a line.
-fn add_task_line(notes: &mut Notes, names: &TaskNames, line: usize) -> Result<(), AllocError> {
+fn add_task_line(notes: &mut Notes, names: &TaskNames, line: usize) -> Added {
     if names.task >= names.plan.tasks() {
         return Ok(());
     }
@@ -103,14 +85,10 @@ fn add_task_line(notes: &mut Notes, names: &TaskNames, line: usize) -> Result<()
 
 /// Adds a note where the tasks together may make more requests than a class of a bus has room
 /// for.
-pub(crate) fn add_request_notes(
-    alloc: Global,
-    notes: &mut Notes,
-    setup: &Setup,
-) -> Result<(), AllocError> {
+pub(crate) fn add_request_notes(notes: &mut Notes, setup: &Setup) -> Added {
     let mut all: u32 = 0;
     for task in 0..setup.plan().tasks() {
-        let requests = most_requests(alloc, setup.code(task).code())?;
+        let requests = most_requests(notes.alloc, setup.code(task).code())?;
         all = all.saturating_add(requests.unwrap_or(0));
     }
     if all > MOST_WAITING {

@@ -3,7 +3,7 @@
 ghost use Rattle.std.specs.Prelude.{◌<◌, length};
 
 use crate::facts::TaskFacts;
-use crate::stars::{add_at, all_unused};
+use crate::stars::add_at;
 use ilcode::{Code, Target, Word, WordOperand};
 use ilplan::{Plan, SlotOwner};
 use std::alloc::{AllocError, Global};
@@ -37,10 +37,7 @@ impl Use {
 
 /// How each slot of a code is used.
 pub(crate) fn uses_of(alloc: Global, code: &Code) -> Result<Vec<Use>, AllocError> {
-    let mut uses = Vec::new(alloc);
-    for _ in 0..code.slots().len() {
-        uses.push(UNUSED)?;
-    }
+    let mut uses = vec![in alloc; UNUSED; code.slots().len()]?;
     for place in 0..code.len() {
         let line = line_at(code, place);
         add_word(&mut uses, code.word(place), line);
@@ -48,50 +45,63 @@ pub(crate) fn uses_of(alloc: Global, code: &Code) -> Result<Vec<Use>, AllocError
     Ok(uses)
 }
 
-/// The line of a word.
-pub(crate) fn line_at(code: &Code, place: usize) -> usize {
+/// The line of the text from which the word at a place of a code comes, counted from 1; 0 where
+/// there is none.
+pub fn line_at(code: &Code, place: usize) -> usize {
     match code.lines().get(place) {
         Some(line) => *line as usize,
         None => 0,
     }
 }
 
-/// Adds what a word on a line uses.
-fn add_word(uses: &mut Vec<Use>, word: Word, line: usize) {
-    let read = Use {
-        read: line,
-        stored: false,
-    };
-    let stored = Use {
-        read: 0,
-        stored: true,
-    };
+/// The operand that a word reads.
+pub(crate) fn read_by(word: Word) -> Option<WordOperand> {
     match word {
-        Word::Load { operand, .. } => add_operand(uses, operand, read),
-        Word::Apply(_, operand) => add_operand(uses, operand, read),
-        Word::Pass { operand, .. } => add_operand(uses, operand, read),
-        Word::Store { variable, .. } => add_target(uses, variable, stored),
-        Word::Set(variable) => add_target(uses, variable, stored),
-        Word::Reset(variable) => add_target(uses, variable, stored),
-        Word::Give { operand, slot } => {
-            add_operand(uses, operand, read);
-            add_slot(uses, usize::from(slot), stored);
+        Word::Load { operand, .. } | Word::Pass { operand, .. } | Word::Give { operand, .. } => {
+            Some(operand)
         }
-        _ => {}
+        Word::Apply(_, operand) => Some(operand),
+        _ => None,
     }
 }
 
-/// Adds a use of an operand.
-fn add_operand(uses: &mut Vec<Use>, operand: WordOperand, other: Use) {
-    if let WordOperand::Slot(slot) = operand {
-        add_slot(uses, usize::from(slot), other);
+/// What a word writes.
+pub(crate) fn written_by(word: Word) -> Option<Target> {
+    match word {
+        Word::Store { variable, .. } | Word::Set(variable) | Word::Reset(variable) => Some(
+            variable,
+        ),
+        Word::Pass { port, block, .. } => Some(Target::Port { port, block }),
+        Word::Give { slot, .. } => Some(Target::Slot(slot)),
+        _ => None,
     }
 }
 
-/// Adds a use of what is written.
-fn add_target(uses: &mut Vec<Use>, target: Target, other: Use) {
-    if let Target::Slot(slot) = target {
-        add_slot(uses, usize::from(slot), other);
+/// The slot that a word reads.
+pub(crate) fn slot_read_by(word: Word) -> Option<usize> {
+    match read_by(word) {
+        Some(WordOperand::Slot(slot)) => Some(usize::from(slot)),
+        _ => None,
+    }
+}
+
+/// The slot that a word writes.
+pub(crate) fn slot_written_by(word: Word) -> Option<usize> {
+    match written_by(word) {
+        Some(Target::Slot(slot)) => Some(usize::from(slot)),
+        _ => None,
+    }
+}
+
+/// Adds what a word on a line uses.
+fn add_word(uses: &mut Vec<Use>, word: Word, read: usize) {
+    if let Some(slot) = slot_read_by(word) {
+        let stored = false;
+        add_slot(uses, slot, Use { read, stored });
+    }
+    if let Some(slot) = slot_written_by(word) {
+        let (read, stored) = (0, true);
+        add_slot(uses, slot, Use { read, stored });
     }
 }
 
@@ -108,10 +118,7 @@ pub(crate) fn global_uses(
     plan: &Plan,
     facts: &[TaskFacts],
 ) -> Result<Vec<Use>, AllocError> {
-    let mut all = Vec::new(alloc);
-    for _ in 0..plan.globals() {
-        all.push(UNUSED)?;
-    }
+    let mut all = vec![in alloc; UNUSED; plan.globals()]?;
     for (task, of_task) in facts.iter().enumerate() {
         if task < plan.tasks() {
             add_globals(&mut all, plan, task, &of_task.uses);
@@ -122,7 +129,7 @@ pub(crate) fn global_uses(
 
 /// For each global variable how many tasks name it.
 pub(crate) fn naming_tasks(alloc: Global, plan: &Plan) -> Result<Vec<u32>, AllocError> {
-    let mut counts = all_unused(alloc, plan.globals())?;
+    let mut counts: Vec<u32> = vec![in alloc; 0; plan.globals()]?;
     for task in 0..plan.tasks() {
         for slot in plan.task(task).slots() {
             if let SlotOwner::Global(number) = slot.variable {

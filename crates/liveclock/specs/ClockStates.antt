@@ -7,16 +7,19 @@ pub record ClockState (S : Type 0) : Type 0 where
   pub log : ClockLog
   -- the milliseconds from one moment to the next
   pub period : ℕ
+  -- no moment before this one is given
+  pub begins : ℕ
   -- no moment after this one is given
   pub until : ℕ
   -- what else ends it
   pub stop : S
 
 -- a clock that was never asked; the moments that it is to give are not known
-abbrev pub fresh_clock : {S : Type 0} → ℕ → ℕ → S → ClockState S
-fresh_clock period until stop = record {
+abbrev pub fresh_clock : {S : Type 0} → ℕ → ℕ → ℕ → S → ClockState S
+fresh_clock period begins until stop = record {
   log = record { moments = None; given = []; asks = 0; gave_none = false };
   period = period;
+  begins = begins;
   until = until;
   stop = stop;
 }

@@ -14,7 +14,8 @@ use std::marker::Model;
 use std::num::NonZeroU64;
 use std::time::{Clock as Timer, Instant};
 
-/// A clock of milliseconds since it was made. What it gave has no bytes.
+/// A clock of milliseconds, which begins at a moment and goes on from there while time passes. What it
+/// gave has no bytes.
 #[derive(Drop)]
 pub struct LiveClock<T: Timer, S: StopCondition> {
     timer: T,
@@ -22,6 +23,8 @@ pub struct LiveClock<T: Timer, S: StopCondition> {
     start: Instant,
     /// The milliseconds from one moment to the next.
     period: NonZeroU64,
+    /// The moment at which it was made.
+    begins: u64,
     /// The last moment that may be given.
     until: u64,
     /// The latest moment that was given, 0 before the first.
@@ -46,6 +49,7 @@ impl<T: Timer, S: StopCondition> Model for LiveClock<T, S> {
         gave_none = c.gave_none;
       };
       period = non_zero_u64_get c.period;
+      begins = c.begins;
       until = c.until;
       stop = c.stop;
     } };
@@ -54,13 +58,21 @@ impl<T: Timer, S: StopCondition> Model for LiveClock<T, S> {
 }
 
 impl<T: Timer + Drop, S: StopCondition> LiveClock<T, S> {
-    /// A clock that gives a moment in each period, the first at once, and none after `until`.
+    /// A clock at which it is `begins` now. It gives a moment in each period, the first at once, and
+    /// none after `until`.
     ///
     /// # Errors
     ///
     /// The timer could not be read.
-    pub fn new(timer: T, period: NonZeroU64, until: u64, stop: S) -> io::Result<LiveClock<T, S>>
-        ensures { IfOk result (λ c. c ≡ fresh_clock (non_zero_u64_get period) until stop) }
+    pub fn new(
+        timer: T,
+        period: NonZeroU64,
+        begins: u64,
+        until: u64,
+        stop: S,
+    ) -> io::Result<LiveClock<T, S>>
+        ensures { IfOk result (λ c.
+            c ≡ fresh_clock (non_zero_u64_get period) begins until stop) }
     {
         let start = Instant::now(&timer)?;
         Ok(LiveClock {
@@ -68,6 +80,7 @@ impl<T: Timer + Drop, S: StopCondition> LiveClock<T, S> {
             stop,
             start,
             period,
+            begins,
             until,
             latest: 0,
             given: Trace::new(),
@@ -85,21 +98,28 @@ impl<T: Timer + Drop, S: StopCondition> LiveClock<T, S> {
         self.given.push(&moment);
     }
 
+    /// The moment that it is, where the timer can be read and the moment has 64 bits.
+    fn moment(&self) -> Option<u64>
+        ensures { IfSome result (λ moment. self.now.begins ≤ moment) }
+    {
+        let passed = millis_since(&self.timer, self.start)?;
+        self.begins.checked_add(passed)
+    }
+
     /// Sleeps until the next moment, but not before the first, and gives it. There is none once the
     /// end has come. Periods that passed meanwhile have no moment.
     fn wait(&self) -> Option<u64>
-        ensures { IfSome result
-            (λ moment. IsNotBefore moment self.now.log × (moment ≤ self.now.until)) }
+        ensures { IfSome result (λ moment. IsNotBefore moment self.now.log
+            × (self.now.begins ≤ moment) × (moment ≤ self.now.until)) }
     {
-        let before = millis_since(&self.timer, self.start)?;
+        let before = self.moment()?;
         if self.asks > 1 {
             sleep_until(&self.timer, before, next_period(self.latest, self.period));
         }
         if self.stop.is_wanted() {
             return None;
         }
-        let now = millis_since(&self.timer, self.start)?;
-        let moment = now.max(self.latest);
+        let moment = self.moment()?.max(self.latest);
         if moment > self.until {
             return None;
         }
@@ -114,7 +134,9 @@ impl<T: Timer + Drop, S: StopCondition> Clock for LiveClock<T, S> {
         ensures logged { self.new.log ≡ after_now result self.old.log }
         ensures never_falls { IfSome result (λ moment. IsNotBefore moment self.old.log) }
         ensures ends { TellsEnd result self.old.log }
+        ensures begun { IfSome result (λ moment. self.old.begins ≤ moment) }
         ensures within { IfSome result (λ moment. moment ≤ self.old.until) }
+        ensures begins { self.new.begins ≡ self.old.begins }
         ensures until { self.new.until ≡ self.old.until }
         ensures period { self.new.period ≡ self.old.period }
         ensures stop { self.new.stop ≡ self.old.stop }

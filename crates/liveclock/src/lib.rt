@@ -1,4 +1,4 @@
-//! The clock of a building: milliseconds since it was made.
+//! The clock of a building: milliseconds, from a moment on.
 //!
 //! What crosses the boundary: a timer of the machine, a period and a [`StopCondition`] go in. A
 //! [`Clock`](buslink::Clock) comes out, which sleeps until the next whole period before it gives a
@@ -7,7 +7,7 @@
 //! definition to read first is `ClockState` (specs/ClockStates.antt).
 //!
 //! ```text
-//! let mut clock = LiveClock::new(rt, NonZeroU64::new(100)?, u64::MAX, NoStop)?;
+//! let mut clock = LiveClock::new(rt, NonZeroU64::new(100)?, 0, u64::MAX, NoStop)?;
 //! let moment = clock.now(); // 0, and at the next call 100
 //! ```
 #![tactic(auto)]

@@ -1,1 +1,1 @@
-mod SlotLists
+mod TaskLists

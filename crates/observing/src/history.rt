@@ -24,7 +24,7 @@ pub(crate) struct History {
     next: u64,
     /// Events that wait until those before them were told.
     waiting: Vec<Told>,
-    /// The milliseconds of the last tick.
+    /// The milliseconds of the last tick; before the first the moment at which the clock begins.
     pub(crate) moment: u64,
     pub(crate) record: Option<Record>,
     /// Whether lines of its events are wanted.
@@ -32,7 +32,8 @@ pub(crate) struct History {
 }
 
 impl History {
-    /// A building to which nothing has happened, with the record that is wanted of it.
+    /// A building to which nothing has happened, whose clock begins at this moment, with the record
+    /// that is wanted of it.
     ///
     /// # Errors
     ///
@@ -41,6 +42,7 @@ impl History {
         alloc: Global,
         setup: Setup,
         workers: usize,
+        begins: u64,
         record: Option<Record>,
         is_logged: bool,
     ) -> Result<History, AllocError> {
@@ -56,7 +58,7 @@ impl History {
             counts,
             next: 0,
             waiting: Vec::new(alloc),
-            moment: 0,
+            moment: begins,
             record,
             is_logged,
         })

@@ -3,9 +3,10 @@
 ghost use Rattle.std.specs.Prelude.{◌≡◌, ◌≤◌, IfOk, length};
 ghost use Rattle.std.specs.List.{AllZip};
 ghost use Rattle.limits.specs.Limits.{most_bytes};
-ghost use Rattle.ilplan.specs.Beginnings.{lists_of};
+ghost use Rattle.ilplan.specs.Beginnings.{HasEach};
 ghost use Rattle.keeping.specs.Printed.{printed_file};
 
+use ilplan::TaskState;
 use iltypes::Value;
 use keeping::{KeptAt, KeptValue, kept_file, kept_values};
 use limits::MOST_BYTES;
@@ -80,8 +81,8 @@ fn are_same(values: &[KeptValue], others: &[KeptValue]) -> bool {
 /// The allocator is out of memory.
 fn values_of(alloc: Global, plant: &Plant) -> io::Result<Vec<KeptValue>> {
     let globals = globals_of(alloc, plant)?;
-    let slots = slots_of(alloc, plant)?;
-    Ok(kept_values(alloc, plant.setup().plan(), &globals, &slots)?)
+    let tasks = tasks_of(alloc, plant)?;
+    Ok(kept_values(alloc, plant.setup().plan(), &globals, &tasks)?)
 }
 
 /// The values of a plant's global variables.
@@ -96,16 +97,15 @@ fn globals_of(alloc: Global, plant: &Plant) -> io::Result<Vec<Value>>
     Ok(values)
 }
 
-/// The values in the slots of a plant's tasks.
-fn slots_of(alloc: Global, plant: &Plant) -> io::Result<Vec<Vec<Value>>>
-    ensures { IfOk result (λ slots. AllZip (λ task values. length values ≡ length task.slots)
-        plant.now.plant.plan.tasks (lists_of (λ values. values.items) slots.items)) }
+/// What lasts of a plant's tasks.
+fn tasks_of(alloc: Global, plant: &Plant) -> io::Result<Vec<TaskState>>
+    ensures { IfOk result (λ tasks. AllZip HasEach plant.now.plant.plan.tasks tasks.items) }
 {
-    let mut slots = Vec::new(alloc);
+    let mut tasks = Vec::new(alloc);
     for task in 0..plant.setup().plan().tasks() {
-        slots.push(plant.slot_values(alloc, task)?)?;
+        tasks.push(plant.task_state(alloc, task)?)?;
     }
-    Ok(slots)
+    Ok(tasks)
 }
 
 /// The file of these values, which were kept then.

@@ -20,9 +20,9 @@ pub struct BuildingObserver<'o, 'a, S: Storage, R: Wait> {
 }
 
 impl<'o, 'a, S: Storage, R: Wait> BuildingObserver<'o, 'a, S, R> {
-    /// Who writes the files that are wanted beside a building of this setup, and which begins with the
-    /// values of a file of these bytes, where there is one. None is written before the first tick, so
-    /// that the lights come first.
+    /// Who writes the files that are wanted beside a building of this setup, whose clock begins at
+    /// this moment, and which begins with the values of a file of these bytes, where there is one.
+    /// None is written before the first tick, so that the lights come first.
     ///
     /// # Errors
     ///
@@ -34,9 +34,10 @@ impl<'o, 'a, S: Storage, R: Wait> BuildingObserver<'o, 'a, S, R> {
         beside: &Beside<'a>,
         setup: Setup,
         kept: Option<&[u8]>,
+        begins: u64,
         workers: usize,
     ) -> Result<BuildingObserver<'o, 'a, S, R>, AllocError> {
-        let pages = Pages::open(alloc, beside, setup, kept, workers)?;
+        let pages = Pages::open(alloc, beside, setup, kept, begins, workers)?;
         Ok(BuildingObserver {
             rt,
             storage,

@@ -27,8 +27,9 @@ pub(crate) struct Pages<'a> {
 }
 
 impl<'a> Pages<'a> {
-    /// What is wanted beside a building to which nothing has happened, and which begins with the values
-    /// of this file, where there is one. No file is tried yet.
+    /// What is wanted beside a building to which nothing has happened, whose clock begins at this
+    /// moment, and which begins with the values of this file, where there is one. No file is tried
+    /// yet.
     ///
     /// # Errors
     ///
@@ -38,13 +39,14 @@ impl<'a> Pages<'a> {
         beside: &Beside<'a>,
         setup: Setup,
         kept: Option<&[u8]>,
+        begins: u64,
         workers: usize,
     ) -> Result<Pages<'a>, AllocError> {
         let record = opened_record(alloc, beside, &setup, kept.is_some())?;
         let is_logged = beside.log.is_some();
         Ok(Pages {
             alloc,
-            history: History::open(alloc, setup, workers, record, is_logged)?,
+            history: History::open(alloc, setup, workers, begins, record, is_logged)?,
             log: opened_log(alloc, beside),
             files: Files::new(alloc, beside, kept)?,
             follows: true,

@@ -5,18 +5,19 @@ use Rattle.std.proofs.lemmas.List.Elements.{All-nil, All-cons, All-map, All-push
 use Rattle.std.proofs.lemmas.Option.{slice_get-map, slice_get_within, slice_get-get_or, get_or_from_slice_get}
 use Rattle.std.proofs.lemmas.List.{append_assoc, drop_more}
 use Rattle.std.specs.Prelude.{IfOk, IfSome, All, slice_get, option_map, option_to_list}
-use Rattle.std.specs.List.{AllByRecursion, cons_option}
+use Rattle.std.specs.List.{AllByRecursion, AllZip, cons_option}
 use Rattle.iltypes.specs.declared.value.IlType.{IlType}
 use Rattle.iltypes.specs.declared.value.Value.{Value}
 use Rattle.iltypes.specs.Values.{AreOf}
+use Rattle.ilblocks.specs.Calls.{Block, IsBlockOf}
 use Rattle.ilplan.specs.declared.global.Global.{Global as GlobalVariable}
 use Rattle.ilplan.specs.declared.slot.Slot.{Slot}
 use Rattle.ilplan.specs.declared.slot.SlotOwner as slots
 use Rattle.ilplan.specs.declared.slot.SlotOwner.TheVariants as slot
 use Rattle.ilplan.specs.Plans as plans
 use Rattle.ilplan.specs.Plans.{PlannedTask, Planned, Precedes, AreOrdered, IsDeclared, type_and_initial}
-use Rattle.ilplan.specs.Plans.{KeepsLimits, IsTaskOf}
-use Rattle.ilcode.specs.Listings.{lasting_types}
+use Rattle.ilplan.specs.Plans.{HasStates, KeepsLimits, IsTaskOf, kinds_of}
+use Rattle.ilcode.specs.Listings.{Listing, lasting_types}
 use Rattle.ilverify.specs.Verdicts.{Accepted}
 use Rattle.ilimage.specs.declared.external.External.{External}
 use Rattle.ilimage.specs.Images.{IsImage, image_of}
@@ -156,15 +157,16 @@ owned_task plan task code limits is =
 pub first_tasks_more : (tasks : List PlannedTask) (codes : List Accepted) (k : ℕ) (task : PlannedTask) (code : Accepted)
     → slice_get tasks k ≡ Some task → slice_get codes k ≡ Some code
     → first_tasks (take (suc k) tasks) (take (suc k) codes)
-    ≡ first_tasks (take k tasks) (take k codes) ++ first_task code (externals_of task) (own_initials task) ∷ []
+    ≡ first_tasks (take k tasks) (take k codes)
+    ++ first_task code (externals_of task) (own_initials task) task.states ∷ []
 first_tasks_more [] codes k task code is of = absurd (cc)
 first_tasks_more (x ∷ tasks) [] k task code is of = absurd (cc)
 first_tasks_more (x ∷ tasks) (y ∷ codes) zero task code is of =
     let e : x ≡ task = cc in let f : y ≡ code = cc in
-    ap (λ z. first_task y (externals_of z) (own_initials z) ∷ []) e
-    ∙ ap (λ z. first_task z (externals_of task) (own_initials task) ∷ []) f
+    ap (λ z. first_task y (externals_of z) (own_initials z) z.states ∷ []) e
+    ∙ ap (λ z. first_task z (externals_of task) (own_initials task) task.states ∷ []) f
 first_tasks_more (x ∷ tasks) (y ∷ codes) (suc k) task code is of =
-    ap (λ (more : List TaskImage). first_task y (externals_of x) (own_initials x) ∷ more)
+    ap (λ (more : List TaskImage). first_task y (externals_of x) (own_initials x) x.states ∷ more)
     (first_tasks_more tasks codes k task code is of)
 
 -- ---- the loops
@@ -243,16 +245,27 @@ owned_values setup t task code es vs is limits coded named owned =
     (owned_task setup.plan task code limits
     (of_this (slice_get setup.plan.tasks t) task (λ task. IsCodeOf setup.plan task code) is coded)))
 
+-- what the block instances keep is of the kinds that the code has, on as many buses
+pub states_of_code : (setup : Loaded) (t : ℕ) (task : PlannedTask) (code : Accepted) (bs : List Block)
+    → slice_get setup.plan.tasks t ≡ Some task → HasStates setup.plan.buses task
+    → IfSome (slice_get setup.plan.tasks t) (λ task. IsCodeOf setup.plan task code) → bs ≡ task.states
+    → AllZip (IsBlockOf code.code.buses) bs code.code.kinds
+states_of_code setup t task code bs is have coded same =
+    let of = of_this (slice_get setup.plan.tasks t) task (λ task. IsCodeOf setup.plan task code) is coded in
+    subst (λ (l : Listing). AllZip (IsBlockOf l.buses) bs l.kinds) (sym of.laid)
+    (subst (λ (blocks : List Block). AllZip (IsBlockOf setup.plan.buses) blocks (kinds_of task)) (sym same) have)
+
 pub first_made : {E : Type 0} (setup : Loaded) (t : ℕ) (task : PlannedTask) (code : Accepted) (es : List External)
-    (vs : List Value) (made : Result TaskImage E) → slice_get setup.plan.tasks t ≡ Some task
+    (vs : List Value) (bs : List Block) (made : Result TaskImage E) → slice_get setup.plan.tasks t ≡ Some task
     → slice_get setup.codes t ≡ Some code → KeepsLimits setup.plan.functions task → IsTaskOf setup.plan.globals task
     → IfSome (slice_get setup.plan.tasks t) (λ task. IsCodeOf setup.plan task code)
-    → es ≡ externals_of task → vs ≡ own_initials task → IfOk made (λ image. image ≡ first_task code es vs)
-    → IfOk made (IsFirstImage setup t)
-first_made setup t task code es vs made is of limits declared coded named owned all =
-    if_ok (λ image. image ≡ first_task code es vs) (IsFirstImage setup t) made all (λ image so.
-    let here : image ≡ first_task code (externals_of task) (own_initials task) =
-    so ∙ (ap (λ es. first_task code es vs) named ∙ ap (first_task code (externals_of task)) owned) in
+    → es ≡ externals_of task → vs ≡ own_initials task → bs ≡ task.states
+    → IfOk made (λ image. image ≡ first_task code es vs bs) → IfOk made (IsFirstImage setup t)
+first_made setup t task code es vs bs made is of limits declared coded named owned kept all =
+    if_ok (λ image. image ≡ first_task code es vs bs) (IsFirstImage setup t) made all (λ image so.
+    let here : image ≡ first_task code (externals_of task) (own_initials task) task.states =
+    so ∙ (ap (λ es. first_task code es vs bs) named ∙ (ap (λ vs. first_task code (externals_of task) vs bs) owned
+    ∙ ap (first_task code (externals_of task) (own_initials task)) kept)) in
     record {
       task = task;
       code = code;
@@ -272,7 +285,8 @@ pub images_turn : (setup : Loaded) (t : ℕ) (image : TaskImage) (images longer 
 images_turn setup t image images longer first pushed before =
     let next : suc t ≡ t + 1 = omega arith in
     pushed ∙ (ap (λ i. images ++ i ∷ []) first.made
-    ∙ (ap (λ more. more ++ first_task first.code (externals_of first.task) (own_initials first.task) ∷ []) before
+    ∙ (ap (λ more. more
+    ++ first_task first.code (externals_of first.task) (own_initials first.task) first.task.states ∷ []) before
     ∙ (sym (first_tasks_more setup.plan.tasks setup.codes t first.task first.code first.is_task first.is_code)
     ∙ ap (λ n. first_tasks (take n setup.plan.tasks) (take n setup.codes)) next)))
 
@@ -291,7 +305,7 @@ all_images [] codes (suc n) le = refl
 all_images (x ∷ tasks) codes zero le = absurd (omega arith)
 all_images (x ∷ tasks) [] (suc n) le = refl
 all_images (x ∷ tasks) (y ∷ codes) (suc n) le =
-    ap (λ (more : List TaskImage). first_task y (externals_of x) (own_initials x) ∷ more)
+    ap (λ (more : List TaskImage). first_task y (externals_of x) (own_initials x) x.states ∷ more)
     (all_images tasks codes n (omega arith))
 
 -- the image is one

@@ -21,7 +21,7 @@ pub record IsFirstImage (setup : Loaded) (t : ℕ) (image : TaskImage) : Type 0 
   pub code : Accepted
   pub is_task : slice_get setup.plan.tasks t ≡ Some task
   pub is_code : slice_get setup.codes t ≡ Some code
-  pub made : image ≡ first_task code (externals_of task) (own_initials task)
+  pub made : image ≡ first_task code (externals_of task) (own_initials task) task.states
   pub lawful : IsLawfulTask (global_types setup.plan) image.layout
 
 abbrev pub AreLawfulTasks : Loaded → List TaskImage → Type 0

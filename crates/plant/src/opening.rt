@@ -5,7 +5,7 @@ ghost use Rattle.std.specs.Prelude.{IfOk, Some, None, option_to_list};
 ghost use Rattle.iltypes.specs.declared.value.IlType.{IlType as TypeOf};
 ghost use Rattle.std.specs.Prelude.{IfSome};
 ghost use Rattle.std.specs.Arc.{arc_value};
-ghost use Rattle.ilplan.specs.Plans.{PlannedTask, KeepsLimits, IsTaskOf};
+ghost use Rattle.ilplan.specs.Plans.{PlannedTask, HasStates, KeepsLimits, IsTaskOf};
 ghost use Rattle.ilcompile.specs.Loaded.{IsCodeOf};
 ghost use Rattle.ilverify.specs.Verdicts.{Accepted};
 ghost use Rattle.ilimage.specs.Images.{first_task, IsLawfulTask};
@@ -13,6 +13,7 @@ ghost use Rattle.plantevents.specs.Plants.{externals_of, external_in, own_by, ow
 ghost use Rattle.plantevents.specs.Plants.{first_tasks, opening};
 ghost use Rattle.plant.specs.OpeningSteps.{IsFirstImage, AreLawfulTasks, global_types, as_planned};
 
+use ilblocks::BlockState;
 use ilcompile::Setup;
 use ilimage::{External, Image, TaskImage};
 use ilplan::{Plan, Slot, SlotOwner, Task};
@@ -82,12 +83,20 @@ fn own_values(alloc: Global, task: &Task) -> Result<Vec<Value>, AllocError>
     Ok(values)
 }
 
+/// What each block instance of a task keeps before the first scan.
+fn states(alloc: Global, task: &Task) -> Result<Vec<BlockState>, AllocError>
+    ensures { IfOk result (λ states. states.items ≡ task.now.states) }
+{
+    Vec::from_clones(alloc, task.states())
+}
+
 /// A task of the plan.
 fn planned_task(setup: &Setup, task: usize) -> &Task
     requires { task < length setup.now.plan.tasks }
     ensures value { slice_get setup.now.plan.tasks task ≡ Some result.now }
     ensures limits { KeepsLimits setup.now.plan.functions result.now }
     ensures declared { IsTaskOf setup.now.plan.globals result.now }
+    ensures states { HasStates setup.now.plan.buses result.now }
 {
     setup.plan().task(task)
 }
@@ -112,8 +121,9 @@ fn task_image(alloc: Global, setup: &Setup, task: usize) -> Result<TaskImage, Al
     let planned = planned_task(setup, task);
     let externals = externals(alloc, planned)?;
     let values = own_values(alloc, planned)?;
+    let blocks = states(alloc, planned)?;
     let code = code_of(setup, task)?;
-    TaskImage::new(alloc, code, externals, values)
+    TaskImage::new(alloc, code, externals, values, blocks)
 }
 
 /// The tasks before the first scan.
@@ -152,7 +162,7 @@ fn initials(alloc: Global, plan: &Plan) -> Result<Vec<Value>, AllocError>
 }
 
 /// The process image before the first event: each variable at its initial value, each block
-/// instance before its first call.
+/// instance as the plan has it.
 pub(crate) fn first_image(alloc: Global, setup: &Setup) -> Result<Image, AllocError>
     ensures { IfOk result (λ image. image ≡ opening (as_planned setup.now)) }
 {

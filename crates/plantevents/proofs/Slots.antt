@@ -172,14 +172,14 @@ own_at task n (x ∷ more) (suc i) s instance name ordered is of =
 
 first_at : (tasks : List PlannedTask) (codes : List Accepted) (t : ℕ) (task : PlannedTask) (code : Accepted)
     → slice_get tasks t ≡ Some task → slice_get codes t ≡ Some code
-    → slice_get (first_tasks tasks codes) t ≡ Some (first_task code (externals_of task) (own_initials task))
+    → slice_get (first_tasks tasks codes) t ≡ Some (first_task code (externals_of task) (own_initials task) task.states)
 first_at [] codes t task code is of = absurd (cc)
 first_at (x ∷ tasks) [] t task code is of = absurd (cc)
 first_at (x ∷ tasks) (y ∷ codes) zero task code is of =
     let e : x ≡ task = cc in
     let f : y ≡ code = cc in
-    ap (λ z. Some (first_task y (externals_of z) (own_initials z))) e
-    ∙ ap (λ z. Some (first_task z (externals_of task) (own_initials task))) f
+    ap (λ z. Some (first_task y (externals_of z) (own_initials z) z.states)) e
+    ∙ ap (λ z. Some (first_task z (externals_of task) (own_initials task) task.states)) f
 first_at (x ∷ tasks) (y ∷ codes) (suc t) task code is of = first_at tasks codes t task code is of
 
 abbrev layout_of_task : Accepted → PlannedTask → TaskLayout

@@ -126,10 +126,10 @@ own_by (slot.Own instance name) initial = Some initial
 abbrev pub own_initials : PlannedTask → List Value
 own_initials task = filter_map (λ s. own_by s.variable s.initial) task.slots
 
--- each task with its code: its own variables at their initial values, its block instances before their first call
+-- each task with its code: its own variables at their initial values, its block instances as the plan has them
 abbrev pub first_tasks : List PlannedTask → List Accepted → List TaskImage
 first_tasks (task ∷ tasks) (code ∷ codes) =
-    first_task code (externals_of task) (own_initials task) ∷ first_tasks tasks codes
+    first_task code (externals_of task) (own_initials task) task.states ∷ first_tasks tasks codes
 first_tasks _ _ = []
 
 -- the global variables at their initial values, and the tasks

@@ -2,13 +2,13 @@
 use Rattle.std.proofs.Common.{◌≡◌, ℕ, List, Result, Ok, Err, sym, ap, ◌∙◌, subst}
 use Rattle.wordlines.specs.Wirings.{Wiring}
 use Rattle.iltypes.specs.declared.value.Value.{Value}
+use Rattle.ilblocks.specs.Stores.{Lasting}
 use Rattle.ilplan.specs.Plans.{Planned}
 use Rattle.ilplan.specs.Beginnings.{plan_with}
 use Rattle.ilcompile.specs.Loaded.{AreCodes, Loaded, loaded_of}
 use Rattle.ilcompile.proofs.Beginnings.{codes_begun, codes_before}
-use Rattle.ilverify.specs.Verdicts.{Accepted}
 use Rattle.keeping.specs.KeptFiles.{KeptEntry}
-use Rattle.keeping.specs.KeptPlans.{begun_plan, global_firsts, left_out_of, slot_firsts}
+use Rattle.keeping.specs.KeptPlans.{begun_plan, global_firsts, left_out_of, task_firsts}
 use Rattle.plantload.specs.KeptLoading.{AreLeftOut, IsKeptLoaded, IsKeptSetup}
 use Rattle.plantload.specs.Loading.{AreMeant, IsPlanOfText, IsSetup}
 use Rattle.plantload.specs.declared.fault.LoadFault.{LoadFault}
@@ -22,20 +22,20 @@ module _ (wiring : Wiring) (bytes : List ℕ) (kept : List KeptEntry) where
       is ∙ ap (left_out_of kept) (same_plan wiring bytes plan other own also)
 
   -- of the setup of a text
-  pub kept_setup : (own : Loaded) (globals : List Value) (slots : List (List Value)) (setup : Loaded)
-      → IsSetup wiring bytes own → globals ≡ global_firsts own.plan kept → slots ≡ slot_firsts own.plan kept
-      → setup ≡ loaded_of (plan_with own.plan globals slots) own.codes → IsKeptSetup wiring bytes kept setup
-  kept_setup own globals slots setup is firsts in_slots made =
-      let begins : setup.plan ≡ begun_plan kept own.plan =
+  pub kept_setup : (own : Loaded) (globals : List Value) (begins : List Lasting) (setup : Loaded)
+      → IsSetup wiring bytes own → globals ≡ global_firsts own.plan kept → begins ≡ task_firsts own.plan kept
+      → setup ≡ loaded_of (plan_with own.plan globals begins) own.codes → IsKeptSetup wiring bytes kept setup
+  kept_setup own globals begins setup is firsts in_tasks made =
+      let begun : setup.plan ≡ begun_plan kept own.plan =
       ap (λ (s : Loaded). s.plan) made
-      ∙ (ap (λ (vs : List Value). plan_with own.plan vs slots) firsts
-      ∙ ap (λ (vs : List (List Value)). plan_with own.plan (global_firsts own.plan kept) vs) in_slots) in
+      ∙ (ap (λ (vs : List Value). plan_with own.plan vs begins) firsts
+      ∙ ap (λ (ls : List Lasting). plan_with own.plan (global_firsts own.plan kept) ls) in_tasks) in
       record {
         own = own.plan;
         plan = is.plan;
-        begins = begins;
+        begins = begun;
         codes = subst (λ (s : Loaded). AreCodes s.plan s.codes) (sym made)
-            (codes_begun own.plan globals slots own.codes is.codes);
+            (codes_begun own.plan globals begins own.codes is.codes);
       }
 
   -- the setup of the text itself
@@ -44,7 +44,7 @@ module _ (wiring : Wiring) (bytes : List ℕ) (kept : List KeptEntry) where
   own_setup setup is =
       record {
         plan = is.plan;
-        codes = codes_before is.own (global_firsts is.own kept) (slot_firsts is.own kept) setup.codes
+        codes = codes_before is.own (global_firsts is.own kept) (task_firsts is.own kept) setup.codes
             (subst (λ (p : Planned). AreCodes p setup.codes) is.begins is.codes);
       }
 

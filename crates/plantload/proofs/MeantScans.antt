@@ -3,7 +3,7 @@ use Rattle.std.proofs.Common.{◌≡◌, ℕ, List, [], ◌∷◌, ◌++◌, Opt
 use Rattle.std.proofs.lemmas.Option.{slice_get-map}
 use Rattle.std.specs.Prelude.{slice_get, option_map}
 use Rattle.iltypes.specs.declared.value.Value.{Value}
-use Rattle.ilblocks.specs.Stores.{Store}
+use Rattle.ilblocks.specs.Stores.{Lasting, Store}
 use Rattle.wordlines.specs.Wirings.{Wiring}
 use Rattle.ilsource.specs.SourceTrees.{Tree}
 use Rattle.ilplan.specs.Plans.{Planned, PlannedTask}
@@ -19,7 +19,7 @@ use Rattle.plantevents.specs.declared.event.Event.TheVariants.{Commit}
 use Rattle.plantevents.specs.Plants.{Plant}
 use Rattle.plantevents.specs.Legal.{Allowed, AreLegal, IsCommit}
 use Rattle.keeping.specs.KeptFiles.{KeptEntry}
-use Rattle.keeping.specs.KeptPlans.{IsKeptPlan, global_firsts, slot_firsts}
+use Rattle.keeping.specs.KeptPlans.{IsKeptPlan, global_firsts, task_firsts}
 use Rattle.plantload.specs.MeantScans.{IsAsMeant, AreAsMeant}
 
 -- a task of the plan is one of the source program
@@ -67,10 +67,10 @@ own_tasks plan tree wiring same is =
     subst (λ (p : Planned). AreTasksOf p tree wiring) (sym is) (tree_tasks tree wiring same)
 
 -- those of the same plan that begins with other values
-begun_tasks : (own : Planned) (globals : List Value) (slots : List (List Value)) (tree : Tree) (wiring : Wiring)
-    → AreTasksOf own tree wiring → AreTasksOf (plan_with own globals slots) tree wiring
-begun_tasks own globals slots tree wiring are t begun is =
-    let b = begun_task own.tasks slots t begun is in
+begun_tasks : (own : Planned) (globals : List Value) (begins : List Lasting) (tree : Tree) (wiring : Wiring)
+    → AreTasksOf own tree wiring → AreTasksOf (plan_with own globals begins) tree wiring
+begun_tasks own globals begins tree wiring are t begun is =
+    let b = begun_task own.tasks begins t begun is in
     let source = are t b.task b.there in
     record {
       source = source.source;
@@ -82,7 +82,7 @@ pub kept_tasks : (kept : List KeptEntry) (own plan : Planned) (tree : Tree) (wir
     → own ≡ plan_of_tree tree wiring → IsKeptPlan kept own plan → AreTasksOf plan tree wiring
 kept_tasks kept own plan tree wiring same is begins =
     subst (λ (p : Planned). AreTasksOf p tree wiring) (sym begins)
-    (begun_tasks own (global_firsts own kept) (slot_firsts own kept) tree wiring
+    (begun_tasks own (global_firsts own kept) (task_firsts own kept) tree wiring
     (own_tasks own tree wiring same is))
 
 scan_meant : (p : Plant) (tree : Tree) (wiring : Wiring) → AreTasksOf p.plan tree wiring

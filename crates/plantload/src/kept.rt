@@ -1,4 +1,4 @@
-//! Loading a text whose variables begin with kept values.
+//! Loading a text that begins with kept values.
 
 ghost use Rattle.std.specs.Prelude.{◌≡◌, ℕ, List, IfErr, IfOk, Result};
 ghost use Rattle.wordlines.specs.Wirings.{Wiring};
@@ -15,7 +15,7 @@ use keeping::{Kept, LeftOut, first_values_of, left_out_of};
 use std::alloc::{AllocError, Global};
 use wordlines::Binding;
 
-/// The plan of a text whose variables begin with kept values, with the verified code of each of its
+/// The plan of a text that begins with kept values, with the verified code of each of its
 /// tasks; and the kept values that are left out, in their order.
 ///
 /// # Errors
@@ -45,7 +45,7 @@ pub fn load_kept(
     Ok(begin_kept(alloc, setup, kept)?)
 }
 
-/// A setup whose variables begin with kept values; and those of them that are left out, in their
+/// A setup that begins with kept values; and those of them that are left out, in their
 /// order. The codes are the same.
 ///
 /// # Errors
@@ -65,6 +65,6 @@ pub fn begin_kept(
     let mut begun = setup;
     let left_out = left_out_of(alloc, begun.plan(), kept)?;
     let values = first_values_of(alloc, begun.plan(), kept)?;
-    begun.begin_with(&values.globals, &values.slots);
+    begun.begin_with(&values.globals, &values.tasks);
     Ok((begun, left_out))
 }

@@ -108,7 +108,7 @@ pub fn request_has_its_priority<R: Read + Drop, W: Write + Drop>(
     bus.send(frame, 3)
 }
 
-/// `it_asks_again_after_nonsense`: the request was said twice.
+/// `it_asks_again_after_nonsense`, `a_frame_goes_out_twice`: the request was said twice.
 pub fn request_is_said_once<R: Read + Drop, W: Write + Drop>(
     bus: &mut LineBus<R, W>,
     frame: Frame,
@@ -117,6 +117,19 @@ pub fn request_is_said_once<R: Read + Drop, W: Write + Drop>(
     ensures { IsAtMost (send_line frame 3 ++ line_end) bus.old.written bus.new.written }
 {
     bus.send(frame, 3)
+}
+
+/// `it_speaks_on_after_nonsense`: a bus was in step after a request that was not answered as it
+/// should be.
+pub fn bus_is_in_step_where_it_was_answered<R: Read + Drop, W: Write + Drop>(
+    bus: &mut LineBus<R, W>,
+    frame: Frame,
+) -> bool
+    requires { 0 < bus.old.log.spare }
+    ensures { result ≡ true }
+{
+    let reply = bus.send(frame, 3);
+    reply.is_ok() == bus.is_in_step()
 }
 
 /// `nonsense_is_no_event`: a line that is no answer said that nothing had come.

@@ -1,12 +1,18 @@
 //! Files of kept values.
 
-ghost use Rattle.std.specs.Prelude.{◌≡◌, ◌≢◌, [], ◌∷◌, IfErr, IfOk, None, OnOk, Some, codes, pos, true};
-ghost use Rattle.ilplan.specs.Beginnings.{lists_of};
+ghost use Rattle.std.specs.Prelude.{◌≡◌, ◌≢◌, [], ◌∷◌, IfErr, IfOk, None, OnOk, Some, codes, map, pos};
+ghost use Rattle.std.specs.Prelude.{true};
+ghost use Rattle.ilblocks.specs.Calls.{at_first};
 ghost use Rattle.keeping.specs.Faults.{AreTorn};
+ghost use Rattle.keeping.specs.KeptBlocks.{block_entries, kept_block};
 ghost use Rattle.keeping.specs.KeptFiles.{entry_of};
-ghost use Rattle.keeping.specs.KeptPlans.{global_name, own_name};
+ghost use Rattle.keeping.specs.KeptPlans.{left_out_of};
+ghost use Rattle.keeping.specs.KeptValues.{global_name, own_name};
 
-use ilplan::{Global as GlobalVariable, Location, Plan, Slot, SlotOwner, Task};
+use ilblocks::BlockState;
+use ilplan::{
+    FunctionBlock, Global as GlobalVariable, Location, Plan, Slot, SlotOwner, Task, TaskState,
+};
 use ilsource::Name;
 use iltypes::{IlType, Value};
 use keeping::{
@@ -90,7 +96,7 @@ pub fn slot_of_a_global_variable_begins_as_that(
     requires kept { kept.now.values ≡ value.now ∷ [] }
     requires name { value.now.name ≡ global_name plan.now.text lamp }
     requires lit { value.now.value ≡ Value.Bool true }
-    ensures { IfOk result (λ begun. lists_of (λ values. values.items) begun.slots.items
+    ensures { IfOk result (λ begun. map (λ state. state.slots) begun.tasks.items
         ≡ (Value.Bool true ∷ []) ∷ []) }
 {
     first_values_of(alloc, plan, kept)
@@ -115,7 +121,7 @@ pub fn variable_of_an_instance_begins_as_kept(
     requires kept { kept.now.values ≡ value.now ∷ [] }
     requires name { value.now.name ≡ own_name plan.now.text instance name }
     requires lit { value.now.value ≡ Value.Bool true }
-    ensures { IfOk result (λ begun. lists_of (λ values. values.items) begun.slots.items
+    ensures { IfOk result (λ begun. map (λ state. state.slots) begun.tasks.items
         ≡ (Value.Bool true ∷ []) ∷ []) }
 {
     first_values_of(alloc, plan, kept)
@@ -128,17 +134,17 @@ pub fn count_is_kept(
     count: GlobalVariable,
     value: Value,
     globals: &[Value],
-    slots: &[Vec<Value>],
+    tasks: &[TaskState],
 ) -> Result<Vec<KeptValue>, AllocError>
     requires globals { plan.now.globals ≡ count ∷ [] }
     requires tasks { plan.now.tasks ≡ [] }
     requires location { count.location ≡ Some (Location.Count 0 0) }
     requires values { globals.now ≡ value ∷ [] }
-    requires slots { slots.now ≡ [] }
+    requires states { tasks.now ≡ [] }
     ensures { IfOk result (λ kept.
         kept.items ≡ entry_of (global_name plan.now.text count) value ∷ []) }
 {
-    kept_values(alloc, plan, globals, slots)
+    kept_values(alloc, plan, globals, tasks)
 }
 
 /// `kept_of_another_instance`: a variable of a program instance was kept under the variable's name
@@ -152,17 +158,89 @@ pub fn variable_of_an_instance_is_kept(
     name: Name,
     value: Value,
     globals: &[Value],
-    slots: &[Vec<Value>],
+    tasks: &[TaskState],
 ) -> Result<Vec<KeptValue>, AllocError>
     requires globals { (plan.now.globals ≡ []) × (globals.now ≡ []) }
     requires tasks { plan.now.tasks ≡ task.now ∷ [] }
     requires own { task.now.slots ≡ slot ∷ [] }
+    requires blocks { task.now.blocks ≡ [] }
     requires variable { slot.variable ≡ SlotOwner.Own instance name }
-    requires slots { lists_of (λ values. values.items) slots.now ≡ (value ∷ []) ∷ [] }
+    requires states { tasks.now ≡ record { slots = value ∷ []; blocks = [] } ∷ [] }
     ensures { IfOk result (λ kept.
         kept.items ≡ entry_of (own_name plan.now.text instance name) value ∷ []) }
 {
-    kept_values(alloc, plan, globals, slots)
+    kept_values(alloc, plan, globals, tasks)
+}
+
+/// `the_last_of_another_instance`, `begins_with_its_ports_alone`, `the_start_of_another_instance`: a
+/// block instance began with another state than all that was kept of it.
+pub fn instance_begins_as_kept(
+    alloc: Global,
+    plan: &Plan,
+    task: &Task,
+    block: FunctionBlock,
+    kept: &Kept,
+    state: &BlockState,
+) -> Result<FirstValues, AllocError>
+    requires tasks { plan.now.tasks ≡ task.now ∷ [] }
+    requires blocks { task.now.blocks ≡ block ∷ [] }
+    requires kept { kept_block plan.now kept.now.values block ≡ Some state.now }
+    ensures { IfOk result (λ begun. map (λ state. state.blocks) begun.tasks.items
+        ≡ (state.now ∷ []) ∷ []) }
+{
+    first_values_of(alloc, plan, kept)
+}
+
+/// `half_an_instance_begins`, `a_part_of_another_type`: a block instance, of which a part was not
+/// kept or is of another type, did not begin as before its first call.
+pub fn instance_without_a_part_begins_anew(
+    alloc: Global,
+    plan: &Plan,
+    task: &Task,
+    block: FunctionBlock,
+    kept: &Kept,
+) -> Result<FirstValues, AllocError>
+    requires tasks { plan.now.tasks ≡ task.now ∷ [] }
+    requires blocks { task.now.blocks ≡ block ∷ [] }
+    requires kept { kept_block plan.now kept.now.values block ≡ None }
+    ensures { IfOk result (λ begun. map (λ state. state.blocks) begun.tasks.items
+        ≡ (at_first block.kind ∷ []) ∷ []) }
+{
+    first_values_of(alloc, plan, kept)
+}
+
+/// `parts_that_begin_are_left_out`: what was kept of a block instance was reported, though it begins
+/// with it.
+pub fn parts_with_which_an_instance_begins_are_not_left_out(
+    alloc: Global,
+    plan: &Plan,
+    kept: &Kept,
+) -> Result<Vec<LeftOut>, AllocError>
+    requires { left_out_of kept.now.values plan.now ≡ [] }
+    ensures { IfOk result (λ left. left.items ≡ []) }
+{
+    left_out_of(alloc, plan, kept)
+}
+
+/// `the_start_is_not_kept`, `the_states_of_two_instances_exchanged`: what was kept of a block
+/// instance was another state.
+pub fn instance_is_kept(
+    alloc: Global,
+    plan: &Plan,
+    task: &Task,
+    block: FunctionBlock,
+    state: &BlockState,
+    globals: &[Value],
+    tasks: &[TaskState],
+) -> Result<Vec<KeptValue>, AllocError>
+    requires globals { (plan.now.globals ≡ []) × (globals.now ≡ []) }
+    requires tasks { plan.now.tasks ≡ task.now ∷ [] }
+    requires own { task.now.slots ≡ [] }
+    requires blocks { task.now.blocks ≡ block ∷ [] }
+    requires states { tasks.now ≡ record { slots = []; blocks = state.now ∷ [] } ∷ [] }
+    ensures { IfOk result (λ kept. kept.items ≡ block_entries plan.now.text block state.now) }
+{
+    kept_values(alloc, plan, globals, tasks)
 }
 
 /// `date_and_moment_exchanged`, `an_empty_file_has_no_values`, `the_sum_forgets_the_order`: the

@@ -14,6 +14,7 @@
 #![tactic(auto)]
 
 pub mod answering;
+pub mod controllers;
 pub mod ended;
 pub mod lines;
 pub mod lists;

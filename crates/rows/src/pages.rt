@@ -168,7 +168,7 @@ fn judge_changed<T: Threads + Wait + Timer + Sync, S: Site + Sync>(
 ) -> Result<(), RowsStop> {
     put_changed(judge, changed)?;
     run_words(judge, threads, site, changed.words.as_str())?;
-    expect(judge, Fit::Whole, changed.shown.as_bytes())
+    expect(judge, "-- stdout", changed.shown.as_bytes())
 }
 
 /// Runs a command, and says what it must show where that goes to no file.
@@ -182,7 +182,7 @@ fn judge_run<T: Threads + Wait + Timer + Sync, S: Site + Sync>(
     if run.is_kept {
         Ok(())
     } else {
-        expect(judge, run.fit, &run.shown)
+        expect(judge, heading_of(run.fit), &run.shown)
     }
 }
 
@@ -197,13 +197,18 @@ fn run_words<T: Threads + Wait + Timer + Sync, S: Site + Sync>(
     judge_lines(judge, threads, site, heading.as_str())
 }
 
-/// Says what the last command must have shown.
-fn expect(judge: &mut Judge, fit: Fit, shown: &[u8]) -> Result<(), RowsStop> {
-    judge.take_line(match fit {
+/// The line below which a page's lines stand that fit so.
+fn heading_of(fit: Fit) -> &'static str {
+    match fit {
         Fit::Whole => "-- shown",
         Fit::Like => "-- shown like",
         Fit::First => "-- shown first",
-    })?;
+    }
+}
+
+/// Says what the last command must have shown, or printed, by the line before that.
+fn expect(judge: &mut Judge, heading: &str, shown: &[u8]) -> Result<(), RowsStop> {
+    judge.take_line(heading)?;
     if let Ok(text) = str::from_utf8(shown) {
         for line in text.split('\n') {
             judge.take_line(line)?;

@@ -35,7 +35,7 @@ impl<'r, S: Site> Site for RowsSite<'r, S> {
 
     ghost is_of = { λ _ _ _ _. ⊤ };
 
-    ghost is_timed = { λ _ _ _ _ _. ⊤ };
+    ghost is_timed = { λ _ _ _ _ _ _. ⊤ };
 
     fn line<'a>(
         &self,
@@ -68,9 +68,10 @@ impl<'r, S: Site> Site for RowsSite<'r, S> {
         &self,
         alloc: Global,
         period: NonZeroU64,
+        begins: u64,
         end: End<'a>,
     ) -> Result<Self::Clock, SiteFault> {
-        self.host.clock(alloc, period, end)
+        self.host.clock(alloc, period, begins, end)
     }
 }
 

@@ -143,6 +143,7 @@ fn is_logged<R: Threads + Wait + Timer + Sync>(rt: &R, alloc: Global) -> Result<
         &BESIDE,
         HOUSE.setup(alloc)?,
         None,
+        0,
         WORKERS,
     ) else {
         return Err(Fail::new("the log isn't opened"));
@@ -174,7 +175,8 @@ fn have_pages<R: Threads + Wait + Timer + Sync>(
         told: Mutex::new(Vec::new(alloc)),
     };
     let setup = HOUSE.setup(alloc)?;
-    let Ok(observer) = BuildingObserver::open(rt, alloc, &held, &PAGES, setup, None, WORKERS) else {
+    let Ok(observer) = BuildingObserver::open(rt, alloc, &held, &PAGES, setup, None, 0, WORKERS)
+    else {
         return Err(Fail::new("the pages aren't opened"));
     };
     let mut place: u64 = 0;

@@ -282,7 +282,8 @@ fn outcome_of<R: Wait + Sync>(rt: &R, alloc: Global, row: &Row) -> Result<Outcom
         }),
     };
     let setup = HOUSE.setup(alloc)?;
-    let Ok(observer) = BuildingObserver::open(rt, alloc, &counting, &BESIDE, setup, None, 1) else {
+    let Ok(observer) = BuildingObserver::open(rt, alloc, &counting, &BESIDE, setup, None, 0, 1)
+    else {
         return Err(Fail::new("memory"));
     };
     for tick in 0..TICKS {

@@ -368,8 +368,8 @@ impl Judge {
     /// What a terminal shows of the last command.
     fn shown(&self) -> Result<Vec<u8>, RowsStop> {
         let output = &self.outcome()?.output;
-        let mut shown = Vec::from_slice(self.alloc, &output.complained)?;
-        shown.extend_from_slice(&output.printed)?;
+        let mut shown = Vec::from_slice(self.alloc, &output.printed)?;
+        shown.extend_from_slice(&output.complained)?;
         Ok(shown)
     }
 

@@ -85,6 +85,7 @@ pub(crate) fn run_named<
     ensures count { IfOk result (λ c. length c.buses.items ≡ vec_len lines) }
     ensures err { IfErr result (λ e. (e.plant ≡ plant) × (e.lines ≡ lines) × (e.clock ≡ clock)) }
 {
+    let is_first = plant.len() == 0;
     let run_parts = begin::<B, C, J, N>(alloc, plant, cells, new_tallies, lines, clock)?;
     let RunParts {
         shared,
@@ -102,6 +103,7 @@ pub(crate) fn run_named<
         },
         linked,
         thread_lists,
+        is_first,
     };
     let WorkResult { linked, ended } = work(rt, all_workers);
     let ended = end.cut_short().unwrap_or(ended);

@@ -1,6 +1,6 @@
 //! The loops of the workers, until the end is told.
 
-ghost use Rattle.std.specs.Prelude.{◌≡◌, IfErr, IfOk, OnErr, OnOk, Ok};
+ghost use Rattle.std.specs.Prelude.{◌≡◌, IfErr, IfOk, OnErr, OnOk, Ok, Some};
 ghost use Rattle.driving.specs.Links.{log_of};
 ghost use Rattle.turns.specs.Handouts.{AreFollowed};
 ghost use Rattle.turns.specs.Logs.{HasEnded, IsServed, IsTimed, IsWorker};
@@ -153,11 +153,96 @@ pub(crate) fn serve_tasks<'e, 'a, J: LockStart, T: Tally, K: Tallies<T>, G: Gate
     unreachable!()
 }
 
+/// Asks the clock once. Answers why it ended, where it gave no moment or no event more may be noted;
+/// then it tells the end. Where it answers `Asked`, the clock was asked here and came to its end.
+/// The gate is told of the moment.
+fn tick_turn<'a, C: Clock, J: LockStart + Links, T: Tally, K: Tallies<T>, G: Gate, R: Wait>(
+    rt: &R,
+    gate: &G,
+    shared: &Shared<'a, J, T, K>,
+    end: &End,
+    timed: &mut ClockWithShare<'a, C, J, T>,
+) -> Option<Ended>
+    requires timed { IsTimed J.clock timed.old.share (C.log timed.old.clock) }
+    ensures timed { IsTimed J.clock timed.new.share (C.log timed.new.clock) }
+    ensures asked { result ≡ Some Asked → HasEnded J.clock (C.log timed.new.clock) }
+{
+    let mut passing = Passing { gate };
+    match tick_once::<(), C, J, T, K, Passing<'_, G>, R>(rt, &mut passing, shared, timed) {
+        Ok(true) => None,
+        Ok(false) => {
+            let _told = end.tell(rt, Ended::Asked);
+            Some(Ended::Asked)
+        }
+        Err(halt) => {
+            let ended = Ended::from(halt);
+            let _told = end.tell(rt, ended);
+            Some(ended)
+        }
+    }
+}
+
+/// As [`tick_turn`], where nothing happened yet; else the clock is not asked.
+pub(crate) fn tick_first<
+    'a,
+    C: Clock,
+    J: LockStart + Links,
+    T: Tally,
+    K: Tallies<T>,
+    G: Gate,
+    R: Wait,
+>(
+    rt: &R,
+    gate: &G,
+    shared: &Shared<'a, J, T, K>,
+    end: &End,
+    is_first: bool,
+    timed: &mut ClockWithShare<'a, C, J, T>,
+) -> Option<Ended>
+    requires timed { IsTimed J.clock timed.old.share (C.log timed.old.clock) }
+    ensures timed { IsTimed J.clock timed.new.share (C.log timed.new.clock) }
+    ensures asked { result ≡ Some Asked → HasEnded J.clock (C.log timed.new.clock) }
+{
+    if is_first {
+        tick_turn(rt, gate, shared, end, timed)
+    } else {
+        None
+    }
+}
+
+/// As [`serve_clock`], unless the clock was asked already and that is why it ended.
+pub(crate) fn serve_on<
+    'a,
+    C: Clock,
+    J: LockStart + Links,
+    T: Tally,
+    K: Tallies<T>,
+    G: Gate,
+    R: Wait + Timer,
+>(
+    rt: &R,
+    gate: &G,
+    shared: &Shared<'a, J, T, K>,
+    end: &End,
+    over: Option<Ended>,
+    timed: &mut ClockWithShare<'a, C, J, T>,
+) -> Ended
+    requires timed { IsTimed J.clock timed.old.share (C.log timed.old.clock) }
+    requires over { over ≡ Some Asked → HasEnded J.clock (C.log timed.old.clock) }
+    ensures timed { IsTimed J.clock timed.new.share (C.log timed.new.clock) }
+    ensures asked { result ≡ Asked → HasEnded J.clock (C.log timed.new.clock) }
+{
+    match over {
+        Some(ended) => ended,
+        None => serve_clock(rt, gate, shared, end, timed),
+    }
+}
+
 /// Asks the clock until it gives no moment more, tells the end and answers why. Where another worker
 /// told an end, that is why. Where it answers `Asked`, the clock was asked here and came to its end.
 /// It is never idle, since each answer is a moment or the end: it sleeps the shortest time after
 /// each moment. The gate is told of each moment.
-pub(crate) fn serve_clock<
+fn serve_clock<
     'a,
     C: Clock,
     J: LockStart + Links,
@@ -176,22 +261,13 @@ pub(crate) fn serve_clock<
     ensures timed { IsTimed J.clock timed.new.share (C.log timed.new.clock) }
     ensures asked { result ≡ Asked → HasEnded J.clock (C.log timed.new.clock) }
 {
-    let mut passing = Passing { gate };
     for _ in rt.forever() {
         if let Some(ended) = end.cut_short() {
             return ended;
         }
-        match tick_once::<(), C, J, T, K, Passing<'_, G>, R>(rt, &mut passing, shared, timed) {
-            Ok(true) => Pause::new().wait(rt),
-            Ok(false) => {
-                let _told = end.tell(rt, Ended::Asked);
-                return Ended::Asked;
-            }
-            Err(halt) => {
-                let ended = Ended::from(halt);
-                let _told = end.tell(rt, ended);
-                return ended;
-            }
+        match tick_turn(rt, gate, shared, end, timed) {
+            None => Pause::new().wait(rt),
+            Some(ended) => return ended,
         }
     }
     unreachable!()

@@ -10,7 +10,7 @@ use crate::bus_threads::StartedBus;
 use crate::ended::Ended;
 use crate::linked_shares::LinkedShares;
 use crate::scan_threads::StartedScans;
-use crate::serving::serve_clock;
+use crate::serving::{serve_on, tick_first};
 use crate::worker_threads::{
     WorkerContext, finish_buses, finish_workers, start_buses, start_workers,
 };
@@ -47,6 +47,8 @@ pub(crate) struct AllWorkers<
     pub context: WorkerContext<'s, 'a, J, T, K, G>,
     pub linked: LinkedShares<'a, B, C, J, T>,
     pub thread_lists: ThreadLists<'a, B, J, T>,
+    /// Whether nothing happened yet.
+    pub is_first: bool,
 }
 
 /// What the workers leave: the Shares with their links, and why the worker of the clock ended.
@@ -80,7 +82,9 @@ impl<'a, B: Bus, J: LockStart + Links, T: Tally> ThreadLists<'a, B, J, T> {
     }
 }
 
-/// Starts all threads, asks the clock until it comes to its end, and waits for all threads.
+/// Starts all threads, asks the clock until it comes to its end, and waits for all threads. Where
+/// nothing happened yet, the clock is asked once before the scan workers begin: so no task is scanned
+/// before the first moment, and what a timer kept is not measured from 0.
 fn work_in<
     't,
     's,
@@ -115,14 +119,8 @@ where
         context,
         mut linked,
         mut thread_lists,
+        is_first,
     } = all_workers;
-    start_workers(
-        rt,
-        scope,
-        &context,
-        &mut linked.workers,
-        &mut thread_lists.workers,
-    );
     start_buses(
         rt,
         scope,
@@ -130,11 +128,27 @@ where
         &mut linked.buses,
         &mut thread_lists.buses,
     );
-    let ended = serve_clock(
+    let over = tick_first(
         rt,
         context.gate,
         context.shared,
         context.end,
+        is_first,
+        &mut linked.timed,
+    );
+    start_workers(
+        rt,
+        scope,
+        &context,
+        &mut linked.workers,
+        &mut thread_lists.workers,
+    );
+    let ended = serve_on(
+        rt,
+        context.gate,
+        context.shared,
+        context.end,
+        over,
         &mut linked.timed,
     );
     finish_workers(rt, &mut thread_lists.workers, &mut linked.workers);

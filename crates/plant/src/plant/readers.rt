@@ -3,12 +3,13 @@
 ghost use Rattle.std.specs.Prelude.{◌≡◌, ℕ, ◌+◌, ◌≤◌, ◌<◌, length, option_map, Some};
 ghost use Rattle.std.specs.Prelude.{IfOk, IfSome, option_and_then, slice_get};
 ghost use Rattle.limits.specs.Limits.{AreTries, most_total};
+ghost use Rattle.ilplan.specs.Beginnings.{HasEach};
 ghost use Rattle.ilimage.specs.Images.{Global as GlobalVariable, variable_in};
 ghost use Rattle.busqueue.specs.Queues.{class_number};
 ghost use Rattle.plantevents.specs.Plants.{activator, layout, tries_of};
 ghost use Rattle.plantevents.specs.Histories.{frames, hand, heards, is_down, scans};
 ghost use Rattle.plantevents.specs.Readiness.{lost};
-ghost use Rattle.plantevents.specs.Variables.{value};
+ghost use Rattle.plantevents.specs.Variables.{blocks, value};
 ghost use Rattle.plantevents.specs.Waiting.{dropped, waiting};
 ghost use Rattle.plantevents.specs.Legal.{AreLegal};
 ghost use Rattle.plant.specs.Shown.{is_full, is_reserved, kept, used};
@@ -16,6 +17,7 @@ ghost use Rattle.plant.specs.Shown.{is_full, is_reserved, kept, used};
 use super::Plant;
 use busqueue::Class;
 use ilcompile::Setup;
+use ilplan::TaskState;
 use ilrows::ValueRow;
 use iltypes::Value;
 use plantevents::Role;
@@ -127,24 +129,27 @@ impl Plant {
         self.image.value(global)
     }
 
-    /// The value of the variable in each slot of a task: what was written to it last, else its
-    /// initial value.
+    /// What lasts of a task: the value of the variable in each of its slots, which was written to it
+    /// last, else its initial value; and what each of its block instances keeps.
     ///
     /// # Errors
     ///
     /// The allocator is out of memory.
-    pub fn slot_values(&self, alloc: Global, task: usize) -> Result<Vec<Value>, AllocError>
+    pub fn task_state(&self, alloc: Global, task: usize) -> Result<TaskState, AllocError>
         requires { task < length self.now.plant.plan.tasks }
-        ensures each { IfOk result (λ values. IfSome (slice_get self.now.plant.plan.tasks task)
-            (λ t. length values.items ≡ length t.slots)) }
-        ensures values { IfOk result (λ values. (slot : ℕ) → slice_get values.items slot
+        ensures each { IfOk result (λ state. IfSome (slice_get self.now.plant.plan.tasks task)
+            (λ t. HasEach t state)) }
+        ensures values { IfOk result (λ state. (slot : ℕ) → slice_get state.slots slot
             ≡ option_and_then (λ v. value self.now.plant v self.now.history)
             (variable_in (layout self.now.plant) task slot)) }
+        ensures blocks { IfOk result (λ state.
+            blocks self.now.plant task self.now.history ≡ Some state.blocks) }
     {
         let _codes = self.setup.plan();
         let state = self.image.take(task, self.moment)?;
         let copies = state.copy_lasting()?;
-        row_values(alloc, &copies.0)
+        let values = row_values(alloc, &copies.0)?;
+        Ok(TaskState::new(values, copies.1))
     }
 
     /// How many requests of a class wait for a bus, at most 64.

@@ -1,10 +1,16 @@
+use Rattle.std.proofs.Common.{ℕ, subst}
+use Rattle.building.specs.Buildings.{IsOpened}
 use Rattle.commands.proofs.LivesOut.{lived_out}
 use Rattle.commands.proofs.living.live_with.Goals as goal
 
 pub returns-clause-lived : goal.returns-clause-lived
 returns-clause-lived g c =
     λ binding text file begun.
-    lived_out binding text file g.S.Line.Bus.log g.S.Clock.Clock.log (g.S.Site.is_of c.args.grounds.now.site.now)
-    (g.S.Site.is_timed c.args.grounds.now.site.now) c.args.lines.now c.args.options.now c.args.begun
+    let site = c.args.grounds.now.site.now in
+    let opened = subst (λ (begins : ℕ). IsOpened g.S.Line.Bus.log g.S.Clock.Clock.log (g.S.Site.is_of site)
+    (g.S.Site.is_timed site) c.args.begun.setup c.args.lines.now c.args.options.now begins c.in_ok-building.building)
+    c.begins.ensures.value c.in_ok-building.ensures.opened in
+    lived_out binding text file g.S.Line.Bus.log g.S.Clock.Clock.log (g.S.Site.is_of site)
+    (g.S.Site.is_timed site) c.args.lines.now c.args.options.now c.args.begun
     c.in_ok-building.building c.in_ok-lived.lived c.scans_are_as_meant.ensures c.kept_scans_are_as_meant.ensures begun
-    c.in_ok-building.ensures.opened c.in_ok-lived.ensures.lived
+    opened c.in_ok-lived.ensures.lived

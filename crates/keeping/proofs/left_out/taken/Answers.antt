@@ -1,4 +1,4 @@
-use Rattle.std.proofs.Common.{ℕ, List, ◌++◌, take, append_assoc, sym, ap, ◌∙◌}
+use Rattle.std.proofs.Common.{List, ◌++◌, take, append_assoc, sym, ap, ◌∙◌}
 use Rattle.std.specs.Prelude.{flat_map}
 use Rattle.keeping.specs.KeptFiles.{KeptEntry}
 use Rattle.keeping.specs.KeptPlans.{global_taken, task_taken}
@@ -9,12 +9,10 @@ pub loop-task-preserved : goal.loop-task-preserved
 loop-task-preserved c =
     let plan = c.args.plan.now in let kept = c.args.kept.now.values in let i = c.loop-task.task in
     let task = c.task.result.now in
-    let given = task_taken plan.text kept in
+    let given = task_taken plan kept in
     let globals = flat_map (global_taken plan.text kept) plan.globals in
     let before = flat_map given (take i plan.tasks) in
-    c.in_ok-take_slots.ensures
-    ∙ (ap (λ (l : List KeptEntry). l ++ task_taken c.text.result.now kept task) c.loop-task.invariant
-    ∙ (append_assoc globals before (task_taken c.text.result.now kept task)
-    ∙ ap (λ (l : List KeptEntry). globals ++ l)
-    (ap (λ (text : List ℕ). before ++ task_taken text kept task) c.text.ensures.value
-    ∙ sym (flat_at given plan.tasks i task c.task.ensures.value))))
+    c.in_ok-take_task.ensures
+    ∙ (ap (λ (l : List KeptEntry). l ++ task_taken plan kept task) c.loop-task.invariant
+    ∙ (append_assoc globals before (task_taken plan kept task)
+    ∙ ap (λ (l : List KeptEntry). globals ++ l) (sym (flat_at given plan.tasks i task c.task.ensures.value))))

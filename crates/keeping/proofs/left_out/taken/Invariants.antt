@@ -7,4 +7,4 @@ abbrev pub invariant-loop-task : goal.invariant-loop-task
 invariant-loop-task l =
     l.taken.items
     ≡ flat_map (global_taken l.plan.text l.kept.values) l.plan.globals
-    ++ flat_map (task_taken l.plan.text l.kept.values) (take l.task l.plan.tasks)
+    ++ flat_map (task_taken l.plan l.kept.values) (take l.task l.plan.tasks)

@@ -1,6 +1,6 @@
 use Rattle.std.proofs.Common.{ap, subst}
 use Rattle.ilplan.specs.Plans.{Planned, IsLawful}
-use Rattle.ilplan.proofs.Declared.{firsts_typed, task_limits, task_of_plan, task_there}
+use Rattle.ilplan.proofs.Declared.{firsts_typed, task_limits, task_of_plan, task_states, task_there}
 use Rattle.ilplan.proofs.plan.Plan.task.Goals as goal
 
 pub returns-clause-value : goal.returns-clause-value
@@ -18,6 +18,11 @@ pub returns-clause-limits : goal.returns-clause-limits
 returns-clause-limits c =
     let lawful = subst (λ (p : Planned). IsLawful p) c.self.view_is c.self.invariant in
     task_limits c.args.self.now c.args.task c.index.result.now lawful (returns-clause-value c)
+
+pub returns-clause-states : goal.returns-clause-states
+returns-clause-states c =
+    let lawful = subst (λ (p : Planned). IsLawful p) c.self.view_is c.self.invariant in
+    task_states c.args.self.now c.args.task c.index.result.now lawful (returns-clause-value c)
 
 pub returns-clause-typed : goal.returns-clause-typed
 returns-clause-typed c =

@@ -1,0 +1,9 @@
+//! Controllers that nobody observes.
+
+use driving::Observer;
+
+/// Hears of each event, and does nothing.
+#[derive(Clone, Copy)]
+pub struct Unobserved;
+
+impl<B> Observer<B> for Unobserved {}

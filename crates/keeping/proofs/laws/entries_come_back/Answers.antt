@@ -1,0 +1,5 @@
+use Rattle.keeping.proofs.ComesBack.{entries_back}
+use Rattle.keeping.proofs.laws.entries_come_back.Goals as goal
+
+pub returns : goal.returns
+returns c = entries_back
