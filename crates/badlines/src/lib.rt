@@ -5,15 +5,15 @@
 //! the code it is proved that it is safe and ends.
 //!
 //! ```text
-//! let bad = binding_fault(alloc, bytes, 3, LineCause::BadLine)?; // two blanks, at column 7
+//! // two blanks, at column 7
+//! let bad = bad_line(alloc, LineFile::Binding, bytes, 3, LineCause::BadLine)?;
 //! ```
 #![tactic(auto)]
 
-mod bad_binding;
-mod bad_lines;
-mod bad_scenario;
 mod forms;
+mod lines;
+mod order;
+mod reason;
+mod words;
 
-pub use bad_binding::binding_fault;
-pub use bad_lines::BadLine;
-pub use bad_scenario::scenario_fault;
+pub use lines::{BadLine, LineFile, bad_line};

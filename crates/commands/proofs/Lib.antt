@@ -1,4 +1,5 @@
 mod FileFronts
+mod KeptNotes
 mod LivesOut
 mod MeantOut
 mod PlaysOut

@@ -1,15 +1,20 @@
--- What a building begins with: the text's setup, or the one that begins with the values that were kept (profile).
+-- What a building begins with: the text's setup, or the one that begins with the values that were kept; and what is said of
+-- their file (profile).
 use Rattle.std.specs.Prelude.{◌≡◌, ◌≢◌, ℕ, List, Option, Some, None, option_and_then, option_map, unwrap_or, ⊤}
 use Rattle.wordlines.specs.Wirings.{Wiring}
 use Rattle.ilsource.specs.SourceTrees.{Tree}
 use Rattle.ilcompile.specs.Loaded.{Loaded}
+use Rattle.ilplan.specs.Plans.{Planned}
 use Rattle.keeping.specs.KeptFiles.{IsKeptFile, KeptState}
+use Rattle.keeping.specs.KeptPlans.{left_out_of}
 use Rattle.keeping.specs.Faults.{IsKeptFault}
 use Rattle.keeping.specs.declared.fault.KeptFault.{KeptFault}
 use Rattle.plantload.specs.Loading.{IsSetup}
 use Rattle.plantload.specs.KeptLoading.{IsKeptSetup}
 use Rattle.answers.specs.Connected.{IsConnected}
 use Rattle.commands.specs.declared.beginning.Beginning.{Beginning}
+use Rattle.commands.specs.declared.beginning.KeptNote.{KeptNote}
+use Rattle.commands.specs.declared.beginning.KeptNote.TheVariants.{NoFile, Unused, Used}
 use Rattle.commands.specs.declared.reading.DiskFault.{DiskFault}
 use Rattle.commands.specs.declared.reading.DiskFault.TheVariants.{Absent}
 use Rattle.commands.specs.declared.serving.Unserved.{Unserved}
@@ -46,6 +51,43 @@ AreUsed file (Some kept) = IsFileOf file kept
 AreUsed None None = ⊤
 AreUsed (Some bytes) None = IsUnusable bytes
 
+-- ---- what is said of the file
+
+-- it is not used, for what is wrong with its bytes
+abbrev pub IsNotedUnused : List ℕ → KeptNote → Type 0
+IsNotedUnused bytes NoFile = ⊥
+IsNotedUnused bytes (Unused fault) = IsKeptFault bytes fault
+IsNotedUnused bytes (Used at left_out) = ⊥
+
+-- its values are used: when they were kept, and those of them with which nothing of the text's own plan begins
+abbrev pub IsNotedUsed : KeptState → Planned → KeptNote → Type 0
+IsNotedUsed kept own NoFile = ⊥
+IsNotedUsed kept own (Unused fault) = ⊥
+IsNotedUsed kept own (Used at left_out) = (at ≡ kept.at) × (left_out.items ≡ left_out_of kept.values own)
+
+-- That there is no file is said exactly where there is none; that it is not used, exactly where its bytes are no file of
+-- values; and that its values are used, exactly where they are one and are used.
+abbrev pub IsNoted : Option (List ℕ) → Option KeptState → Planned → KeptNote → Type 0
+IsNoted None None own note = note ≡ NoFile
+IsNoted None (Some kept) own note = ⊥
+IsNoted (Some bytes) None own note = IsNotedUnused bytes note
+IsNoted (Some bytes) (Some kept) own note = IsKeptFile bytes kept × IsNotedUsed kept own note
+
+-- this is said of the file, where the text under the binding has a setup of its own
+abbrev pub IsNotedUnder : List ℕ → List ℕ → Option (List ℕ) → Option KeptState → KeptNote → Type 0
+IsNotedUnder binding text file kept note =
+    (own : Loaded) × IsBegunUnder binding text None own × IsNoted file kept own.plan note
+
+-- so it is, whichever values are used
+abbrev pub IsNoteOf : List ℕ → List ℕ → Option (List ℕ) → KeptNote → Type 0
+IsNoteOf binding text file note = (kept : Option KeptState) × IsNotedUnder binding text file kept note
+
+-- that is told
+abbrev pub IsNoteTold : (KeptNote → Type 0) → List ℕ → List ℕ → Option (List ℕ) → Type 0
+IsNoteTold is_told binding text file = (note : KeptNote) × IsNoteOf binding text file note × is_told note
+
+-- ---- the clock, and the disk
+
 -- the moment at which the clock of a building begins: that of the last tick before its values were kept, where their file
 -- says it, else 0
 abbrev pub begins_at : Option KeptState → ℕ
@@ -78,3 +120,4 @@ pub record LiveBytes : Type 0 where
 pub record HasBegun (binding text : List ℕ) (file : Option (List ℕ)) (begun : Beginning) : Type 0 where
   pub used : AreUsed file begun.kept
   pub loaded : IsBegunUnder binding text begun.kept begun.setup
+  pub noted : IsNotedUnder binding text file begun.kept begun.note

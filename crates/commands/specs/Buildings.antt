@@ -25,7 +25,8 @@ use Rattle.commands.specs.declared.living.Halted.TheVariants as halts
 use Rattle.commands.specs.declared.reading.DiskFault.{DiskFault}
 use Rattle.commands.specs.declared.serving.Unserved.{Unserved}
 use Rattle.commands.specs.declared.serving.Unserved.TheVariants.{NotRead, NotWritten, NotPrinted}
-use Rattle.commands.specs.Beginnings.{begins_at, AreUsed, IsBegunUnder, IsKeepRead, IsKeepWithheld, tree_of}
+use Rattle.commands.specs.declared.beginning.KeptNote.{KeptNote}
+use Rattle.commands.specs.Beginnings.{begins_at, AreUsed, IsBegunUnder, IsKeepRead, IsKeepWithheld, IsNoteTold, tree_of}
 use Rattle.commands.specs.Plays.{IsStopUnder}
 
 -- which line of a word a bus is behind, with so many milliseconds of patience, as a site says it
@@ -89,6 +90,13 @@ abbrev pub IsCutWhereAsked : {B C : Type 0} → Bool → LiveEnd B C → Type 0
 IsCutWhereAsked asked (Ok left) = left.is_cut ≡ true → asked ≡ true
 IsCutWhereAsked asked (Err halted) = ⊤
 
+-- where it ran, or something stands against its lines, its clock or its plant, what became of the file of kept values is
+-- told before
+abbrev pub IsToldWhereBegun : {B C : Type 0} → (KeptNote → Type 0) → List ℕ → List ℕ → Option (List ℕ) → LiveEnd B C → Type 0
+IsToldWhereBegun is_told binding text file (Ok left) = IsNoteTold is_told binding text file
+IsToldWhereBegun is_told binding text file (Err (halts.Building stop)) = IsNoteTold is_told binding text file
+IsToldWhereBegun is_told binding text file (Err (halts.Text stop)) = ⊤
+
 -- the exit status by what it leaves: it failed where it ended since a bus went down; else it is that of a run, by
 -- whether a bus is down at the end
 abbrev pub status_of_left : {B C : Type 0} → LiveLeft B C → ExitStatus
@@ -107,10 +115,10 @@ status_of_live_end (Ok left) = status_of_left left
 status_of_live_end (Err (halts.Text stop)) = status_of_stop stop
 status_of_live_end (Err (halts.Building stop)) = status_of_live_stop stop
 
--- it comes to this by what the disk gave for the two files, and for that of kept values where one is named; of what is
--- printed or written nothing is said
+-- it comes to this by what the disk gave for the two files, and for that of kept values where one is named, and what
+-- became of that is told; of what is printed or written nothing else is said
 pub record IsLiveServed {B C : Type 0} (gives : List ℕ → List ℕ → Type 0) (fails : List ℕ → DiskFault → Type 0)
-    (bus_log : B → BusLog) (clock_log : C → ClockLog) (is_of : OfLine B) (is_timed : TimedAs C) (files : LiveFiles)
+    (is_told : KeptNote → Type 0) (bus_log : B → BusLog) (clock_log : C → ClockLog) (is_of : OfLine B) (is_timed : TimedAs C) (files : LiveFiles)
     (words : List LineWord) (options : LiveOptions) (came_to : LiveEnd B C) : Type 0 where
   pub binding : List ℕ
   pub text : List ℕ
@@ -120,6 +128,7 @@ pub record IsLiveServed {B C : Type 0} (gives : List ℕ → List ℕ → Type 0
   pub file_read : IsKeepRead gives fails (option_map (λ path. path.now) options.beside.keep) file
   pub end : IsLiveEnd binding text file bus_log clock_log is_of is_timed words options came_to
   pub cut : IsCutWhereAsked options.ends_on_down came_to
+  pub told : IsToldWhereBegun is_told binding text file came_to
 
 -- the binding isn't read; or it is, and the text isn't; or both are, and the file of kept values is there and isn't
 -- read

@@ -2,8 +2,8 @@
 
 ghost use Rattle.std.specs.Prelude.{◌≡◌, ℕ, List, Some, None, IfErr, IfOk, option_map};
 ghost use Rattle.commands.specs.Plays.{IsSetupUnder, IsStopUnder};
-ghost use Rattle.commands.specs.Beginnings.{AreUsed, IsBegunUnder, IsKeepRead};
-ghost use Rattle.commands.specs.Beginnings.{IsKeepUnread};
+ghost use Rattle.commands.specs.Beginnings.{AreUsed, IsBegunUnder, IsKeepRead, IsKeepUnread};
+ghost use Rattle.commands.specs.Beginnings.{IsNotedUnder, IsNotedUsed};
 
 use crate::pages::setup_of;
 use crate::reading::{Disk, DiskFault};
@@ -61,11 +61,10 @@ impl fmt::Display for KeptNote {
             KeptNote::NoFile => Ok(()),
             KeptNote::Unused(fault) => writeln!(f, "kept values not used: {fault}"),
             KeptNote::Used(at, left_out) => {
-                write!(f, "kept values used")?;
-                if let Some(at) = at {
-                    write!(f, ", of {}", date_of(*at))?;
+                match at {
+                    Some(at) => writeln!(f, "kept values used, of {}", date_of(*at))?,
+                    None => writeln!(f, "kept values used")?,
                 }
-                writeln!(f)?;
                 for left in left_out {
                     writeln!(f, "{left}")?;
                 }
@@ -132,6 +131,8 @@ pub(crate) fn beginning_of(
     ensures begun { IfOk result (λ b. IsBegunUnder binding.now text.now b.kept b.setup) }
     ensures used { IfOk result (λ b.
         AreUsed (option_map (λ bytes. bytes.now.items) file.entry) b.kept) }
+    ensures noted { IfOk result (λ b. IsNotedUnder binding.now text.now
+        (option_map (λ bytes. bytes.now.items) file.entry) b.kept b.note) }
     ensures stop { IfErr result (IsStopUnder binding.now text.now) }
 {
     let setup = setup_of(alloc, binding, text)?;
@@ -154,6 +155,7 @@ pub(crate) fn beginning_of(
 fn without(setup: Setup, note: KeptNote) -> Beginning
     ensures setup { result.setup ≡ setup }
     ensures kept { result.kept ≡ None }
+    ensures note { result.note ≡ note }
 {
     Beginning {
         setup,
@@ -171,6 +173,7 @@ fn begun_with(alloc: Global, setup: Setup, kept: Kept) -> Result<Beginning, Allo
     ensures begun { IfOk result (λ b. (binding text : List ℕ) → IsSetupUnder binding text setup
         → IsBegunUnder binding text b.kept b.setup) }
     ensures kept { IfOk result (λ b. b.kept ≡ Some kept) }
+    ensures noted { IfOk result (λ b. IsNotedUsed kept setup.plan b.note) }
 {
     let (setup, left_out) = begin_kept(alloc, setup, &kept)?;
     let note = KeptNote::Used(kept.at(), left_out);

@@ -4,8 +4,8 @@ ghost use Rattle.std.specs.Prelude.{◌≡◌, ℕ, List, Option, IfErr, IfOk, o
 ghost use Rattle.commands.specs.Plays.{IsStopUnder};
 ghost use Rattle.commands.specs.Beginnings.{HasBegun};
 ghost use Rattle.commands.specs.Buildings.{IsCutWhereAsked, IsHalted, IsLiveEnd, IsLiveServed};
-ghost use Rattle.commands.specs.Buildings.{IsLiveUnread, IsLivedOut, IsUnobserved};
-ghost use Rattle.commands.specs.Buildings.{status_of_live_end};
+ghost use Rattle.commands.specs.Buildings.{IsLiveUnread, IsLivedOut, IsToldWhereBegun};
+ghost use Rattle.commands.specs.Buildings.{IsUnobserved, status_of_live_end};
 
 use crate::beginning::{Beginning, KeptNote, beginning_of, kept_at};
 use crate::live_status::status_of_live_stop;
@@ -67,12 +67,18 @@ pub type LiveEnd<'a, B, C> = Result<LiveLeft<B, C>, Halted<'a>>;
 /// Who is told what is about to run, and why a building doesn't run. Whether it can be told changes
 /// nothing.
 pub trait Notice {
+    ghost use Rattle.commands.specs.declared.beginning.KeptNote.{KeptNote};
+
+    // This is told of the file of kept values, or could not be told.
+    ghost is_told: { Self → KeptNote → Type 0 };
+
     /// This became of the file of kept values.
     ///
     /// # Errors
     ///
     /// It can't be told.
-    fn begins(&self, note: &KeptNote) -> io::Result<()>;
+    fn begins(&self, note: &KeptNote) -> io::Result<()>
+        ensures { is_told self.now note.now };
 
     /// This is about to run.
     ///
@@ -122,8 +128,8 @@ pub fn serve_live<
     options: &LiveOptions<'a>,
 ) -> Result<(W, LiveEnd<'a, S::Line, S::Clock>), Unserved<'a>>
     ensures live { IfOk result (λ done. IsLiveServed (D.gives disk.now) (D.fails disk.now)
-        S.Line.log S.Clock.log (S.is_of grounds.now.site.now) (S.is_timed grounds.now.site.now)
-        files.entry lines.now options.now done.1) }
+        (N.is_told grounds.now.notice.now) S.Line.log S.Clock.log (S.is_of grounds.now.site.now)
+        (S.is_timed grounds.now.site.now) files.entry lines.now options.now done.1) }
     ensures unread { IfErr result (IsLiveUnread (D.gives disk.now) (D.fails disk.now) files.entry
         (option_map (λ path. path.now) options.now.beside.keep)) }
 {
@@ -177,6 +183,8 @@ fn print<
         S.Line.log S.Clock.log (S.is_of grounds.now.site.now) (S.is_timed grounds.now.site.now)
         lines.now options.now done.1) }
     ensures cut { IfOk result (λ done. IsCutWhereAsked options.now.ends_on_down done.1) }
+    ensures told { IfOk result (λ done. IsToldWhereBegun (N.is_told grounds.now.notice.now)
+        pages.now.binding pages.now.text pages.now.file done.1) }
 {
     let mut out = BufWriter::new(alloc, to)?;
     let end = live_on(rt, alloc, grounds, pages, lines, options);
@@ -229,6 +237,8 @@ fn live_on<'a, S: Site + Storage + Sync, N: Notice, R: Threads + Wait + Timer + 
         pages.now.file S.Line.log S.Clock.log (S.is_of grounds.now.site.now)
         (S.is_timed grounds.now.site.now) lines.now options.now left.lived) }
     ensures cut { IsCutWhereAsked options.now.ends_on_down result }
+    ensures told { IsToldWhereBegun (N.is_told grounds.now.notice.now) pages.now.binding
+        pages.now.text pages.now.file result }
     ensures halted { IfErr result (IsHalted pages.now.binding pages.now.text pages.now.file
         lines.now options.now.size) }
 {

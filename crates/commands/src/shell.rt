@@ -249,6 +249,10 @@ pub(crate) struct HostNotice<'a, R> {
 }
 
 impl<R: Eprint> Notice for HostNotice<'_, R> {
+    ghost use Rattle.std.specs.Prelude.{⊤};
+
+    ghost is_told = { λ _ _. ⊤ };
+
     fn departs<B: Bus, C: Clock>(&self, departure: &Departure<B, C>) -> io::Result<()> {
         eprint!(self.rt; "{departure}")
     }

@@ -1,1 +1,2 @@
 pub mod LeavingOut
+pub mod Trying

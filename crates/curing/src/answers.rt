@@ -1,10 +1,32 @@
-//! What is said of a fault.
+//! What is asked about, and what is said of a fault.
 
-use crate::advice::Advice;
 use crate::edits::{Edit, TriedLines};
 use std::alloc::{AllocError, Global};
 use std::io;
 use std::io::Write;
+use wordlines::Binding;
+
+/// A text that is asked about, with the binding that it is loaded with.
+#[derive(Clone, Copy)]
+pub struct AskedText<'a> {
+    /// The path of the text, as it was given.
+    pub path: &'a str,
+    pub text: &'a [u8],
+    pub binding: &'a Binding,
+    /// Whether the binding was given, or is that of one bus, of which nothing else is said.
+    pub is_bound: bool,
+}
+
+/// What a cause means, and what helps.
+#[derive(Clone, Copy)]
+pub struct Advice {
+    /// What is wrong.
+    pub what: &'static str,
+    /// What helps, in lines of some 72 characters.
+    pub cure: &'static str,
+    /// A line, or lines, of another text.
+    pub line: &'static str,
+}
 
 /// What is said of a fault.
 #[derive(Drop)]
@@ -47,43 +69,33 @@ impl FaultAnswer {
         text: &[u8],
         edit: &Edit,
     ) -> Result<FaultAnswer, AllocError> {
-        Ok(FaultAnswer {
-            what: self.what,
-            facts: self.facts,
-            cure: self.cure,
-            example: Example::TriedLines(edit.lines(alloc, text)?),
-        })
+        let mut answer = self;
+        answer.example = Example::TriedLines(edit.lines(alloc, text)?);
+        Ok(answer)
     }
 
     /// The same, with more that is known.
     pub fn with_facts(self, facts: String) -> FaultAnswer {
-        FaultAnswer {
-            what: self.what,
-            facts,
-            cure: self.cure,
-            example: self.example,
-        }
+        let mut answer = self;
+        answer.facts = facts;
+        answer
     }
 }
 
 /// Writes what is known, what helps, and the lines, of a fault on this line.
 pub fn write_answer<W: Write>(out: &mut W, answer: &FaultAnswer, line: usize) -> io::Result<()> {
     write!(out, "{}", answer.facts.as_str())?;
-    write_cure(out, answer.cure.as_str())?;
+    write_lines(out, ["cure: ", "      "], answer.cure.as_str())?;
+    let lines = match &answer.example {
+        Example::Tried(lines) | Example::Other(lines) => lines.as_str(),
+        Example::TriedLines(tried) => tried.with.as_str(),
+    };
     match &answer.example {
-        Example::Tried(lines) => {
-            writeln!(out, "as it could read:")?;
-            write_lines(out, lines.as_str())
-        }
-        Example::TriedLines(tried) => {
-            write_title(out, tried, line)?;
-            write_lines(out, tried.with.as_str())
-        }
-        Example::Other(lines) => {
-            writeln!(out, "for example:")?;
-            write_lines(out, lines.as_str())
-        }
+        Example::Other(_) => writeln!(out, "for example:")?,
+        Example::TriedLines(tried) => write_title(out, tried, line)?,
+        Example::Tried(_) => writeln!(out, "as it could read:")?,
     }
+    write_lines(out, ["    "; 2], lines)
 }
 
 /// Writes which lines could read as it was tried, unless they are the one at fault alone.
@@ -98,24 +110,12 @@ fn write_title<W: Write>(out: &mut W, tried: &TriedLines, line: usize) -> io::Re
     }
 }
 
-/// Writes lines of a text, set in.
-fn write_lines<W: Write>(out: &mut W, lines: &str) -> io::Result<()> {
-    for line in lines.split('\n') {
-        writeln!(out, "    {line}")?;
-    }
-    Ok(())
-}
-
-/// Writes what helps, line by line.
-fn write_cure<W: Write>(out: &mut W, cure: &str) -> io::Result<()> {
-    let mut is_first = true;
-    for line in cure.split('\n') {
-        if is_first {
-            writeln!(out, "cure: {line}")?;
-        } else {
-            writeln!(out, "      {line}")?;
-        }
-        is_first = false;
+/// Writes the lines of a text: the first with one front, the others with another.
+fn write_lines<W: Write>(out: &mut W, fronts: [&str; 2], text: &str) -> io::Result<()> {
+    let [first, next] = fronts;
+    for (index, line) in text.split('\n').enumerate() {
+        let front = if index == 0 { first } else { next };
+        writeln!(out, "{front}{line}")?;
     }
     Ok(())
 }

@@ -1,11 +1,12 @@
 //! Changes of a text that may cure it, and trying them.
 
-ghost use Rattle.std.specs.Prelude.{IfOk};
+ghost use Rattle.std.specs.Prelude.{◌≡◌, IfOk};
 ghost use Rattle.curing.specs.LeavingOut.{IsEdit};
+ghost use Rattle.curing.specs.Trying.{IsTried, changed_part};
 
-use crate::asked::AskedText;
+use crate::answers::AskedText;
 use crate::marking::{line_number, shown_text};
-use crate::spots::{Spot, part, place_of};
+use crate::spots::{Spot, content_len, part, place_of};
 use ilscope::NameFault;
 use iltext::{TextFault, parse};
 use plantload::{LoadFault, load};
@@ -38,7 +39,9 @@ impl Edit {
         text: &[u8],
         from: usize,
         to: usize,
-    ) -> Result<Vec<u8>, AllocError> {
+    ) -> Result<Vec<u8>, AllocError>
+        ensures { IfOk result (λ bytes. bytes.items ≡ changed_part self.now text.now from to) }
+    {
         let mut bytes = Vec::from_slice(alloc, part(text, from, self.from))?;
         bytes.extend_from_slice(&self.with)?;
         bytes.extend_from_slice(part(text, self.to, to))?;
@@ -74,15 +77,13 @@ impl Edit {
         };
         let mut bytes = self.apply(alloc, spot.text, start, to)?;
         bytes.push(b'\n')?;
-        match parse(alloc, &bytes) {
-            Ok(_) => Ok(true),
-            Err(TextFault::Memory) => Err(AllocError),
-            Err(TextFault::At { line, col, .. }) => Ok(place_of(&bytes, line, col) >= bytes.len()),
-        }
+        Ok(read_to(alloc, &bytes)? >= bytes.len())
     }
 
     /// What stands against the whole text with the change.
-    pub fn outcome(&self, alloc: Global, asked: &AskedText) -> Result<EditOutcome, AllocError> {
+    pub fn outcome(&self, alloc: Global, asked: &AskedText) -> Result<EditOutcome, AllocError>
+        ensures { IfOk result (IsTried asked.now.binding.now asked.now.text.now self.now) }
+    {
         let bytes = self.apply(alloc, asked.text, 0, asked.text.len())?;
         let first = Spot::of(&bytes, self.from);
         let last = Spot::of(&bytes, self.from.saturating_add(self.with.len()));
@@ -105,15 +106,13 @@ impl Edit {
     }
 }
 
-/// How many bytes there are up to the last one that is no blank.
-pub fn content_len(bytes: &[u8]) -> usize {
-    let mut len: usize = 0;
-    for (index, byte) in bytes.iter().enumerate() {
-        if *byte != b' ' && *byte != b'\t' {
-            len = index.saturating_add(1);
-        }
+/// Up to where a text reads: where its first fault stands, or behind all where it has none.
+pub(crate) fn read_to(alloc: Global, bytes: &[u8]) -> Result<usize, AllocError> {
+    match parse(alloc, bytes) {
+        Ok(_) => Ok(usize::MAX),
+        Err(TextFault::Memory) => Err(AllocError),
+        Err(TextFault::At { line, col, .. }) => Ok(place_of(bytes, line, col)),
     }
-    len
 }
 
 /// Lines of a text, and what could stand in their place.

@@ -3,7 +3,8 @@
 //! What crosses the boundary: a [`Spot`], what stands at a place and around it; [`Surroundings`],
 //! what is open there; [`Possible`], what could stand there, for which the parser is asked; an
 //! [`Edit`], a change, with its [`EditOutcome`] where it is tried; and a [`FaultAnswer`], what is
-//! said of a fault, whose lines were tried or are of another text. [`left_out`] and
+//! said of a fault, whose lines were tried or are of another text. [`Edit::outcome`] says that a
+//! change is accepted exactly where the text with it is (`IsTried`). [`left_out`] and
 //! [`in_place_of_sign`] take away signs that stand for nothing, and nothing else (`LeavesOut`,
 //! `ReplacesSign`). What is printed is fixed by worked rows (crates/rows); of the rest of the code
 //! it is proved that it is safe and ends.
@@ -15,9 +16,7 @@
 //! ```
 #![tactic(auto)]
 
-mod advice;
 mod answers;
-mod asked;
 mod edits;
 mod leaving_out;
 mod marking;
@@ -27,16 +26,14 @@ mod spots;
 mod surroundings;
 mod words;
 
-pub use advice::Advice;
-pub use answers::{Example, FaultAnswer, write_answer};
-pub use asked::AskedText;
-pub use edits::{Edit, EditOutcome, TriedLines, content_len};
+pub use answers::{Advice, AskedText, Example, FaultAnswer, write_answer};
+pub use edits::{Edit, EditOutcome, TriedLines};
 pub use leaving_out::{in_place_of_sign, left_out};
 pub use marking::{
     first_column, line_number, line_of, shown_text, write_found, write_line, write_place,
 };
 pub use nearest::{is_near, near_word};
 pub use possible::{Possible, list_words};
-pub use spots::{Spot, part, place_of};
+pub use spots::{Spot, content_len, part, place_of};
 pub use surroundings::{OpenConstruct, Surroundings};
-pub use words::{Group, SIGNS, sign_name};
+pub use words::{Group, INTEGERS, is_one_of, sign_name};

@@ -67,45 +67,31 @@ fn near_among(
     found: &[u8],
     is_instruction: bool,
 ) -> Option<&'static str> {
-    let mut nearest = None;
     for words in lists {
         for word in *words {
-            let bytes = word.as_bytes();
-            let is_kept = !is_instruction || is_alike(bytes, found);
-            if nearest.is_none() && is_kept && is_near(found, bytes) {
-                nearest = Some(*word);
+            let is_kept = !is_instruction || is_alike(word.as_bytes(), found);
+            if is_kept && is_near(found, word.as_bytes()) {
+                return Some(*word);
             }
         }
     }
-    nearest
+    None
 }
 
 /// Whether an instruction and another word begin with the same letter, and both have an N at the end,
 /// or as many letters C and N. In a conversion, which has a `_`, these change nothing.
 fn is_alike(instruction: &[u8], other: &[u8]) -> bool {
-    common(instruction, other) > 0
-        && (instruction.iter().any(|byte| *byte == b'_') || is_kept(instruction, other))
-}
-
-/// Whether two instructions are both conditional or neither is, and both turned round or neither.
-fn is_kept(one: &[u8], other: &[u8]) -> bool {
-    let is_turned_too = is_turned(one) && is_turned(other);
-    is_turned_too
-        || count(one, b'C') == count(other, b'C') && count(one, b'N') == count(other, b'N')
+    let is_begun = common(instruction, other) > 0;
+    let is_turned = |word: &[u8]| matches!(word, [.., b'n' | b'N']);
+    let is_counted = |letter: u8| count(instruction, letter) == count(other, letter);
+    let is_kept = is_turned(instruction) && is_turned(other)
+        || is_counted(b'C') && is_counted(b'N');
+    is_begun && (instruction.contains(&b'_') || is_kept)
 }
 
 /// How often a word has a letter, letter case aside.
 fn count(word: &[u8], letter: u8) -> usize {
-    let mut found: usize = 0;
-    for byte in word {
-        if byte.eq_ignore_ascii_case(&letter) {
-            found = found.saturating_add(1);
-        }
-    }
-    found
-}
-
-/// Whether a word has an N at its end.
-fn is_turned(word: &[u8]) -> bool {
-    matches!(word, [.., b'n' | b'N'])
+    word.iter()
+        .filter(|byte| byte.eq_ignore_ascii_case(&letter))
+        .count()
 }

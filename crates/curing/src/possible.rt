@@ -1,8 +1,9 @@
 //! What could stand at a place of a text: the parser is asked for each word.
 
-use crate::spots::{part, place_of};
-use crate::words::{ASKED, Group, GroupWords, sign_name};
-use iltext::{TextFault, parse};
+use crate::edits::read_to;
+use crate::spots::part;
+use crate::words::{ASKED, Group, sign_name};
+use iltext::parse;
 use std::alloc::{AllocError, Global};
 
 /// The most bytes up to a place at which it is asked for each word.
@@ -14,17 +15,11 @@ const MOST_TOLD: usize = 8;
 /// What could stand at a place.
 #[derive(Drop)]
 pub struct Possible {
-    found: Vec<Candidate>,
+    /// The words, each of its group.
+    found: Vec<(Group, &'static str)>,
     /// Whether the line, or the text, could end there.
     pub is_line_end: bool,
     is_text_end: bool,
-}
-
-/// A word that could stand there.
-#[derive(Clone, Copy)]
-pub struct Candidate {
-    pub group: Group,
-    pub spelled: &'static str,
 }
 
 impl Possible {
@@ -43,8 +38,8 @@ impl Possible {
         let mut bytes = Vec::from_slice(alloc, front)?;
         bytes.push(b' ')?;
         let mut found = Vec::new(alloc);
-        for words in ASKED {
-            push_possible(alloc, &mut bytes, words, &mut found)?;
+        for (group, words) in ASKED {
+            push_possible(alloc, &mut bytes, (*group, words), &mut found)?;
         }
         Ok(Some(Possible {
             found,
@@ -55,34 +50,28 @@ impl Possible {
 
     /// Whether something of a group could stand there.
     pub fn has(&self, group: Group) -> bool {
-        self.found.iter().any(|one| one.group == group)
+        self.found.iter().any(|(one, _)| *one == group)
     }
 
     /// Whether a word could stand there.
     pub fn has_word(&self, spelled: &str) -> bool {
-        self.found
-            .iter()
-            .any(|one| one.spelled.as_bytes() == spelled.as_bytes())
+        let is_spelled = |one: &str| one.as_bytes() == spelled.as_bytes();
+        self.found.iter().any(|(_, one)| is_spelled(one))
     }
 
     /// The word that could stand there, where that is all.
     pub fn only_word(&self) -> Option<&'static str> {
         match self.found.as_slice() {
-            [one] if one.group == Group::Word => Some(one.spelled),
+            [(Group::Word, spelled)] => Some(*spelled),
             _ => None,
         }
-    }
-
-    /// How many words of a group could stand there.
-    fn count(&self, group: Group) -> usize {
-        self.found.iter().filter(|one| one.group == group).count()
     }
 
     /// What could stand there, in words; the end of the line where that says something.
     pub fn words(&self, alloc: Global, with_end: bool) -> Result<Vec<&'static str>, AllocError> {
         let mut told: Vec<&'static str> = Vec::new(alloc);
-        for words in ASKED {
-            self.push_told(&mut told, words)?;
+        for (group, words) in ASKED {
+            self.push_told(&mut told, *group, words.len())?;
         }
         if self.is_line_end && with_end {
             told.push("the end of the line")?;
@@ -93,61 +82,57 @@ impl Possible {
         Ok(told)
     }
 
-    /// Adds what is told of a group.
+    /// Adds what is told of a group of so many words; instructions in parentheses are told by all
+    /// instructions.
     fn push_told(
         &self,
         told: &mut Vec<&'static str>,
-        words: &GroupWords,
+        group: Group,
+        len: usize,
     ) -> Result<(), AllocError> {
-        let is_all = self.count(words.group) == words.spelled.len();
-        if let Some(name) = group_name(words.group, is_all, self.has(Group::Outer)) {
-            if self.has(words.group) {
-                told.push(name)?;
-            }
+        let has_outer = self.has(Group::Outer);
+        let count = self.found.iter().filter(|(one, _)| *one == group).count();
+        if count == 0 || group == Group::Operator && has_outer {
             return Ok(());
         }
-        for one in &self.found {
-            if one.group == words.group && !is_folded(*one, self.has(Group::Outer)) {
-                told.push(sign_name(one.spelled))?;
+        if let Some(name) = group_name(group, count == len) {
+            told.push(name)?;
+            return Ok(());
+        }
+        for (one, spelled) in &self.found {
+            if *one == group {
+                told.push(sign_name(spelled))?;
             }
         }
         Ok(())
     }
 }
 
-/// Whether a word is told by another one: instructions in parentheses by all instructions.
-fn is_folded(one: Candidate, has_outer: bool) -> bool {
-    one.group == Group::Operator && has_outer
-}
-
 /// How words of a group are told in one, where all could stand there, or where some do.
-fn group_name(group: Group, is_all: bool, has_outer: bool) -> Option<&'static str> {
+fn group_name(group: Group, is_all: bool) -> Option<&'static str> {
     match group {
         Group::Name => Some("a name"),
         Group::Number => Some("a number"),
         Group::Time => Some("a time"),
         Group::Address => Some("an address"),
         Group::Outer if is_all => Some("an instruction"),
-        Group::Operator if is_all && !has_outer => Some("an operator"),
+        Group::Operator if is_all => Some("an operator"),
         Group::Integer if is_all => Some("a type of whole numbers"),
         Group::Block if is_all => Some("a function block"),
         _ => None,
     }
 }
 
-/// Adds those of some words that can stand behind a text.
+/// Adds those of the words of a group that can stand behind a text.
 fn push_possible(
     alloc: Global,
     bytes: &mut Vec<u8>,
-    words: &GroupWords,
-    found: &mut Vec<Candidate>,
+    (group, words): (Group, &[&'static str]),
+    found: &mut Vec<(Group, &'static str)>,
 ) -> Result<(), AllocError> {
-    for spelled in words.spelled {
+    for spelled in words {
         if can_stand(alloc, bytes, spelled.as_bytes())? {
-            found.push(Candidate {
-                group: words.group,
-                spelled: *spelled,
-            })?;
+            found.push((group, *spelled))?;
         }
     }
     Ok(())
@@ -157,11 +142,7 @@ fn push_possible(
 fn can_stand(alloc: Global, bytes: &mut Vec<u8>, word: &[u8]) -> Result<bool, AllocError> {
     let len = bytes.len();
     bytes.extend_from_slice(word)?;
-    let can = match parse(alloc, bytes.as_slice()) {
-        Ok(_) => true,
-        Err(TextFault::Memory) => return Err(AllocError),
-        Err(TextFault::At { line, col, .. }) => place_of(bytes.as_slice(), line, col) > len,
-    };
+    let can = read_to(alloc, bytes.as_slice())? > len;
     bytes.truncate(len);
     Ok(can)
 }

@@ -1,5 +1,8 @@
 //! What stands at a place of a text.
 
+ghost use Rattle.std.specs.Prelude.{◌≡◌};
+ghost use Rattle.curing.specs.Trying.{part_of};
+
 /// A place of a text, with what stands around it on its line.
 #[derive(Clone, Copy)]
 pub struct Spot<'a> {
@@ -55,29 +58,33 @@ impl<'a> Spot<'a> {
         self.at.saturating_add(self.token().len())
     }
 
-    /// Where the letters, digits, dots and signs of numbers begin that stand around the place.
-    pub fn literal_from(&self) -> usize {
-        let mut from = self.line_from;
-        for (index, byte) in self.front().iter().enumerate() {
-            if !is_literal(*byte) {
-                from = self.line_from.saturating_add(index).saturating_add(1);
-            }
-        }
-        from
+    /// Where the letters, digits, dots and signs of numbers begin and end that stand around the
+    /// place.
+    pub fn literal(&self) -> (usize, usize) {
+        let last = self.front().iter().rposition(|byte| !is_literal(*byte));
+        let from = self.line_from.saturating_add(behind(last));
+        let len = self.rest().iter().take_while(|byte| is_literal(**byte));
+        (from, self.at.saturating_add(len.count()))
     }
 
-    /// Where they end.
-    pub fn literal_to(&self) -> usize {
-        let len = self.rest().iter().take_while(|byte| is_literal(**byte));
-        self.at.saturating_add(len.count())
+    /// Where what stands between two places begins and ends, without the blanks around it.
+    pub fn trimmed(&self, from: usize, to: usize) -> (usize, usize) {
+        let bytes = self.part(from, to);
+        let blanks = bytes.iter().take_while(|byte| is_blank(**byte)).count();
+        let first = from.saturating_add(blanks);
+        (first, from.saturating_add(content_len(bytes)).max(first))
+    }
+
+    /// Where the first word of the line stands.
+    pub fn first_place(&self) -> (usize, usize) {
+        let (from, to) = self.trimmed(self.line_from, self.line_to);
+        (from, from.saturating_add(token_len(self.part(from, to))))
     }
 
     /// The first word of the line.
     pub fn first_word(&self) -> &'a [u8] {
-        let line = self.line();
-        let blanks = line.iter().take_while(|byte| is_blank(**byte)).count();
-        let rest = part(line, blanks, line.len());
-        part(rest, 0, token_len(rest))
+        let (from, to) = self.first_place();
+        self.part(from, to)
     }
 
     /// Where the next line ends that is not empty; the end of this one where there is none.
@@ -96,8 +103,23 @@ impl<'a> Spot<'a> {
     }
 }
 
+/// How many bytes there are up to the last one that is no blank.
+pub fn content_len(bytes: &[u8]) -> usize {
+    behind(bytes.iter().rposition(|byte| !is_blank(*byte)))
+}
+
+/// The place behind another one; the first where there is none.
+fn behind(place: Option<usize>) -> usize {
+    match place {
+        Some(place) => place.saturating_add(1),
+        None => 0,
+    }
+}
+
 /// The bytes from one place up to another; fewer where there are fewer.
-pub fn part(bytes: &[u8], from: usize, to: usize) -> &[u8] {
+pub fn part(bytes: &[u8], from: usize, to: usize) -> &[u8]
+    ensures value { result.now ≡ part_of bytes.now from to }
+{
     let (front, _) = bytes.split_at(to.min(bytes.len()));
     let (_, found) = front.split_at(from.min(front.len()));
     found
@@ -105,13 +127,7 @@ pub fn part(bytes: &[u8], from: usize, to: usize) -> &[u8] {
 
 /// Where the line of a place begins.
 fn line_start(text: &[u8], at: usize) -> usize {
-    let mut start: usize = 0;
-    for (index, byte) in part(text, 0, at).iter().enumerate() {
-        if *byte == b'\n' {
-            start = index.saturating_add(1);
-        }
-    }
-    start
+    behind(part(text, 0, at).iter().rposition(|byte| *byte == b'\n'))
 }
 
 /// Where the line of a place ends, without its line end.

@@ -1,6 +1,7 @@
 //! What is open at a place of a text: a program, a block of variables, a parenthesis.
 
 use crate::spots::part;
+use crate::words::is_one_of;
 use iltokens::{Delimiter, Keyword, Lexed, What, token};
 
 /// Something that was begun and not ended.
@@ -63,7 +64,7 @@ impl Surroundings {
             }
             match token(front, at) {
                 Lexed::Token { what, from, to } => {
-                    all = all.after(what, from, to);
+                    all.read(what, (from, to));
                     if what == What::Name && is_foreign(part(front, from, to)) {
                         all.foreign = Some((from, to));
                     }
@@ -75,93 +76,74 @@ impl Surroundings {
         all
     }
 
-    /// After one token more.
-    fn after(self, what: What, from: usize, to: usize) -> Surroundings {
-        let mut next = match what {
-            What::Keyword(word) => self.after_word(word, from, to),
-            What::Name if self.is_named => self.with_name(from, to),
-            What::Delimiter(Delimiter::Open) => self.with_parenthesis(from),
-            What::Delimiter(Delimiter::Close) => self.without_parenthesis(),
-            _ => self,
-        };
-        if !matches!(what, What::Keyword(_) | What::Delimiter(Delimiter::LineEnd)) {
-            next.is_named = false;
+    /// Reads one token more.
+    fn read(&mut self, what: What, place: (usize, usize)) {
+        let is_named = self.is_named;
+        if what != What::Delimiter(Delimiter::LineEnd) {
+            self.before = place;
+            self.is_named = is_named && matches!(what, What::Keyword(_));
         }
-        if !matches!(what, What::Delimiter(Delimiter::LineEnd)) {
-            next.before = (from, to);
+        match what {
+            What::Keyword(word) => self.read_word(word, place),
+            What::Name if is_named => self.call(place),
+            What::Delimiter(Delimiter::Open) => {
+                self.open = self.open.saturating_add(1);
+                self.parenthesis = self.parenthesis.or(Some(place.0));
+            }
+            What::Delimiter(Delimiter::Close) => {
+                self.open = self.open.saturating_sub(1);
+                self.parenthesis = if self.open == 0 {
+                    None
+                } else {
+                    self.parenthesis
+                };
+            }
+            _ => {}
         }
-        next
     }
 
-    /// After a reserved word.
-    fn after_word(self, word: Keyword, from: usize, to: usize) -> Surroundings {
-        let opened = Some(OpenConstruct {
-            word,
-            at: from,
-            name: None,
-        });
-        let mut next = self;
+    /// Reads a reserved word.
+    fn read_word(&mut self, word: Keyword, (at, to): (usize, usize)) {
+        let name = None;
+        let opened = Some(OpenConstruct { word, at, name });
+        let is_program = word == Keyword::Program && self.unit.is_none();
         match word {
             Keyword::Type | Keyword::Function | Keyword::Configuration => {
-                next.unit = opened;
-                next.has_block = false;
+                self.unit = opened;
+                self.has_block = false;
             }
-            Keyword::Program if self.unit.is_none() => next.unit = opened,
-            Keyword::Resource => next.resource = opened,
+            Keyword::Program if is_program => self.unit = opened,
+            Keyword::Resource => self.resource = opened,
             Keyword::Var | Keyword::VarInput | Keyword::VarExternal | Keyword::VarGlobal => {
-                next.block = opened;
+                self.block = opened;
             }
             Keyword::EndVar => {
-                next.block = None;
-                next.foreign = None;
-                next.has_block = true;
+                self.block = None;
+                self.foreign = None;
+                self.has_block = true;
             }
-            Keyword::EndResource => next.resource = None,
+            Keyword::EndResource => self.resource = None,
             Keyword::EndType | Keyword::EndFunction | Keyword::EndProgram => {
-                next.unit = None;
-                next.from = to;
+                self.unit = None;
+                self.from = to;
             }
-            Keyword::EndConfiguration => next.unit = None,
-            _ => return next,
+            Keyword::EndConfiguration => self.unit = None,
+            _ => return,
         }
-        next.is_named = match word {
-            Keyword::Program => self.unit.is_none(),
-            Keyword::Function | Keyword::Configuration | Keyword::Resource => true,
-            _ => false,
-        };
-        next
+        let is_other = matches!(
+            word,
+            Keyword::Function | Keyword::Configuration | Keyword::Resource
+        );
+        self.is_named = is_program || is_other;
     }
 
-    /// With the name of what was begun last.
-    fn with_name(self, from: usize, to: usize) -> Surroundings {
-        let mut next = self;
-        let name = Some((from, to));
-        if let Some(resource) = self.resource {
-            next.resource = Some(resource.called(name));
-        } else if let Some(unit) = self.unit {
-            next.unit = Some(unit.called(name));
+    /// Takes the name of what was begun last.
+    fn call(&mut self, name: (usize, usize)) {
+        if let Some(resource) = &mut self.resource {
+            resource.name = Some(name);
+        } else if let Some(unit) = &mut self.unit {
+            unit.name = Some(name);
         }
-        next
-    }
-
-    /// With one parenthesis more.
-    fn with_parenthesis(self, at: usize) -> Surroundings {
-        let mut next = self;
-        next.open = self.open.saturating_add(1);
-        if self.open == 0 {
-            next.parenthesis = Some(at);
-        }
-        next
-    }
-
-    /// With one parenthesis less.
-    fn without_parenthesis(self) -> Surroundings {
-        let mut next = self;
-        next.open = self.open.saturating_sub(1);
-        if next.open == 0 {
-            next.parenthesis = None;
-        }
-        next
     }
 
     /// What was begun last and is not ended, parentheses aside.
@@ -171,41 +153,36 @@ impl Surroundings {
 
     /// Whether instructions stand there: in a program, or in a function behind its inputs.
     pub fn is_in_body(&self) -> bool {
-        let is_unit = match self.unit {
-            Some(unit) => {
-                unit.word == Keyword::Program || unit.word == Keyword::Function && self.has_block
-            }
-            None => false,
+        let is_unit = match self.unit_word() {
+            Some(Keyword::Program) => true,
+            Some(Keyword::Function) => self.has_block,
+            _ => false,
         };
         is_unit && self.block.is_none()
     }
 
+    /// The word that begins the type block, function, program or configuration that is open.
+    pub fn unit_word(&self) -> Option<Keyword> {
+        Some(self.unit?.word)
+    }
+
+    /// The word that begins the block of variables that is open.
+    pub fn block_word(&self) -> Option<Keyword> {
+        Some(self.block?.word)
+    }
+
     /// Whether a configuration is open.
     pub fn is_in_configuration(&self) -> bool {
-        match self.unit {
-            Some(unit) => unit.word == Keyword::Configuration,
-            None => false,
-        }
+        self.unit_word() == Some(Keyword::Configuration)
     }
 }
 
 /// Whether a word begins a block of variables in other languages.
 fn is_foreign(word: &[u8]) -> bool {
-    word.eq_ignore_ascii_case(b"VAR_OUTPUT")
-        || word.eq_ignore_ascii_case(b"VAR_IN_OUT")
-        || word.eq_ignore_ascii_case(b"VAR_TEMP")
+    is_one_of(word, &["VAR_OUTPUT", "VAR_IN_OUT", "VAR_TEMP"])
 }
 
 impl OpenConstruct {
-    /// The same, with its name.
-    fn called(self, name: Option<(usize, usize)>) -> OpenConstruct {
-        OpenConstruct {
-            word: self.word,
-            at: self.at,
-            name,
-        }
-    }
-
     /// The word that begins it, and the one that ends it.
     pub fn words(&self) -> (&'static str, &'static str) {
         match self.word {

@@ -23,152 +23,60 @@ pub enum Group {
     Sign,
 }
 
-/// Words of one group.
-#[derive(Clone, Copy)]
-pub struct GroupWords {
-    pub group: Group,
-    pub spelled: &'static [&'static str],
+/// Words, one after another.
+macro_rules! words {
+    ($($word:literal)+) => { &[$($word),+] };
 }
 
 /// What is asked of the parser, in the order in which it is told.
-pub const ASKED: &[GroupWords] = &[
-    GroupWords {
-        group: Group::Name,
-        spelled: &["a"],
-    },
-    GroupWords {
-        group: Group::Number,
-        spelled: &["1"],
-    },
-    GroupWords {
-        group: Group::Time,
-        spelled: &["T#1s"],
-    },
-    GroupWords {
-        group: Group::Address,
-        spelled: &["%QB0.0"],
-    },
-    GroupWords {
-        group: Group::Truth,
-        spelled: &["TRUE", "FALSE"],
-    },
-    GroupWords {
-        group: Group::Operator,
-        spelled: OPERATORS,
-    },
-    GroupWords {
-        group: Group::Outer,
-        spelled: OUTER,
-    },
-    GroupWords {
-        group: Group::OtherType,
-        spelled: &["BOOL", "TIME"],
-    },
-    GroupWords {
-        group: Group::Integer,
-        spelled: INTEGERS,
-    },
-    GroupWords {
-        group: Group::Block,
-        spelled: BLOCKS,
-    },
-    GroupWords {
-        group: Group::Word,
-        spelled: WORDS,
-    },
-    GroupWords {
-        group: Group::Sign,
-        spelled: SIGNS,
-    },
+pub const ASKED: &[(Group, &[&str])] = &[
+    (Group::Name, &["a"]),
+    (Group::Number, &["1"]),
+    (Group::Time, &["T#1s"]),
+    (Group::Address, &["%QB0.0"]),
+    (Group::Truth, &["TRUE", "FALSE"]),
+    (Group::Operator, OPERATORS),
+    (Group::Outer, OUTER),
+    (Group::OtherType, &["BOOL", "TIME"]),
+    (Group::Integer, INTEGERS),
+    (Group::Block, BLOCKS),
+    (Group::Word, WORDS),
+    (Group::Sign, &[",", ":", ";", ":=", ".", "..", "(", ")"]), // `&` is another word for AND
 ];
 
 /// Instructions that may stand in parentheses; one conversion stands for all.
-pub const OPERATORS: &[&str] = &[
-    "LD",
-    "LDN",
-    "AND",
-    "ANDN",
-    "OR",
-    "ORN",
-    "XOR",
-    "XORN",
-    "NOT",
-    "ADD",
-    "SUB",
-    "MUL",
-    "DIV",
-    "MOD",
-    "GT",
-    "GE",
-    "EQ",
-    "NE",
-    "LE",
-    "LT",
-    "MIN",
-    "MAX",
-    "LIMIT",
-    "ABS",
-    "INT_TO_DINT",
-];
+pub const OPERATORS: &[&str] = words!["LD" "LDN" "AND" "ANDN" "OR" "ORN" "XOR" "XORN" "NOT" "ADD"
+    "SUB" "MUL" "DIV" "MOD" "GT" "GE" "EQ" "NE" "LE" "LT" "MIN" "MAX" "LIMIT" "ABS" "INT_TO_DINT"];
 
 /// The other instructions.
-pub const OUTER: &[&str] = &[
-    "ST", "STN", "S", "R", "JMP", "JMPC", "JMPCN", "CAL", "CALC", "CALCN", "RET", "RETC", "RETCN",
-];
+pub const OUTER: &[&str] = words!["ST" "STN" "S" "R" "JMP" "JMPC" "JMPCN" "CAL" "CALC" "CALCN"
+    "RET" "RETC" "RETCN"];
 
 /// Types of whole numbers.
-pub const INTEGERS: &[&str] = &["SINT", "INT", "DINT", "USINT", "UINT", "UDINT"];
+pub const INTEGERS: &[&str] = words!["SINT" "INT" "DINT" "USINT" "UINT" "UDINT"];
 
 /// Function blocks.
-pub const BLOCKS: &[&str] = &[
-    "R_TRIG",
-    "CTU",
-    "TON",
-    "GEAR_LEVEL",
-    "GEAR_DO",
-    "GEAR_SET",
-    "GEAR_PAIR",
-    "GEAR_ASK",
-    "GEAR_READ",
-    "DEV_DO",
-    "DEV_SCHEME",
-    "DEV_ASK",
-];
+pub const BLOCKS: &[&str] = words!["R_TRIG" "CTU" "TON" "GEAR_LEVEL" "GEAR_DO" "GEAR_SET"
+    "GEAR_PAIR" "GEAR_ASK" "GEAR_READ" "DEV_DO" "DEV_SCHEME" "DEV_ASK"];
 
 /// Words of declarations and configurations.
-pub const WORDS: &[&str] = &[
-    "TYPE",
-    "END_TYPE",
-    "FUNCTION",
-    "END_FUNCTION",
-    "PROGRAM",
-    "END_PROGRAM",
-    "VAR",
-    "END_VAR",
-    "VAR_INPUT",
-    "VAR_EXTERNAL",
-    "VAR_GLOBAL",
-    "CONFIGURATION",
-    "END_CONFIGURATION",
-    "RESOURCE",
-    "END_RESOURCE",
-    "ON",
-    "AT",
-    "TASK",
-    "SINGLE",
-    "INTERVAL",
-    "PRIORITY",
-    "WITH",
-];
-
-/// Signs; `&` is another word for AND.
-pub const SIGNS: &[&str] = &[",", ":", ";", ":=", ".", "..", "(", ")"];
+pub const WORDS: &[&str] = words!["TYPE" "END_TYPE" "FUNCTION" "END_FUNCTION" "PROGRAM"
+    "END_PROGRAM" "VAR" "END_VAR" "VAR_INPUT" "VAR_EXTERNAL" "VAR_GLOBAL" "CONFIGURATION"
+    "END_CONFIGURATION" "RESOURCE" "END_RESOURCE" "ON" "AT" "TASK" "SINGLE" "INTERVAL" "PRIORITY"
+    "WITH"];
 
 /// Lists of instructions that a misspelled word may be meant for.
 pub const INSTRUCTIONS: &[&[&str]] = &[OUTER, OPERATORS];
 
 /// Lists of other words that it may be meant for.
 pub const SPELLED: &[&[&str]] = &[&["BOOL", "TIME", "TRUE", "FALSE"], INTEGERS, BLOCKS, WORDS];
+
+/// Whether a word is one of some, in any letter case.
+pub fn is_one_of(word: &[u8], words: &[&str]) -> bool {
+    words
+        .iter()
+        .any(|one| one.as_bytes().eq_ignore_ascii_case(word))
+}
 
 /// How a sign is called.
 pub fn sign_name(sign: &str) -> &str {

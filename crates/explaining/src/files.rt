@@ -1,9 +1,9 @@
 //! Files with their faults.
 
-use crate::code_answers::{Refused, answer_code, mark_of};
-use crate::requests::write_requests;
-use crate::ways::write_way;
-use badlines::{BadLine, binding_fault, scenario_fault};
+use crate::code_answers::{Refused, answer_code};
+use crate::requests::print_requests;
+use crate::ways::print_way;
+use badlines::{LineFile, bad_line};
 use curing::{
     AskedText, FaultAnswer, first_column, place_of, write_answer, write_found, write_line,
     write_place,
@@ -14,6 +14,7 @@ use ilscope::NameFault;
 use iltext::TextFault;
 use listing::{TaskNames, functions_in, write_deepest_calls, write_longest_calls};
 use namecauses::{OtherFaults, answer_name};
+use page::Page;
 use plantload::{LoadFault, RefusedTask};
 use std::alloc::Global;
 use std::io;
@@ -33,10 +34,24 @@ pub fn explain_load<W: Write>(
     fault: &LoadFault,
 ) -> io::Result<()> {
     match fault {
-        LoadFault::Memory => write_memory(out),
-        LoadFault::Text(fault) => explain_text(alloc, out, asked, fault),
-        LoadFault::Name(fault) => explain_name(alloc, out, asked, fault),
+        LoadFault::Text(TextFault::At { line, col, cause }) => {
+            let at = place_of(asked.text, *line, *col);
+            let answer = answer_text(alloc, asked, at, *cause)?;
+            let (number, what) = (cause.number(), answer.what.as_str());
+            let title = format!(in alloc; "text fault {number}: {what}")?;
+            write_at(out, asked, (*line, *col), &title, &answer)
+        }
+        LoadFault::Name(NameFault::At { line, col, cause }) => {
+            let at = place_of(asked.text, *line, *col);
+            let answer = answer_name(alloc, asked, at, *cause)?;
+            let (number, what) = (cause.number(), answer.what.as_str());
+            let title = format!(in alloc; "name fault {number}: {what}")?;
+            write_at(out, asked, (*line, *col), &title, &answer)?;
+            let others = OtherFaults::of(alloc, asked, *line, *col, *cause)?;
+            write_others(out, asked, &others)
+        }
         LoadFault::Code(refused) => explain_code(alloc, out, asked, refused),
+        _ => write_memory(out),
     }
 }
 
@@ -45,47 +60,31 @@ fn write_memory<W: Write>(out: &mut W) -> io::Result<()> {
     writeln!(out, "no memory")
 }
 
-/// Explains a fault of a text.
-fn explain_text<W: Write>(
-    alloc: Global,
+/// Writes the first line of an explanation, and the line of the file with a mark at this column.
+fn write_fault<W: Write>(
     out: &mut W,
-    asked: &AskedText,
-    fault: &TextFault,
+    path: &str,
+    bytes: &[u8],
+    (line, col): (usize, usize),
+    mark: Option<usize>,
+    title: &str,
 ) -> io::Result<()> {
-    match fault {
-        TextFault::Memory => write_memory(out),
-        TextFault::At { line, col, cause } => {
-            let at = place_of(asked.text, *line, *col);
-            let answer = answer_text(alloc, asked, at, *cause)?;
-            write_place(out, asked.path, *line, *col)?;
-            write!(out, "text fault {}: ", cause.number())?;
-            write_at(out, asked, *line, *col, &answer)
-        }
-    }
+    write_place(out, path, line, col)?;
+    writeln!(out, "{title}")?;
+    write_line(out, bytes, line, mark)
 }
 
-/// Explains a fault of names, the least, and names the others.
-fn explain_name<W: Write>(
-    alloc: Global,
+/// Writes what is wrong at a place of a text, what stands there, and what helps.
+fn write_at<W: Write>(
     out: &mut W,
     asked: &AskedText,
-    fault: &NameFault,
+    (line, col): (usize, usize),
+    title: &str,
+    answer: &FaultAnswer,
 ) -> io::Result<()> {
-    match fault {
-        NameFault::Memory => write_memory(out),
-        NameFault::At { line, col, cause } => {
-            let at = place_of(asked.text, *line, *col);
-            let answer = answer_name(alloc, asked, at, *cause)?;
-            write_place(out, asked.path, *line, *col)?;
-            write!(out, "name fault {}: ", cause.number())?;
-            write_at(out, asked, *line, *col, &answer)?;
-            write_others(
-                out,
-                asked,
-                &OtherFaults::of(alloc, asked, *line, *col, *cause)?,
-            )
-        }
-    }
+    write_fault(out, asked.path, asked.text, (line, col), Some(col), title)?;
+    write_found(out, asked.text, line, col)?;
+    write_answer(out, answer, line)
 }
 
 /// Writes the other faults of names, a line each, and how many more there are.
@@ -106,20 +105,6 @@ fn write_others<W: Write>(out: &mut W, asked: &AskedText, others: &OtherFaults) 
     }
 }
 
-/// Writes what is wrong at a place of a text, and what helps.
-fn write_at<W: Write>(
-    out: &mut W,
-    asked: &AskedText,
-    line: usize,
-    col: usize,
-    answer: &FaultAnswer,
-) -> io::Result<()> {
-    writeln!(out, "{}", answer.what.as_str())?;
-    write_line(out, asked.text, line, Some(col))?;
-    write_found(out, asked.text, line, col)?;
-    write_answer(out, answer, line)
-}
-
 /// Explains a task whose code is refused: with a way to the word, and where what is wrong is the
 /// number of words or requests, or the depth of calls, with the calls that make it.
 fn explain_code<'q, W: Write>(
@@ -136,57 +121,56 @@ fn explain_code<'q, W: Write>(
         code: &code,
         functions: &functions,
     };
-    let word = Refused::of(asked, &names, refused);
-    let answer = answer_code(alloc, &word)?;
-    write_refused(out, asked, refused, &answer, mark_of(alloc, &word)?)?;
-    write_calls(alloc, out, asked, &names, refused)
+    let word = Refused::of(alloc, asked, &names, refused)?;
+    write_refused(alloc, out, &word, refused.task_name())?;
+    write_calls(alloc, out, &word)
 }
 
-/// Writes the first line of a refused task, the line of the text with a mark at this column, and
+/// Writes what is wrong with a refused word, with a mark at its operand where that is wrong, and
 /// what helps.
 fn write_refused<W: Write>(
+    alloc: Global,
     out: &mut W,
-    asked: &AskedText,
-    refused: &RefusedTask,
-    answer: &FaultAnswer,
-    mark: Option<usize>,
+    refused: &Refused,
+    task: &str,
 ) -> io::Result<()> {
-    let refusal = refused.refusal();
-    let col = mark.unwrap_or(first_column(asked.text, refusal.line));
-    write_place(out, asked.path, refusal.line, col)?;
-    let task = refused.task_name();
-    let cause = refusal.cause.number();
-    let word = refusal.word;
-    writeln!(
-        out,
-        "task {task} refused {cause} at word {word}: {}",
-        answer.what.as_str()
-    )?;
-    write_line(out, asked.text, refusal.line, mark)?;
-    write_answer(out, answer, refusal.line)
+    let Refused {
+        asked,
+        word,
+        line,
+        cause,
+        ..
+    } = *refused;
+    let answer = answer_code(alloc, refused)?;
+    let (number, what) = (cause.number(), answer.what.as_str());
+    let title = format!(in alloc; "task {task} refused {number} at word {word}: {what}")?;
+    let mark = refused.mark();
+    let col = mark.unwrap_or(first_column(asked.text, line));
+    write_fault(out, asked.path, asked.text, (line, col), mark, &title)?;
+    write_answer(out, &answer, line)
 }
 
 /// Writes the calls or the way that lead to a refused word.
-fn write_calls<W: Write>(
-    alloc: Global,
-    out: &mut W,
-    asked: &AskedText,
-    names: &TaskNames,
-    refused: &RefusedTask,
-) -> io::Result<()> {
-    let refusal = refused.refusal();
-    match refusal.cause {
+fn write_calls<W: Write>(alloc: Global, out: &mut W, refused: &Refused) -> io::Result<()> {
+    let Refused { names, word, .. } = *refused;
+    match refused.cause {
         Cause::TooLong => {
             writeln!(out, "the calls that make it:")?;
-            write_longest_calls(alloc, out, names)
+            return write_longest_calls(alloc, out, names);
         }
         Cause::BadCall => {
             writeln!(out, "the chain of calls:")?;
-            write_deepest_calls(alloc, out, names, refusal.word)
+            return write_deepest_calls(alloc, out, names, word);
         }
-        Cause::TooManyRequests => write_requests(alloc, out, names, refusal.word),
-        _ => write_way(alloc, out, names, asked.text, refusal.word),
+        _ => {}
     }
+    let mut page = Page::new(alloc);
+    if matches!(refused.cause, Cause::TooManyRequests) {
+        print_requests(alloc, &mut page, names, word)?;
+    } else {
+        print_way(alloc, &mut page, names, refused.asked.text, word)?;
+    }
+    page.write_to(out)
 }
 
 /// Explains a fault of a binding.
@@ -201,13 +185,7 @@ pub fn explain_binding<W: Write>(
     bytes: &[u8],
     fault: &BindFault,
 ) -> io::Result<()> {
-    match fault {
-        LineFault::Memory => write_memory(out),
-        LineFault::At { line, cause } => {
-            let bad = binding_fault(alloc, bytes, line.number(), *cause)?;
-            write_bad_line(out, path, bytes, "bind", line.number(), &bad)
-        }
-    }
+    explain_lines(alloc, out, path, bytes, LineFile::Binding, fault)
 }
 
 /// Explains a fault of a scenario.
@@ -222,26 +200,29 @@ pub fn explain_scenario<W: Write>(
     bytes: &[u8],
     fault: &ScenarioFault,
 ) -> io::Result<()> {
-    match fault {
-        LineFault::Memory => write_memory(out),
-        LineFault::At { line, cause } => {
-            let bad = scenario_fault(alloc, bytes, line.number(), *cause)?;
-            write_bad_line(out, path, bytes, "scenario", line.number(), &bad)
-        }
-    }
+    explain_lines(alloc, out, path, bytes, LineFile::Scenario, fault)
 }
 
-/// Writes a bad line of a binding or a scenario, and what helps.
-fn write_bad_line<W: Write>(
+/// Explains a fault of a file of lines.
+fn explain_lines<Of, W: Write>(
+    alloc: Global,
     out: &mut W,
     path: &str,
     bytes: &[u8],
-    kind: &str,
-    line: usize,
-    bad: &BadLine,
+    file: LineFile,
+    fault: &LineFault<Of>,
 ) -> io::Result<()> {
-    write_place(out, path, line, bad.col)?;
-    writeln!(out, "{kind} fault: {}", bad.answer.what.as_str())?;
-    write_line(out, bytes, line, Some(bad.col))?;
+    let LineFault::At { line, cause } = fault else {
+        return write_memory(out);
+    };
+    let line = line.number();
+    let bad = bad_line(alloc, file, bytes, line, *cause)?;
+    let kind = match file {
+        LineFile::Binding => "bind",
+        LineFile::Scenario => "scenario",
+    };
+    let what = bad.answer.what.as_str();
+    let title = format!(in alloc; "{kind} fault: {what}")?;
+    write_fault(out, path, bytes, (line, bad.col), Some(bad.col), &title)?;
     write_answer(out, &bad.answer, line)
 }

@@ -24,11 +24,12 @@ const GUARD_WORDS: usize = 3;
 ///
 /// The allocator is out of memory.
 pub(crate) fn guarded(alloc: Global, refused: &Refused) -> Result<FaultAnswer, AllocError> {
-    if let Some(Word::Apply(_, WordOperand::Constant(_))) = refused.names.code.get(refused.word) {
+    let code = refused.names.code;
+    if let Some(Word::Apply(_, WordOperand::Constant(_))) = code.get(refused.word) {
         return FaultAnswer::of(alloc, ZERO);
     }
     let mut answer = FaultAnswer::of(alloc, advice_of(refused.cause))?;
-    let Some((first, last)) = computation(refused.names.code, refused.word) else {
+    let Some((first, last)) = computation(code, refused.word) else {
         return Ok(answer);
     };
     for guard in GUARDS {
@@ -45,24 +46,19 @@ pub(crate) fn guarded(alloc: Global, refused: &Refused) -> Result<FaultAnswer, A
 /// The first and the last line of what is computed around a division: from the load before it to
 /// the last word that takes what comes of it.
 fn computation(code: &Code, word: usize) -> Option<(usize, usize)> {
-    let first = (0..word).rev().find(|place| !is_kept(code.get(*place)))?;
+    let first = (0..word).rev().find(|place| !is_kept(code, *place))?;
     if !matches!(code.get(first), Some(Word::Load { .. })) {
         return None;
     }
-    let mut last = word;
-    for place in word..code.len() {
-        if !is_kept(code.get(place)) {
-            break;
-        }
-        last = place;
-    }
+    let kept = (word..code.len()).take_while(|place| is_kept(code, *place));
+    let last = word.saturating_add(kept.count().saturating_sub(1));
     Some((line_at(code, first), line_at(code, last)))
 }
 
 /// Whether a word goes on with the current result.
-fn is_kept(word: Option<Word>) -> bool {
+fn is_kept(code: &Code, place: usize) -> bool {
     matches!(
-        word,
+        code.get(place),
         Some(
             Word::Apply(..)
                 | Word::Transform(_)
@@ -83,14 +79,13 @@ fn guard_edit(
     last: usize,
 ) -> Result<Option<Edit>, AllocError> {
     let text = refused.asked.text;
-    let begin = Spot::of(text, place_of(text, first, 1));
+    let begin = Spot::of(text, place_of(text, first, first_column(text, first)));
     let end = Spot::of(text, place_of(text, last, 1));
-    let divisor = divisor_of(text, refused.line);
+    let divisor = divisor_of(&refused.spot());
     if divisor.is_empty() || keyword_of(begin.first_word()) != Some(Keyword::Ld) {
         return Ok(None);
     }
-    let indent = first_column(text, first).saturating_sub(1);
-    let blanks = shown_text(alloc, part(begin.line(), 0, indent))?;
+    let blanks = shown_text(alloc, begin.front())?;
     let name = shown_text(alloc, divisor)?;
     let lines = shown_text(alloc, begin.part(begin.line_from, end.line_to))?;
     let with = format!(in alloc;
@@ -100,11 +95,8 @@ fn guard_edit(
 }
 
 /// The operand of a division that begins its line: a name.
-fn divisor_of(text: &[u8], line: usize) -> &[u8] {
-    let col = first_column(text, line);
-    let word = Spot::of(text, place_of(text, line, col));
-    let behind = word.found_to();
-    let rest = word.part(behind, word.line_to);
+fn divisor_of<'q>(division: &Spot<'q>) -> &'q [u8] {
+    let rest = division.part(division.found_to(), division.line_to);
     let blanks = rest
         .iter()
         .take_while(|byte| **byte == b' ' || **byte == b'\t')

@@ -3,107 +3,91 @@
 use ilcode::{Code, Word};
 use iltypes::Condition;
 use listing::{TaskNames, WordText, line_at};
+use page::Page;
 use std::alloc::{AllocError, Global};
-use std::io;
-use std::io::Write;
 
 /// The most requests on a way up to a place, and the place before it on that way.
 #[derive(Clone, Copy)]
 struct Most {
     requests: usize,
-    before: Option<usize>,
-    is_met: bool,
+    before: usize,
 }
 
-/// A place that no way was found to.
-const UNMET: Most = Most {
-    requests: 0,
-    before: None,
-    is_met: false,
-};
-
-/// Writes the calls on a way with too many requests, up to the word that is refused. Ways count
+/// Prints the calls on a way with too many requests, up to the word that is refused. Ways count
 /// whatever their jumps test.
-pub(crate) fn write_requests<W: Write>(
+pub(crate) fn print_requests(
     alloc: Global,
-    out: &mut W,
+    page: &mut Page,
     names: &TaskNames,
     word: usize,
-) -> io::Result<()> {
-    let code = names.code;
-    let most = most_up_to(alloc, code, word)?;
-    let calls = calls_to(alloc, code, &most, word)?;
-    writeln!(out, "the calls on a way there, whatever its jumps test:")?;
+) -> Result<(), AllocError> {
+    let most = most_up_to(alloc, names.code, word)?;
+    let calls = calls_to(alloc, names.code, &most, word)?;
+    page.text("the calls on a way there, whatever its jumps test:\n");
     for place in calls.iter().rev() {
-        write_call(alloc, out, names, *place)?;
+        print_call(alloc, page, names, *place)?;
     }
     Ok(())
 }
 
-/// Writes a call with its line.
-fn write_call<W: Write>(
+/// Prints a call with its line.
+fn print_call(
     alloc: Global,
-    out: &mut W,
+    page: &mut Page,
     names: &TaskNames,
     place: usize,
-) -> io::Result<()> {
-    let Some(word) = names.code.get(place) else {
-        return Ok(());
-    };
-    let line = line_at(names.code, place);
-    let text = WordText { names, word };
-    let text = format!(in alloc; "{text}")?;
-    writeln!(out, "{line:>6} | {text}")
+) -> Result<(), AllocError> {
+    if let Some(word) = names.code.get(place) {
+        let line = line_at(names.code, place);
+        let text = WordText { names, word };
+        page.text(&format!(in alloc; "{line:>6} | {text}\n")?);
+    }
+    Ok(())
 }
 
-/// The most requests on ways up to each place of the programs, the word's own among them.
-fn most_up_to(alloc: Global, code: &Code, word: usize) -> Result<Vec<Most>, AllocError> {
-    let mut most = vec![in alloc; UNMET; word.saturating_add(1)]?;
-    if let Some(first) = most.get_mut(0) {
-        first.is_met = true;
-    }
+/// The most requests on ways up to each place of the programs, where there is one, up to a word.
+fn most_up_to(alloc: Global, code: &Code, word: usize) -> Result<Vec<Option<Most>>, AllocError> {
+    let mut most = vec![in alloc; None; word.saturating_add(1)]?;
+    let none = Most {
+        requests: 0,
+        before: 0,
+    };
+    meet(&mut most, 0, none);
     for place in 0..word {
-        follow(code, &mut most, place);
+        if let Some(Some(found)) = most.get(place) {
+            let on = Most {
+                requests: found.requests.saturating_add(requests_of(code, place)),
+                before: place,
+            };
+            follow(code, &mut most, place, on);
+        }
     }
     Ok(most)
 }
 
 /// Goes on from a place to the places that its word leads to.
-fn follow(code: &Code, most: &mut Vec<Most>, place: usize) {
-    let Some(from) = most.get(place) else {
-        return;
-    };
-    if !from.is_met {
-        return;
+fn follow(code: &Code, most: &mut [Option<Most>], place: usize, on: Most) {
+    let mut is_next = true;
+    if let Some(Word::Jump { condition, target }) = code.get(place) {
+        meet(most, target as usize, on);
+        is_next = condition != Condition::Always;
     }
-    let requests = from.requests.saturating_add(count(code, place));
-    let next = place.saturating_add(1);
-    match code.get(place) {
-        Some(Word::Jump { condition, target }) => {
-            meet(most, target as usize, requests, place);
-            if condition != Condition::Always {
-                meet(most, next, requests, place);
-            }
-        }
-        _ => meet(most, next, requests, place),
+    if is_next {
+        meet(most, place.saturating_add(1), on);
     }
 }
 
-/// A way with so many requests leads from a place to another.
-fn meet(most: &mut Vec<Most>, to: usize, requests: usize, from: usize) {
+/// A way leads to a place.
+fn meet(most: &mut [Option<Most>], to: usize, on: Most) {
     if let Some(kept) = most.get_mut(to) {
-        if !kept.is_met || kept.requests < requests {
-            *kept = Most {
-                requests,
-                before: Some(from),
-                is_met: true,
-            };
+        if !matches!(kept, Some(found) if found.requests >= on.requests) {
+            *kept = Some(on);
         }
     }
 }
 
 /// How many requests a word may make.
-fn count(code: &Code, place: usize) -> usize {
+fn requests_of(code: &Code, place: usize) -> usize {
     match code.get(place) {
         Some(Word::Call(block)) => match code.kinds().get(usize::from(block)) {
             Some(kind) if kind.makes_requests() => 1,
@@ -117,23 +101,18 @@ fn count(code: &Code, place: usize) -> usize {
 fn calls_to(
     alloc: Global,
     code: &Code,
-    most: &[Most],
+    most: &[Option<Most>],
     word: usize,
 ) -> Result<Vec<usize>, AllocError> {
     let mut calls = Vec::new(alloc);
     let mut place = word;
     for _ in 0..most.len() {
-        if count(code, place) > 0 {
+        if requests_of(code, place) > 0 {
             calls.push(place)?;
         }
         match most.get(place) {
-            Some(
-                Most {
-                    before: Some(before),
-                    ..
-                },
-            ) => place = *before,
-            _ => return Ok(calls),
+            Some(Some(found)) if place > 0 => place = found.before,
+            _ => break,
         }
     }
     Ok(calls)

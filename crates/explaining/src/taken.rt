@@ -5,64 +5,69 @@ use ilranges::{Change, Entry, Known, after_word};
 use ilverify::{Pass, Passed};
 use std::alloc::{AllocError, Global};
 
-/// What is known of the ways from a word.
+/// A way that a value goes, from one word to another of the same body.
 #[derive(Clone, Copy)]
-pub(crate) struct Ways {
-    /// Whether a value goes on to the next word of the body.
-    goes_on: bool,
-    /// Where a value goes by a jump.
-    target: Option<usize>,
-    /// The current result before the word and behind it, where there is one.
-    before: Option<Known>,
-    behind: Option<Known>,
+pub(crate) struct Way {
+    pub from: usize,
+    pub to: usize,
+    /// What is known of the current result on the way, where there is one.
+    known: Option<Known>,
 }
 
-/// A word that no scan reaches.
-const UNREACHED: Ways = Ways {
-    goes_on: false,
-    target: None,
-    before: None,
-    behind: None,
-};
-
-/// The ways from each word up to one.
-pub(crate) fn ways_up_to(alloc: Global, code: &Code, word: usize) -> Result<Vec<Ways>, AllocError> {
+/// The ways from each word up to one, in their order. A function begins at its first word, whatever
+/// calls it.
+pub(crate) fn ways_up_to(alloc: Global, code: &Code, word: usize) -> Result<Vec<Way>, AllocError> {
     let mut ways = Vec::new(alloc);
     let mut pass = Pass::begin(alloc, code)?;
     for place in 0..word.saturating_add(1) {
-        ways.push(ways_from(code, &pass, place))?;
+        for way in ways_from(code, &pass, place) {
+            if let Some(way) = way {
+                ways.push(way)?;
+            }
+        }
         let Passed::On(next) = pass.advance()? else {
-            return Ok(ways);
+            break;
         };
         pass = next;
     }
     Ok(ways)
 }
 
-/// The ways from the word to which a pass has come.
-fn ways_from(code: &Code, pass: &Pass, place: usize) -> Ways {
-    if place >= code.len() {
-        return UNREACHED;
-    }
+/// The ways from the word to which a pass has come: by a jump, and to the next word.
+fn ways_from(code: &Code, pass: &Pass, from: usize) -> [Option<Way>; 2] {
     let Some(entry) = pass.entry() else {
-        return UNREACHED;
+        return [None, None];
     };
-    let word = code.word(place);
+    if from >= code.len() {
+        return [None, None];
+    }
+    let word = code.word(from);
     // Parentheses decide no way: a word that leaves one open is refused.
-    match after_word(code, place, false, entry, word) {
-        Ok(changes) => Ways {
-            goes_on: changes.next.is_some(),
-            target: match word {
-                Word::Jump { target, .. } if changes.target.is_some() => Some(target as usize),
-                _ => None,
-            },
-            before: entry.result,
-            behind: match changes.next {
-                Some(change) => result_behind(code, entry, change),
-                None => None,
-            },
-        },
-        Err(_) => UNREACHED,
+    let Ok(changes) = after_word(code, from, false, entry, word) else {
+        return [None, None];
+    };
+    let jump = match (word, changes.target) {
+        (Word::Jump { target, .. }, Some(_)) => {
+            way_within(code, from, target as usize, entry.result)
+        }
+        _ => None,
+    };
+    let next = match changes.next {
+        Some(change) => {
+            let known = result_behind(code, entry, change);
+            way_within(code, from, from.saturating_add(1), known)
+        }
+        None => None,
+    };
+    [jump, next]
+}
+
+/// A way, where it stays within a body.
+fn way_within(code: &Code, from: usize, to: usize, known: Option<Known>) -> Option<Way> {
+    if code.body_at(from) == code.body_at(to) {
+        Some(Way { from, to, known })
+    } else {
+        None
     }
 }
 
@@ -85,92 +90,48 @@ fn result_behind(code: &Code, entry: &Entry, change: Change) -> Option<Known> {
 pub(crate) enum Lack {
     /// The word at this place calls a block.
     Called(usize),
-    /// These meet, each from the word at its place.
-    Meeting {
-        one: (usize, Known),
-        other: (usize, Known),
-    },
+    /// Values of two kinds meet, each from the word at its place, the first one first.
+    Meeting((usize, Known), (usize, Known)),
 }
 
 /// How far a result is looked for back from a word.
 const MOST_STEPS: usize = 16;
 
 /// Why there is no current result at a word, as far as that is found.
-pub(crate) fn lack_at(code: &Code, ways: &[Ways], word: usize) -> Option<Lack> {
+pub(crate) fn lack_at(code: &Code, ways: &[Way], word: usize) -> Option<Lack> {
     let mut place = word;
     for _ in 0..MOST_STEPS {
-        let mut first: Option<(usize, Known)> = None;
-        for from in (0..place).rev() {
-            let Some(brought) = brought_by(code, ways, from, place) else {
-                continue;
-            };
-            match (first, brought) {
-                (None, Some(known)) => first = Some((from, known)),
-                (Some(other), Some(known)) if is_other_kind(other.1, known) => {
-                    let one = (from, known);
-                    return Some(Lack::Meeting { one, other });
-                }
-                (_, None) if matches!(code.get(from), Some(Word::Call(_))) => {
-                    return Some(Lack::Called(from));
-                }
-                _ => {}
+        let lack = lack_before(code, ways, place);
+        if lack.is_some() {
+            return lack;
+        }
+        place = place_before(ways, place)?;
+    }
+    None
+}
+
+/// Why no current result comes to a place, where that is seen on the ways there.
+fn lack_before(code: &Code, ways: &[Way], place: usize) -> Option<Lack> {
+    let mut last: Option<(usize, Known)> = None;
+    for way in ways.iter().rev() {
+        match (last, way.known) {
+            _ if way.to != place => {}
+            (None, Some(known)) => last = Some((way.from, known)),
+            (Some(last), Some(known))
+                if matches!(last.1, Known::Bool) != matches!(known, Known::Bool) => {
+                return Some(Lack::Meeting((way.from, known), last));
             }
-        }
-        place = place_before(code, ways, place)?;
-    }
-    None
-}
-
-/// The result that comes from one place to another, where a value goes that way.
-fn brought_by(code: &Code, ways: &[Ways], from: usize, place: usize) -> Option<Option<Known>> {
-    let found = ways.get(from)?;
-    if from.saturating_add(1) == place && goes_on(code, ways, from) {
-        Some(found.behind)
-    } else if jumps_to(code, ways, from, place) {
-        Some(found.before)
-    } else {
-        None
-    }
-}
-
-/// Whether one is a number and the other a truth value.
-fn is_other_kind(one: Known, other: Known) -> bool {
-    matches!(one, Known::Bool) != matches!(other, Known::Bool)
-}
-
-/// A place from which a value goes to this one, of the same body: the one before it, or else the
-/// last jump there. A function begins at its first word, whatever calls it.
-pub(crate) fn place_before(code: &Code, ways: &[Ways], place: usize) -> Option<usize> {
-    let before = place.checked_sub(1)?;
-    if goes_on(code, ways, before) {
-        return Some(before);
-    }
-    for back in 0..place {
-        let from = place - 1 - back;
-        if jumps_to(code, ways, from, place) {
-            return Some(from);
+            (_, None) if matches!(code.get(way.from), Some(Word::Call(_))) => {
+                return Some(Lack::Called(way.from));
+            }
+            _ => {}
         }
     }
     None
 }
 
-/// Whether a value goes from a place to the next one, of the same body.
-fn goes_on(code: &Code, ways: &[Ways], place: usize) -> bool {
-    match ways.get(place) {
-        Some(from) => from.goes_on && is_one_body(code, place, place.saturating_add(1)),
-        None => false,
-    }
-}
-
-/// Whether a value goes by a jump from one place to another, of the same body.
-pub(crate) fn jumps_to(code: &Code, ways: &[Ways], from: usize, place: usize) -> bool {
-    match ways.get(from) {
-        Some(found) => found.target == Some(place) && is_one_body(code, from, place),
-        None => false,
-    }
-}
-
-/// Whether the words at two places are of the programs, or of one function.
-fn is_one_body(code: &Code, one: usize, other: usize) -> bool {
-    code.body_at(one) == code.body_at(other)
+/// The last place from which a value goes to this one: the one before it, or else the last jump.
+pub(crate) fn place_before(ways: &[Way], place: usize) -> Option<usize> {
+    let way = ways.iter().rev().find(|way| way.to == place)?;
+    Some(way.from)
 }

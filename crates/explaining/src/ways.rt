@@ -1,37 +1,36 @@
 //! A way that leads to a word, with what is known on it.
 
-use crate::taken::{Ways, jumps_to, place_before, ways_up_to};
+use crate::taken::{Way, place_before, ways_up_to};
 use curing::{Spot, part, place_of, shown_text};
 use ilcode::{Code, Word};
-use ilranges::Entry;
-use iltokens::{Delimiter, Keyword, Lexed, What, token};
+use iltokens::Keyword::{Jmp, Jmpc, Jmpcn, Ret, Retc, Retcn};
+use iltokens::{Delimiter, Lexed, What, token};
 use ilverify::{Pass, Passed};
 use listing::{KnownText, TaskNames, WordText, line_at};
+use page::Page;
 use std::alloc::{AllocError, Global};
-use std::io;
-use std::io::Write;
 
 /// How many words of the way are shown at most.
 const MOST_SHOWN: usize = 16;
 
-/// Writes the last words of a way that a value goes to a word, each with its line and what is known
+/// Prints the last words of a way that a value goes to a word, each with its line and what is known
 /// before it.
-pub(crate) fn write_way<W: Write>(
+pub(crate) fn print_way(
     alloc: Global,
-    out: &mut W,
+    page: &mut Page,
     names: &TaskNames,
     text: &[u8],
     word: usize,
-) -> io::Result<()> {
+) -> Result<(), AllocError> {
     let code = names.code;
     let ways = ways_up_to(alloc, code, word)?;
-    let way = way_to(alloc, code, &ways, word)?;
-    writeln!(out, "the way there, with what is known before each word:")?;
+    let way = way_to(alloc, &ways, word)?;
+    page.text("the way there, with what is known before each word:\n");
     let mut pass = Pass::begin(alloc, code)?;
     for place in 0..word.saturating_add(1) {
         if way.contains(&place) {
-            write_step(alloc, out, names, text, &pass)?;
-            write_meeting(out, code, &ways, place)?;
+            print_step(alloc, page, names, text, &pass)?;
+            print_meeting(page, code, &ways, place);
         }
         let Passed::On(next) = pass.advance()? else {
             return Ok(());
@@ -42,41 +41,48 @@ pub(crate) fn write_way<W: Write>(
 }
 
 /// The last places of a way that leads to a word, that of the word first.
-fn way_to(
-    alloc: Global,
-    code: &Code,
-    ways: &[Ways],
-    word: usize,
-) -> Result<Vec<usize>, AllocError> {
+fn way_to(alloc: Global, ways: &[Way], word: usize) -> Result<Vec<usize>, AllocError> {
     let mut way = Vec::new(alloc);
     let mut place = word;
     for _ in 0..MOST_SHOWN {
         way.push(place)?;
-        match place_before(code, ways, place) {
+        match place_before(ways, place) {
             Some(before) => place = before,
-            None => return Ok(way),
+            None => break,
         }
     }
     Ok(way)
 }
 
-/// Writes the word to which a pass has come, with what is known before it.
-fn write_step<W: Write>(
+/// Prints the word to which a pass has come, with what is known before it.
+fn print_step(
     alloc: Global,
-    out: &mut W,
+    page: &mut Page,
     names: &TaskNames,
     text: &[u8],
     pass: &Pass,
-) -> io::Result<()> {
-    let Some(word) = names.code.get(pass.place()) else {
-        return Ok(());
-    };
-    let line = line_at(names.code, pass.place());
-    let spelled = spelled(alloc, names, text, word, line)?;
-    write!(out, "{line:>6} | {spelled:<24}  ")?;
-    match pass.entry() {
-        Some(entry) => write_known(out, names, word, entry),
-        None => writeln!(out),
+) -> Result<(), AllocError> {
+    if let Some(word) = names.code.get(pass.place()) {
+        let line = line_at(names.code, pass.place());
+        let spelled = spelled(alloc, names, text, word, line)?;
+        page.text(&format!(in alloc; "{line:>6} | {spelled:<24}  ")?);
+        if let Some(entry) = pass.entry() {
+            page.shown(&KnownText { names, word, entry });
+        }
+        page.text("\n");
+    }
+    Ok(())
+}
+
+/// Prints where else control comes from to a place of the way.
+fn print_meeting(page: &mut Page, code: &Code, ways: &[Way], place: usize) {
+    let before = place_before(ways, place);
+    for way in ways {
+        if way.to == place && before != Some(way.from) {
+            page.text("       |   (ways meet before it: line ");
+            page.count(line_at(code, way.from));
+            page.text(" jumps there too)\n");
+        }
     }
 }
 
@@ -99,20 +105,24 @@ fn spelled(
 
 /// The jump that is written on a line, with its label.
 fn jump_on(text: &[u8], line: usize) -> Option<&[u8]> {
-    let spot = Spot::of(text, place_of(text, line, 1));
-    let line = spot.line();
-    let mut from: Option<usize> = None;
+    let line = Spot::of(text, place_of(text, line, 1)).line();
+    let mut jump: Option<usize> = None;
     let mut at: usize = 0;
     for _ in 0..line.len() {
-        let Some((what, first, to)) = token_at(line, at) else {
+        let Some((what, from, to)) = token_at(line, at) else {
             break;
         };
         at = to;
-        if from.is_none() && is_jump(what) {
-            from = Some(first);
+        if jump.is_none() && is_jump(what) {
+            jump = Some(from);
         }
     }
-    Some(part(line, from?, at))
+    Some(part(line, jump?, at))
+}
+
+/// Whether a token is a jump.
+fn is_jump(what: What) -> bool {
+    matches!(what, What::Keyword(Jmp | Jmpc | Jmpcn | Ret | Retc | Retcn))
 }
 
 /// What an operand stands behind on its line.
@@ -164,50 +174,4 @@ fn token_at(line: &[u8], at: usize) -> Option<(What, usize, usize)> {
         Lexed::Token { what, from, to } if to > at => Some((what, from, to)),
         _ => None,
     }
-}
-
-/// Whether a token is a jump.
-fn is_jump(what: What) -> bool {
-    matches!(
-        what,
-        What::Keyword(
-            Keyword::Jmp
-                | Keyword::Jmpc
-                | Keyword::Jmpcn
-                | Keyword::Ret
-                | Keyword::Retc
-                | Keyword::Retcn
-        )
-    )
-}
-
-/// Writes what is known before a word.
-fn write_known<W: Write>(
-    out: &mut W,
-    names: &TaskNames,
-    word: Word,
-    entry: &Entry,
-) -> io::Result<()> {
-    let known = KnownText { names, word, entry };
-    writeln!(out, "{known}")
-}
-
-/// Writes where else control comes from to a place of the way.
-fn write_meeting<W: Write>(
-    out: &mut W,
-    code: &Code,
-    ways: &[Ways],
-    place: usize,
-) -> io::Result<()> {
-    let before = place_before(code, ways, place);
-    for from in 0..place {
-        if jumps_to(code, ways, from, place) && before != Some(from) {
-            let line = line_at(code, from);
-            writeln!(
-                out,
-                "       |   (ways meet before it: line {line} jumps there too)"
-            )?;
-        }
-    }
-    Ok(())
 }

@@ -1,154 +1,303 @@
-//! Lines on the functions of a code: what makes the bound, and who calls whom.
+//! The bodies of a code, those of its programs and of its functions: their lines in a table, and the
+//! chains of calls, the one that makes a path long, and the deepest one.
 
-use crate::paths::words_in;
-use crate::stars::Share;
+use crate::marks::count_at;
+use crate::stars::{Share, longest_through};
 use crate::task_names::TaskNames;
+use crate::uses::line_at;
 use ilcode::{Code, Word};
 use ilverify::LongestWays;
+use page::Page;
+use std::alloc::{AllocError, Global};
 use std::io::Write;
 use std::{fmt, io};
 
-/// Writes, where the code has functions, what makes the bound: how many words of a longest path are
-/// of the programs, and of each function that it goes through, and how often it does.
-pub(crate) fn write_bound<W: Write>(
-    out: &mut W,
-    names: &TaskNames,
-    shares: &[Share],
-    bound: u32,
-) -> io::Result<()> {
-    if names.code.functions().is_empty() {
-        return Ok(());
-    }
-    write!(out, "bound {bound} =")?;
-    for index in 0..shares.len() {
-        if index > 0 {
-            write!(out, " +")?;
-        }
-        write_share(out, names, shares[index])?;
-    }
-    writeln!(out)
-}
-
-/// Writes what a body has of a longest path.
-fn write_share<W: Write>(out: &mut W, names: &TaskNames, share: Share) -> io::Result<()> {
-    let Share { body, times, words } = share;
-    if times > 1 {
-        write!(out, " {times} *")?;
-    }
-    write!(out, " {words} in ")?;
+/// The place where a body begins: that of the programs is 0, that of function n is n + 1.
+pub(crate) fn start_of(code: &Code, body: usize) -> usize {
     match body.checked_sub(1) {
-        Some(function) => write!(out, "{}", FunctionName { names, function }),
-        None => write!(out, "programs"),
+        Some(function) => code.end_of(function),
+        None => 0,
     }
 }
 
-/// The name of a function of a code, or its number where it has none.
-#[derive(Clone, Copy)]
-pub(crate) struct FunctionName<'a, 'n> {
-    pub names: &'a TaskNames<'n>,
-    pub function: usize,
+/// The most words on a path through a function.
+pub(crate) fn words_in(code: &Code, ways: &LongestWays, function: usize) -> u32 {
+    let body = function.saturating_add(1);
+    ways.words_from(body, start_of(code, body))
 }
 
-impl fmt::Display for FunctionName<'_, '_> {
-    fn fmt<W: fmt::Write>(&self, f: &mut fmt::Formatter<W>) -> fmt::Result {
-        let function = self.function;
-        match self.names.function(function) {
-            Some(name) => write!(f, "{name}"),
-            None => write!(f, "{function}"),
+/// The number of the function that the word at a place calls.
+fn callee_at(code: &Code, place: usize) -> Option<usize> {
+    match code.get(place)? {
+        Word::Invoke(function) => Some(usize::from(function)),
+        _ => None,
+    }
+}
+
+/// Adds, where the code has functions, what makes the bound: how many words of a longest path are of
+/// the programs, and of each function that it goes through, and how often it does.
+pub(crate) fn add_bound(page: &mut Page, names: &TaskNames, shares: &[Share], bound: u32) {
+    if names.code.functions().is_empty() {
+        return;
+    }
+    add_number(page, "bound ", bound);
+    let mut before = " = ";
+    for share in shares {
+        page.text(before);
+        before = " + ";
+        if share.times > 1 {
+            add_number(page, "", share.times);
+            page.text(" * ");
+        }
+        add_number(page, "", share.words);
+        page.text(" in ");
+        match share.body.checked_sub(1) {
+            Some(function) => add_function(page, names, function),
+            None => page.text("programs"),
         }
     }
+    page.text("\n");
 }
 
-/// Writes a line for each function that begins at a place: its name, its words, the greatest number
-/// of words on a path from its first word on, and who calls it.
-pub(crate) fn write_functions_at<W: Write>(
-    out: &mut W,
+/// Adds a number behind a text.
+pub(crate) fn add_number(page: &mut Page, before: &str, number: u32) {
+    page.text(before);
+    page.number(i64::from(number));
+}
+
+/// Adds the name of a function of a code, or its number where it has none.
+fn add_function(page: &mut Page, names: &TaskNames, function: usize) {
+    match names.function(function) {
+        Some(name) => page.shown(&name),
+        None => page.count(function),
+    }
+}
+
+/// Adds a line for each function that begins at a place: its name, its words, the greatest number of
+/// words on a path from its first word on, and who calls it.
+pub(crate) fn add_functions_at(
+    page: &mut Page,
     names: &TaskNames,
     ways: &LongestWays,
     place: usize,
-) -> io::Result<()> {
-    let functions = names.code.functions();
-    for number in 0..functions.len() {
-        let start = functions[number].start;
-        if start == place {
+) {
+    for (number, function) in names.code.functions().iter().enumerate() {
+        if function.start == place {
             let end = names.code.end_of(number.saturating_add(1));
-            let words = end.saturating_sub(start);
-            let bound = words_in(names.code, ways, number);
-            let name = FunctionName {
-                names,
-                function: number,
-            };
-            write!(out, "function {name} words {words} bound {bound}")?;
-            write_callers(out, names, number)?;
-            writeln!(out)?;
+            page.text("function ");
+            add_function(page, names, number);
+            page.text(" words ");
+            page.count(end.saturating_sub(place));
+            add_number(page, " bound ", words_in(names.code, ways, number));
+            add_callers(page, names, number);
+            page.text("\n");
         }
     }
-    Ok(())
+}
+
+/// Adds who calls a function, each once, in the order of the code.
+fn add_callers(page: &mut Page, names: &TaskNames, function: usize) {
+    let mut last = None;
+    for place in 0..names.code.len() {
+        if callee_at(names.code, place) == Some(function) {
+            let caller = caller_at(names.code, place);
+            if last != Some(caller) {
+                page.text(if last.is_none() { " called by " } else { ", " });
+                add_caller(page, names, caller);
+            }
+            last = Some(caller);
+        }
+    }
 }
 
 /// Who calls a function.
 #[derive(Clone, Copy, PartialEq, Eq)]
-pub(crate) enum Caller {
+enum Caller {
     /// The program instance of this number.
     Instance(usize),
     /// The function of this number in the code.
     Function(usize),
 }
 
-impl Caller {
-    /// Whose word stands at a place of a code.
-    pub fn at(code: &Code, place: usize) -> Caller {
-        match code.body_at(place).checked_sub(1) {
-            Some(function) => Caller::Function(function),
-            None => Caller::Instance(instance_at(code, place)),
-        }
-    }
-
-    /// Writes its name.
-    pub fn write<W: Write>(self, out: &mut W, names: &TaskNames) -> io::Result<()> {
-        match self {
-            Caller::Function(function) => write!(out, "{}", FunctionName { names, function }),
-            Caller::Instance(instance) => match names.instance(instance) {
-                Some(name) => write!(out, "{name}"),
-                None => write!(out, "program {instance}"),
-            },
+/// Whose word stands at a place of a code: of the program instances it is the last that begins there
+/// or before.
+fn caller_at(code: &Code, place: usize) -> Caller {
+    match code.body_at(place).checked_sub(1) {
+        Some(function) => Caller::Function(function),
+        None => {
+            let begun = code
+                .starts()
+                .iter()
+                .filter(|start| **start <= place)
+                .count();
+            Caller::Instance(begun.saturating_sub(1))
         }
     }
 }
 
-/// The number of the program instance whose word stands at a place: the last that begins there or
-/// before.
-fn instance_at(code: &Code, place: usize) -> usize {
-    let mut found: usize = 0;
-    for (number, start) in code.starts().iter().enumerate() {
-        if *start <= place {
-            found = number;
+/// Adds the name of who calls.
+fn add_caller(page: &mut Page, names: &TaskNames, caller: Caller) {
+    match caller {
+        Caller::Function(function) => add_function(page, names, function),
+        Caller::Instance(instance) => match names.instance(instance) {
+            Some(name) => page.shown(&name),
+            None => page.text("?"),
+        },
+    }
+}
+
+/// Writes the chain of calls that has most of the words of a longest path: a line for each, with
+/// how often the path makes it, and the words of the longest path through what is called. From the
+/// programs on, and from each function, the call is followed that has the most words in all.
+///
+/// # Errors
+///
+/// The writer's, or that the allocator is out of memory.
+pub fn write_longest_calls<W: Write>(
+    alloc: Global,
+    out: &mut W,
+    names: &TaskNames,
+) -> io::Result<()> {
+    let Some(ways) = LongestWays::of(alloc, names.code)? else {
+        return Ok(());
+    };
+    let mut page = Page::new(alloc);
+    let mut body: usize = 0;
+    for _ in 0..names.code.functions().len() {
+        let path = longest_through(alloc, names.code, &ways, body)?;
+        let Some(function) = longest_call(names.code, &ways, &path.calls) else {
+            break;
+        };
+        if let Some(place) = first_call(names.code, body, function) {
+            add_call(&mut page, names, place, function);
+            let words = words_in(names.code, &ways, function);
+            add_times(&mut page, count_at(&path.calls, function), words);
+        }
+        body = function.saturating_add(1);
+    }
+    page.write_to(out)
+}
+
+/// Adds how often a function is called, and how many words that is each time.
+fn add_times(page: &mut Page, times: u32, words: u32) {
+    if times > 1 {
+        add_number(page, " ", times);
+        add_number(page, " times, ", words);
+        page.text(" words each time\n");
+    } else {
+        add_number(page, ", ", words);
+        page.text(" words\n");
+    }
+}
+
+/// The function whose calls have the most words in all, where one is called; of several the first.
+fn longest_call(code: &Code, ways: &LongestWays, calls: &[u32]) -> Option<usize> {
+    let mut found = None;
+    let mut greatest: u32 = 0;
+    for (function, times) in calls.iter().enumerate() {
+        let all = words_in(code, ways, function).saturating_mul(*times);
+        if all > greatest {
+            greatest = all;
+            found = Some(function);
         }
     }
     found
 }
 
-/// Writes who calls a function, each once, in the order of the code.
-fn write_callers<W: Write>(out: &mut W, names: &TaskNames, function: usize) -> io::Result<()> {
-    let mut last = None;
-    for place in 0..names.code.len() {
-        if is_call_of(names.code, place, function) {
-            let caller = Caller::at(names.code, place);
-            if last != Some(caller) {
-                let before = if last.is_none() { " called by " } else { ", " };
-                write!(out, "{before}")?;
-                caller.write(out, names)?;
-            }
-            last = Some(caller);
-        }
-    }
-    Ok(())
+/// The place of the first call of a function in a body.
+fn first_call(code: &Code, body: usize, function: usize) -> Option<usize> {
+    (start_of(code, body)..code.end_of(body)).find(|place| {
+        callee_at(code, *place) == Some(function)
+    })
 }
 
-/// Whether the word at a place calls a function.
-fn is_call_of(code: &Code, place: usize, function: usize) -> bool {
-    match code.get(place) {
-        Some(Word::Invoke(called)) => usize::from(called) == function,
-        _ => false,
+/// Adds who calls what at a place, with the line.
+fn add_call(page: &mut Page, names: &TaskNames, place: usize, function: usize) {
+    page.shown(&LineNumber(line_at(names.code, place)));
+    add_caller(page, names, caller_at(names.code, place));
+    page.text(" calls ");
+    add_function(page, names, function);
+}
+
+/// The number of a line before what stands on it.
+#[derive(Clone, Copy)]
+struct LineNumber(usize);
+
+impl fmt::Display for LineNumber {
+    fn fmt<W: fmt::Write>(&self, f: &mut fmt::Formatter<W>) -> fmt::Result {
+        write!(f, "{:>6} | ", self.0)
     }
+}
+
+/// Writes the longest chain of calls that begins with the call at a place, a line for each. It goes
+/// on while a function calls one before it.
+///
+/// # Errors
+///
+/// The writer's, or that the allocator is out of memory.
+pub fn write_deepest_calls<W: Write>(
+    alloc: Global,
+    out: &mut W,
+    names: &TaskNames,
+    place: usize,
+) -> io::Result<()> {
+    let depths = depths(alloc, names.code)?;
+    let mut page = Page::new(alloc);
+    let mut next = Some(place);
+    for _ in 0..names.code.functions().len().saturating_add(1) {
+        let Some(place) = next else {
+            break;
+        };
+        let Some(function) = callee_at(names.code, place) else {
+            break;
+        };
+        add_call(&mut page, names, place, function);
+        page.text("\n");
+        next = deepest_call(names.code, &depths, function);
+    }
+    page.write_to(out)
+}
+
+/// How many calls are open at once in each function, itself included.
+fn depths(alloc: Global, code: &Code) -> Result<Vec<u32>, AllocError> {
+    let mut depths = Vec::new(alloc);
+    for function in 0..code.functions().len() {
+        let below = match deepest_call(code, &depths, function) {
+            Some(place) => depth_at(code, &depths, place),
+            None => 0,
+        };
+        depths.push(below.saturating_add(1))?;
+    }
+    Ok(depths)
+}
+
+/// How deep the call at a place leads; 0 where it calls nothing that is known.
+fn depth_at(code: &Code, depths: &[u32], place: usize) -> u32 {
+    match callee_at(code, place) {
+        Some(function) => count_at(depths, function),
+        None => 0,
+    }
+}
+
+/// The place of the call in a function that leads deepest, among those of functions before it; of
+/// several the first.
+fn deepest_call(code: &Code, depths: &[u32], function: usize) -> Option<usize> {
+    if function >= code.functions().len() {
+        return None;
+    }
+    let body = function.saturating_add(1);
+    let mut found = None;
+    let mut greatest: u32 = 0;
+    for place in start_of(code, body)..code.end_of(body) {
+        let is_before = match callee_at(code, place) {
+            Some(called) => called < function,
+            None => false,
+        };
+        let depth = depth_at(code, depths, place);
+        if is_before && depth > greatest {
+            greatest = depth;
+            found = Some(place);
+        }
+    }
+    found
 }

@@ -1,10 +1,9 @@
 //! The levels that tasks store, by what they drive, and which gear the text puts into groups.
 
-use crate::contents::Content;
 use crate::facts::{BlockCall, TaskFacts};
-use crate::stars::{is_marked, mark};
+use crate::marks::{is_marked, mark};
 use ilblocks::BlockKind;
-use ilplan::{Activation, DeclaredName, Location, Plan, SlotOwner};
+use ilsource::Name;
 use std::alloc::{AllocError, Global};
 use std::fmt;
 
@@ -17,6 +16,12 @@ pub(crate) const FIRST_GROUP: u8 = 64;
 /// How many addresses a bus has: 64 short addresses, 16 groups and broadcast.
 const ADDRESSES: usize = 81;
 
+/// How many groups a bus has.
+const GROUPS: usize = 16;
+
+/// The numbers of the commands that put a gear into group 0, and into group 15.
+const ADD_TO_GROUP: (i64, i64) = (18, 33);
+
 /// What a level or a command goes to.
 #[derive(Clone, Copy, PartialEq, Eq)]
 pub(crate) struct Driven {
@@ -27,11 +32,10 @@ pub(crate) struct Driven {
 
 impl Driven {
     /// What these ports of a block name.
-    pub fn named(bus: Option<i64>, address: Option<i64>) -> Option<Driven> {
-        match (byte(bus?), byte(address?)) {
-            (Some(bus), Some(address)) => Some(Driven { bus, address }),
-            _ => None,
-        }
+    pub fn named(bus: i64, address: i64) -> Option<Driven> {
+        let bus = u8::try_from(bus).ok()?;
+        let address = u8::try_from(address).ok()?;
+        Some(Driven { bus, address })
     }
 
     /// Another address of the bus.
@@ -43,18 +47,15 @@ impl Driven {
     }
 
     /// Its number among those of all buses.
-    fn number(self) -> usize {
+    pub fn number(self) -> usize {
         usize::from(self.bus)
             .saturating_mul(ADDRESSES)
             .saturating_add(usize::from(self.address))
     }
-}
 
-/// A number as a byte.
-fn byte(number: i64) -> Option<u8> {
-    match u8::try_from(number) {
-        Ok(byte) => Some(byte),
-        Err(_) => None,
+    /// The number of it in a group, among all addresses and groups of all buses.
+    fn member(self, group: usize) -> usize {
+        self.number().saturating_mul(GROUPS).saturating_add(group)
     }
 }
 
@@ -75,7 +76,8 @@ impl fmt::Display for Driven {
 #[derive(Clone, Copy)]
 pub(crate) struct Level {
     /// The number of its global variable.
-    pub global: usize,
+    pub number: usize,
+    pub name: Name,
     pub driven: Driven,
     /// Whether a cyclic task changes it step by step, so that it is sent again soon.
     pub is_moved: bool,
@@ -83,67 +85,46 @@ pub(crate) struct Level {
 
 /// The levels of all buses of a plan.
 #[derive(Drop)]
-pub(crate) struct Levels<'p> {
-    pub plan: &'p Plan,
+pub(crate) struct Levels {
     levels: Vec<Option<Level>>,
     /// For each address whether the text puts it into the group: first by address, then by group.
     members: Vec<bool>,
 }
 
-impl<'p> Levels<'p> {
-    /// The levels that tasks store.
-    pub fn of(
-        alloc: Global,
-        plan: &'p Plan,
-        facts: &[TaskFacts],
-    ) -> Result<Levels<'p>, AllocError> {
-        let mut levels = Levels::none(alloc, plan)?;
-        for (task, of_task) in facts.iter().enumerate() {
-            levels.add_task(task, of_task);
-            for call in &of_task.calls {
-                levels.add_member(call);
-            }
+impl Levels {
+    /// The levels that tasks store, on so many buses.
+    ///
+    /// # Errors
+    ///
+    /// The allocator is out of memory.
+    pub fn of(alloc: Global, buses: u8, tasks: &[TaskFacts]) -> Result<Levels, AllocError> {
+        let end = Driven {
+            bus: buses,
+            address: 0,
+        };
+        let mut levels = Levels {
+            levels: vec![in alloc; None; end.number()]?,
+            members: vec![in alloc; false; end.member(0)]?,
+        };
+        for facts in tasks {
+            levels.add_task(facts);
         }
         Ok(levels)
     }
 
-    /// None of a plan.
-    fn none(alloc: Global, plan: &'p Plan) -> Result<Levels<'p>, AllocError> {
-        let buses = usize::from(plan.buses());
-        Ok(Levels {
-            plan,
-            levels: vec![in alloc; None; buses.saturating_mul(ADDRESSES)]?,
-            members: vec![in alloc; false; buses.saturating_mul(MEMBERS)]?,
-        })
-    }
-
-    /// Adds the levels that a task stores.
-    fn add_task(&mut self, task: usize, facts: &TaskFacts) {
-        let plan = self.plan;
-        if task >= plan.tasks() {
-            return;
-        }
-        let is_cyclic = matches!(plan.task(task).activation(), Activation::Cyclic { .. });
-        for (place, slot) in plan.task(task).slots().iter().enumerate() {
-            let stored = facts.stored.slot(place);
-            if let (Some((global, driven)), true) = (
-                level_of(plan, slot.variable),
-                stored.content != Content::Nothing,
-            ) {
-                let is_moved = is_cyclic && facts.stored.is_moved(place);
-                self.add(Level {
-                    global,
-                    driven,
-                    is_moved,
-                });
+    /// Adds the levels that a task stores, and the gear that it puts into groups.
+    fn add_task(&mut self, facts: &TaskFacts) {
+        for global in &facts.globals {
+            if let Some(level) = facts.stored_level(*global) {
+                if let Some(kept) = self.levels.get_mut(level.driven.number()) {
+                    *kept = Some(level);
+                }
             }
         }
-    }
-
-    /// Adds a level.
-    fn add(&mut self, level: Level) {
-        if let Some(kept) = self.levels.get_mut(level.driven.number()) {
-            *kept = Some(level);
+        for call in &facts.calls {
+            if let Some(member) = member_of(call) {
+                mark(&mut self.members, member);
+            }
         }
     }
 
@@ -152,28 +133,15 @@ impl<'p> Levels<'p> {
         self.levels.get(driven.number()).copied().unwrap_or(None)
     }
 
-    /// Adds that a call puts a gear into a group.
-    fn add_member(&mut self, call: &BlockCall) {
-        if !matches!(call.kind, BlockKind::GearPair) || !call.may_request() {
-            return;
-        }
-        if let (Some(driven), Some(group)) = (
-            Driven::named(call.bus, call.address),
-            added_group(call.third),
-        ) {
-            mark(&mut self.members, member_number(driven, group));
-        }
-    }
-
     /// Whether what is sent to the one surely reaches what the other drives as well: it is all gear
     /// of the same bus, or a group into which the text puts it.
-    pub fn covers(&self, one: Driven, other: Driven) -> bool {
+    fn covers(&self, one: Driven, other: Driven) -> bool {
         if one.bus != other.bus || one.address == other.address {
             return false;
         }
         match one.address.checked_sub(FIRST_GROUP) {
             Some(_) if one.address == BROADCAST => true,
-            Some(group) => is_marked(&self.members, member_number(other, group)),
+            Some(group) => is_marked(&self.members, other.member(usize::from(group))),
             None => false,
         }
     }
@@ -196,55 +164,24 @@ impl<'p> Levels<'p> {
     pub fn covering(&self, driven: Driven) -> Option<Level> {
         for address in FIRST_GROUP..81 {
             let other = driven.at(address);
-            if let Some(level) = self.get(other) {
-                if self.covers(other, driven) {
-                    return Some(level);
-                }
+            if self.covers(other, driven) && self.get(other).is_some() {
+                return self.get(other);
             }
         }
         None
     }
-
-    /// The name of a level.
-    pub fn name(&self, level: Level) -> DeclaredName<'p> {
-        if level.global < self.plan.globals() {
-            self.plan.global_name(level.global)
-        } else {
-            DeclaredName { bytes: b"?" }
-        }
-    }
 }
 
-/// How many pairs of an address and a group a bus has.
-const MEMBERS: usize = 1296;
-
-/// The number of an address and a group among those of all buses.
-fn member_number(driven: Driven, group: u8) -> usize {
-    driven
-        .number()
-        .saturating_mul(16)
-        .saturating_add(usize::from(group))
-}
-
-/// The group into which a setting of this number puts a gear.
-fn added_group(command: Option<i64>) -> Option<u8> {
-    match command {
-        Some(number) if (18..=33).contains(&number) => byte(number.saturating_sub(18)),
-        _ => None,
-    }
-}
-
-/// The global variable and what it drives, where a slot is a level.
-pub(crate) fn level_of(plan: &Plan, variable: SlotOwner) -> Option<(usize, Driven)> {
-    let number = match variable {
-        SlotOwner::Global(number) => number,
-        SlotOwner::Own { .. } => return None,
-    };
-    if number >= plan.globals() {
+/// The number of the member and its group, where a call puts a gear into a group.
+fn member_of(call: &BlockCall) -> Option<usize> {
+    if !matches!(call.kind, BlockKind::GearPair) || !call.may_request() {
         return None;
     }
-    match plan.global(number).location {
-        Some(Location::Level { bus, address }) => Some((number, Driven { bus, address })),
-        _ => None,
+    let command = call.port(3)?;
+    let (first, last) = ADD_TO_GROUP;
+    if command < first || command > last {
+        return None;
     }
+    let group = usize::try_from(command.saturating_sub(first)).ok()?;
+    Some(call.driven()?.member(group))
 }

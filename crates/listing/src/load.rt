@@ -1,15 +1,16 @@
 //! How many frames a bus may be asked for: in a second by the cyclic tasks, and by each event task
 //! for an event.
 
-use crate::contents::Content;
+use crate::current::Content;
 use crate::facts::{BlockCall, TaskFacts, facts_of};
-use crate::levels::level_of;
-use crate::note_lines::{Added, NoteName, NotePlace, Notes};
-use crate::paths::most_on_paths;
+use crate::kinds;
+use crate::marks::{add_at, count_at};
+use crate::note::{Added, Found, NotePlace, Notes, note_at};
 use ilblocks::BlockKind;
-use ilcode::Code;
+use ilcode::Word;
 use ilcompile::Setup;
-use ilplan::{Activation, Plan};
+use iltypes::Condition;
+use page::Page;
 use std::alloc::{AllocError, Global};
 use std::io::Write;
 use std::{fmt, io};
@@ -19,8 +20,8 @@ const FRAMES_A_SECOND: u64 = 40;
 
 /// A number of frames in a second, in tenths.
 #[derive(Clone, Copy)]
-struct Rate {
-    tenths: u64,
+pub(crate) struct Rate {
+    pub tenths: u64,
 }
 
 impl fmt::Display for Rate {
@@ -29,84 +30,6 @@ impl fmt::Display for Rate {
         let tenth = self.tenths % 10;
         write!(f, "{whole}.{tenth}")
     }
-}
-
-/// Writes a line for each bus that the tasks may ask for frames: how many in a second by the cyclic
-/// tasks together, and how many for an event by each event task.
-///
-/// # Errors
-///
-/// The writer's, or that the allocator is out of memory.
-pub fn write_load<W: Write>(alloc: Global, out: &mut W, setup: &Setup) -> io::Result<()> {
-    let facts = facts_of(alloc, setup)?;
-    for bus in 0..setup.plan().buses() {
-        let frames = frames_on(alloc, setup, &facts, bus)?;
-        write_bus(out, setup.plan(), bus, &frames)?;
-    }
-    Ok(())
-}
-
-/// Adds a note for each bus that the cyclic tasks may ask for more frames than it carries.
-pub(crate) fn add_load_notes(notes: &mut Notes, setup: &Setup, facts: &[TaskFacts]) -> Added {
-    for bus in 0..setup.plan().buses() {
-        let frames = frames_on(notes.alloc, setup, facts, bus)?;
-        let rate = rate_of(setup.plan(), &frames);
-        if rate.tenths > FRAMES_A_SECOND.saturating_mul(10) {
-            notes.add(
-                NoteName::BusLoad,
-                NotePlace::Whole,
-                format!(in notes.alloc;
-                    "the cyclic tasks may ask bus {bus} for {rate} frames a second; it carries some \
-                 {FRAMES_A_SECOND}"
-                )?,
-            )?;
-        }
-    }
-    Ok(())
-}
-
-/// Writes the line of a bus, where it may be asked for frames.
-fn write_bus<W: Write>(out: &mut W, plan: &Plan, bus: u8, frames: &[Frames]) -> io::Result<()> {
-    let rate = rate_of(plan, frames);
-    let mut is_begun = rate.tenths > 0;
-    if is_begun {
-        write!(out, "bus {bus} frames at most {rate} a second")?;
-    }
-    for (task, of_task) in frames.iter().enumerate() {
-        is_begun = write_for_event(out, plan, bus, task, *of_task, is_begun)?;
-    }
-    if is_begun { writeln!(out) } else { Ok(()) }
-}
-
-/// Writes how many frames an event of a task asks a bus for, where it may ask for some. Answers
-/// whether the line of the bus has begun.
-fn write_for_event<W: Write>(
-    out: &mut W,
-    plan: &Plan,
-    bus: u8,
-    task: usize,
-    frames: Frames,
-    is_begun: bool,
-) -> io::Result<bool> {
-    let count = frames.for_event();
-    if task >= plan.tasks() || count == 0 || !is_event_task(plan, task) {
-        return Ok(is_begun);
-    }
-    let name = plan.task_name(task);
-    if is_begun {
-        write!(out, ", {count} for an event of {name}")?;
-    } else {
-        write!(
-            out,
-            "bus {bus} frames at most {count} for an event of {name}"
-        )?;
-    }
-    Ok(true)
-}
-
-/// Whether an event starts a task.
-fn is_event_task(plan: &Plan, task: usize) -> bool {
-    task < plan.tasks() && matches!(plan.task(task).activation(), Activation::Event { .. })
 }
 
 /// What a scan of a task may ask a bus for.
@@ -127,9 +50,8 @@ impl Frames {
 
     /// How many tenths of a frame a second that is, with this interval between scans; rounded up.
     fn tenths(self, interval: u32) -> u64 {
-        let halves = u64::from(self.halves).saturating_add(u64::from(self.levels).saturating_mul(
-            2,
-        ));
+        let levels = u64::from(self.levels).saturating_mul(2);
+        let halves = u64::from(self.halves).saturating_add(levels);
         let interval = u64::from(interval);
         let all = halves
             .saturating_mul(5000)
@@ -138,49 +60,103 @@ impl Frames {
     }
 }
 
-/// How many frames a second the cyclic tasks may ask for together.
-fn rate_of(plan: &Plan, frames: &[Frames]) -> Rate {
-    let mut tenths: u64 = 0;
-    for (task, of_task) in frames.iter().enumerate() {
-        if task < plan.tasks() {
-            if let Activation::Cyclic { interval } = plan.task(task).activation() {
-                tenths = tenths.saturating_add(of_task.tenths(interval));
+/// Writes a line for each bus that the tasks may ask for frames: how many in a second by the cyclic
+/// tasks together, and how many for an event by each event task.
+///
+/// # Errors
+///
+/// The writer's, or that the allocator is out of memory.
+pub fn write_load<W: Write>(alloc: Global, out: &mut W, setup: &Setup) -> io::Result<()> {
+    let tasks = facts_of(alloc, setup)?;
+    let mut page = Page::new(alloc);
+    for bus in 0..setup.plan().buses() {
+        let frames = frames_on(alloc, &tasks, bus)?;
+        add_bus(&mut page, &tasks, bus, &frames);
+    }
+    page.write_to(out)
+}
+
+/// Adds a note for each bus that the cyclic tasks may ask for more frames than it carries.
+pub(crate) fn add_load_notes(notes: &mut Notes, tasks: &[TaskFacts], buses: u8) -> Added {
+    for bus in 0..buses {
+        let tenths = rate_of(tasks, &frames_on(notes.alloc, tasks, bus)?).tenths;
+        if tenths > FRAMES_A_SECOND.saturating_mul(10) {
+            let bus = Found::Number(i64::from(bus));
+            notes.add(note_at(
+                &kinds::BUS_LOAD,
+                NotePlace::Whole,
+                bus,
+                Found::Tenths(tenths),
+            ));
+        }
+    }
+    Ok(())
+}
+
+/// Adds the line of a bus, where it may be asked for frames.
+fn add_bus(page: &mut Page, tasks: &[TaskFacts], bus: u8, frames: &[Frames]) {
+    let rate = rate_of(tasks, frames);
+    let mut is_begun = rate.tenths > 0;
+    if is_begun {
+        begin_line(page, bus);
+        page.shown(&rate);
+        page.text(" a second");
+    }
+    for (facts, of_task) in tasks.iter().zip(frames) {
+        let count = of_task.for_event();
+        if count > 0 && facts.interval().is_none() {
+            if is_begun {
+                page.text(", ");
+            } else {
+                begin_line(page, bus);
             }
+            is_begun = true;
+            page.number(i64::from(count));
+            page.text(" for an event of ");
+            page.text(facts.task.name());
+        }
+    }
+    if is_begun {
+        page.text("\n");
+    }
+}
+
+/// Begins the line of a bus.
+fn begin_line(page: &mut Page, bus: u8) {
+    page.text("bus ");
+    page.number(i64::from(bus));
+    page.text(" frames at most ");
+}
+
+/// How many frames a second the cyclic tasks may ask for together.
+fn rate_of(tasks: &[TaskFacts], frames: &[Frames]) -> Rate {
+    let mut tenths: u64 = 0;
+    for (facts, of_task) in tasks.iter().zip(frames) {
+        if let Some(interval) = facts.interval() {
+            tenths = tenths.saturating_add(of_task.tenths(interval));
         }
     }
     Rate { tenths }
 }
 
 /// What each task may ask a bus for.
-fn frames_on(
-    alloc: Global,
-    setup: &Setup,
-    facts: &[TaskFacts],
-    bus: u8,
-) -> Result<Vec<Frames>, AllocError> {
+fn frames_on(alloc: Global, tasks: &[TaskFacts], bus: u8) -> Result<Vec<Frames>, AllocError> {
     let mut all = Vec::new(alloc);
-    for (task, of_task) in facts.iter().enumerate() {
-        if task < setup.plan().tasks() {
-            let is_event = is_event_task(setup.plan(), task);
-            let code = setup.code(task).code();
-            all.push(Frames {
-                halves: most_halves(alloc, code, of_task, is_event, bus)?,
-                levels: levels_on(setup.plan(), task, of_task, bus),
-            })?;
-        }
+    for facts in tasks {
+        all.push(Frames {
+            halves: most_halves(alloc, facts, bus)?,
+            levels: levels_on(facts, bus),
+        })?;
     }
     Ok(all)
 }
 
 /// How many levels of a bus a task stores.
-fn levels_on(plan: &Plan, task: usize, facts: &TaskFacts, bus: u8) -> u32 {
-    if task >= plan.tasks() {
-        return 0;
-    }
+fn levels_on(facts: &TaskFacts, bus: u8) -> u32 {
     let mut count: u32 = 0;
-    for (place, slot) in plan.task(task).slots().iter().enumerate() {
-        if let Some((_, driven)) = level_of(plan, slot.variable) {
-            if driven.bus == bus && facts.stored.slot(place).content != Content::Nothing {
+    for global in &facts.globals {
+        if let Some(level) = facts.stored_level(*global) {
+            if level.driven.bus == bus {
                 count = count.saturating_add(1);
             }
         }
@@ -188,46 +164,43 @@ fn levels_on(plan: &Plan, task: usize, facts: &TaskFacts, bus: u8) -> u32 {
     count
 }
 
-/// The most halves of frames that requests to a bus come to on a path of a code.
-fn most_halves(
-    alloc: Global,
-    code: &Code,
-    facts: &TaskFacts,
-    is_event: bool,
-    bus: u8,
-) -> Result<u32, AllocError> {
-    let mut is_any = false;
-    let mut weights: Vec<u32> = vec![in alloc; 0; code.len()]?;
+/// The most halves of frames that requests to a bus come to on a path of a code. A function calls no
+/// block instance, so the paths are those of the programs, gone over from their last word to the
+/// first.
+fn most_halves(alloc: Global, facts: &TaskFacts, bus: u8) -> Result<u32, AllocError> {
+    let code = facts.code;
+    let mut most: Vec<u32> = vec![in alloc; 0; code.end_of(0)]?;
     for call in &facts.calls {
-        let halves = halves_of(facts, call, is_event, bus);
-        if let (true, Some(weight)) = (halves > 0, weights.get_mut(call.place)) {
-            *weight = halves;
-            is_any = true;
-        }
+        add_at(&mut most, call.place, halves_of(facts, call, bus));
     }
-    if !is_any {
-        return Ok(0);
+    for place in (0..code.end_of(0)).rev() {
+        let next = count_at(&most, place.saturating_add(1));
+        let on = match code.get(place) {
+            Some(Word::Jump { condition, target }) => {
+                let there = count_at(&most, target as usize);
+                if condition == Condition::Always {
+                    there
+                } else {
+                    there.max(next)
+                }
+            }
+            _ => next,
+        };
+        add_at(&mut most, place, on);
     }
-    most_on_paths(alloc, code, &weights)
+    Ok(count_at(&most, 0))
 }
 
 /// How many halves of frames a call may ask a bus for in each scan.
-fn halves_of(facts: &TaskFacts, call: &BlockCall, is_event: bool, bus: u8) -> u32 {
-    let is_there = match call.bus {
-        Some(number) => number == i64::from(bus),
-        None => true,
-    };
-    if !is_there || !call.may_request() {
+fn halves_of(facts: &TaskFacts, call: &BlockCall, bus: u8) -> u32 {
+    let number = call.port(1).unwrap_or(i64::from(bus));
+    if number != i64::from(bus) || !call.may_request() {
         return 0;
     }
     let frames = frames_of(call.kind);
-    let is_each = match facts.blocks.get(call.block) {
-        Some(use_here) => use_here.is_called_false,
-        None => true,
-    };
-    if is_event || is_each {
+    if facts.interval().is_none() || facts.block(call.block).is_false {
         frames.saturating_mul(2)
-    } else if facts.stored.port(call.block, 0) == Content::Only(1) {
+    } else if facts.port(call.block, 0).content == Content::Only(1) {
         0
     } else {
         frames

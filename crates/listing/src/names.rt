@@ -44,11 +44,6 @@ impl LineStarts {
             .copied()
             .unwrap_or(0)
     }
-
-    /// How many lines there are.
-    pub fn count(&self) -> usize {
-        self.starts.len()
-    }
 }
 
 /// The name of a variable, as declared.

@@ -1,16 +1,14 @@
 //! Notes on numbers that are likely not meant: a time of a timer that is written as a plain number,
 //! and limits the wrong way round.
 
-use crate::contents::constant_of;
-use crate::note_lines::{Added, NoteName, NotePlace, Notes};
-use crate::stars::{is_marked, mark};
+use crate::current::constant_of;
+use crate::facts::{House, TaskFacts};
+use crate::kinds;
+use crate::note::{Found, Note, NotePlace, Notes, note_at};
 use crate::uses::line_at;
 use ilblocks::BlockKind;
 use ilcode::{Code, Word};
-use ilcompile::Setup;
-use ilplan::{Activation, Plan};
 use iltypes::Operator;
-use std::alloc::AllocError;
 
 /// The number of PT among the ports of a timer.
 const TIME: u8 = 1;
@@ -19,115 +17,85 @@ const TIME: u8 = 1;
 const SHORT: i64 = 1000;
 
 /// Adds the notes on numbers, once for each line of the text.
-pub(crate) fn add_number_notes(notes: &mut Notes, setup: &Setup) -> Added {
-    let mut told = notes.unmarked_lines()?;
-    for task in 0..setup.plan().tasks() {
-        let code = setup.code(task).code();
-        for place in 0..code.len() {
-            let line = line_at(code, place);
-            if !is_marked(&told, line) && add_note(notes, setup, task, place, line)? {
-                mark(&mut told, line);
+pub(crate) fn add_number_notes(notes: &mut Notes, house: &House) {
+    notes.begin_rule();
+    for facts in &house.tasks {
+        for place in 0..facts.code.len() {
+            let line = line_at(facts.code, place);
+            notes.add_once(note_on_limits(facts.code, place, line));
+            if let Some(time) = time_at(facts.code, place) {
+                let start = notes.lines().start_of(line);
+                notes.add_once(note_on_time(facts, house.source.text(), start, line, time));
             }
         }
     }
-    Ok(())
 }
 
-/// The milliseconds between the scans of a task; 0 where events start it.
-fn interval_of(plan: &Plan, task: usize) -> u32 {
-    if task >= plan.tasks() {
-        return 0;
-    }
-    match plan.task(task).activation() {
-        Activation::Cyclic { interval } => interval,
-        Activation::Event { .. } => 0,
-    }
-}
-
-/// Adds the note on the word at a place, where there is one; whether there is.
-fn add_note(
-    notes: &mut Notes,
-    setup: &Setup,
-    task: usize,
-    place: usize,
-    line: usize,
-) -> Result<bool, AllocError> {
-    let text = setup.plan().text();
-    if task >= setup.plan().tasks() {
-        return Ok(false);
-    }
-    let code = setup.code(task).code();
-    if let Some((low, high)) = limits_at(code, place, line) {
-        if low > high {
-            notes.add(
-                NoteName::LimitsSwapped,
-                NotePlace::Line(line),
-                format!(in notes.alloc;
-                    "LIMIT {low}, {high} gives {high} whatever comes: the lower limit \
-                 stands first"
-                )?,
-            )?;
-            return Ok(true);
-        }
-    }
-    let Some(time) = time_at(code, place) else {
-        return Ok(false);
-    };
-    let interval = interval_of(setup.plan(), task);
-    if time < SHORT && is_plain(text, notes.lines.start_of(line)) {
-        notes.add(
-            NoteName::TimeWithoutUnit,
-            NotePlace::Line(line),
-            format!(in notes.alloc; "PT := {time} is {time} ms; {time} seconds are T#{time}s")?,
-        )?;
-        return Ok(true);
-    }
-    if time < i64::from(interval) {
-        notes.add(
-            NoteName::TimeBelowInterval,
-            NotePlace::Line(line),
-            format!(in notes.alloc;
-                "the time of {time} ms is over at the next scan, {interval} ms later"
-            )?,
-        )?;
-        return Ok(true);
-    }
-    Ok(false)
-}
-
-/// The limits of a LIMIT whose first word stands at a place, where both are constants.
-fn limits_at(code: &Code, place: usize, line: usize) -> Option<(i64, i64)> {
+/// The note on the constants of a LIMIT whose first word stands at a place, where they are the wrong
+/// way round.
+fn note_on_limits(code: &Code, place: usize, line: usize) -> Option<Note> {
     let next = place.saturating_add(1);
-    if line_at(code, next) != line {
+    let Word::Apply(Operator::Max, low) = code.get(place)? else {
+        return None;
+    };
+    let Word::Apply(Operator::Min, high) = code.get(next)? else {
+        return None;
+    };
+    let low = constant_of(code, low).only()?;
+    let high = constant_of(code, high).only()?;
+    if line_at(code, next) != line || low <= high {
         return None;
     }
-    match (code.get(place), code.get(next)) {
-        (Some(Word::Apply(Operator::Max, low)), Some(Word::Apply(Operator::Min, high))) => {
-            match (constant_of(code, low), constant_of(code, high)) {
-                (Some(low), Some(high)) => Some((low, high)),
-                _ => None,
-            }
-        }
-        _ => None,
-    }
+    let at = NotePlace::Line(line);
+    note_at(
+        &kinds::LIMITS_SWAPPED,
+        at,
+        Found::Number(low),
+        Found::Number(high),
+    )
 }
 
 /// The constant that a word passes to PT of a timer.
 fn time_at(code: &Code, place: usize) -> Option<i64> {
-    let (block, operand) = match code.get(place) {
-        Some(
-            Word::Pass {
-                port,
-                block,
-                operand,
-            },
-        ) if port == TIME => (block, operand),
-        _ => return None,
+    let Word::Pass {
+        port,
+        block,
+        operand,
+    } = code.get(place)?
+    else {
+        return None;
     };
-    match code.kinds().get(usize::from(block)) {
-        Some(BlockKind::Ton) => constant_of(code, operand),
-        _ => None,
+    let kind = code.kinds().get(usize::from(block))?;
+    if port != TIME || !matches!(kind, BlockKind::Ton) {
+        return None;
     }
+    constant_of(code, operand).only()
+}
+
+/// The note on a time that a call on a line, which begins at `start`, gives to a timer; in
+/// milliseconds.
+fn note_on_time(
+    facts: &TaskFacts,
+    text: &[u8],
+    start: usize,
+    line: usize,
+    time: i64,
+) -> Option<Note> {
+    let at = NotePlace::Line(line);
+    let milliseconds = Found::Number(time);
+    if time < SHORT && is_plain(text, start) {
+        return note_at(&kinds::TIME_WITHOUT_UNIT, at, milliseconds, Found::Nothing);
+    }
+    let interval = i64::from(facts.interval()?);
+    if time >= interval {
+        return None;
+    }
+    note_at(
+        &kinds::TIME_BELOW_INTERVAL,
+        at,
+        milliseconds,
+        Found::Number(interval),
+    )
 }
 
 /// Whether what a call on the line that begins there gives to PT is written as a plain number, as
@@ -153,10 +121,9 @@ fn after_byte(seen: usize, byte: u8) -> Option<usize> {
     if byte.is_ascii_whitespace() {
         return Some(seen);
     }
-    match BEFORE.get(seen) {
-        Some(wanted) if byte.to_ascii_uppercase() == *wanted => Some(seen.saturating_add(1)),
-        Some(_) if byte.to_ascii_uppercase() == b'P' => Some(1),
-        Some(_) => Some(0),
-        None => None,
+    let wanted = *BEFORE.get(seen)?;
+    if byte.to_ascii_uppercase() == wanted {
+        return Some(seen.saturating_add(1));
     }
+    Some(usize::from(byte.to_ascii_uppercase() == b'P'))
 }

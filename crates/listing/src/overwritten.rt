@@ -1,13 +1,15 @@
 //! Notes on stores that nothing comes of: each way from one stores the variable again before the
 //! scan ends, and nothing reads it in between.
 
-use crate::names::{name_of, shown};
-use crate::note_lines::{Added, NoteName, NotePlace, Notes};
-use crate::stars::{is_marked, mark};
+use crate::facts::{House, TaskFacts};
+use crate::kinds;
+use crate::names::name_of;
+use crate::note::{Added, Found, Note, NotePlace, Notes, note_at};
 use crate::uses::{line_at, slot_read_by};
 use ilcode::{Code, Target, Word};
-use ilcompile::Setup;
+use ilplan::Plan;
 use iltypes::Condition;
+use indexmap::IndexMap;
 use std::alloc::{AllocError, Global};
 
 /// How many words are looked at for a task in all, a word once for each variable: so the notes on a
@@ -22,13 +24,6 @@ struct Span {
     last: usize,
 }
 
-impl Span {
-    /// How many words there are from the first store to the last.
-    fn words(self) -> usize {
-        self.last.saturating_sub(self.first).saturating_add(1)
-    }
-}
-
 /// A store that is overwritten, and the next one.
 #[derive(Clone, Copy)]
 struct Lost {
@@ -37,17 +32,17 @@ struct Lost {
 }
 
 /// Adds a note for each variable that a task stores in vain, once for each line of the text.
-pub(crate) fn add_overwritten(notes: &mut Notes, setup: &Setup) -> Added {
-    let mut told = notes.unmarked_lines()?;
-    for task in 0..setup.plan().tasks() {
-        let code = setup.code(task).code();
-        let mut next = vec![in notes.alloc; None; code.end_of(0)]?;
+pub(crate) fn add_overwritten(notes: &mut Notes, house: &House) -> Added {
+    notes.begin_rule();
+    for facts in &house.tasks {
+        let mut next = vec![in notes.alloc; None; facts.code.end_of(0)]?;
         let mut left = MOST_LOOKED_AT;
-        for span in &spans_in(notes.alloc, code)? {
-            if span.first < span.last && span.words() <= left {
-                left = left.saturating_sub(span.words());
-                if let Some(lost) = lost_in(code, &mut next, *span) {
-                    add_note(notes, setup, &mut told, task, span.slot, lost)?;
+        for (_, span) in &spans_in(notes.alloc, facts.code)? {
+            let words = span.last.saturating_sub(span.first).saturating_add(1);
+            if span.first < span.last && words <= left {
+                left = left.saturating_sub(words);
+                if let Some(lost) = lost_in(facts.code, &mut next, *span) {
+                    notes.add_once(note_on_lost(house.plan, facts, span.slot, lost));
                 }
             }
         }
@@ -55,24 +50,16 @@ pub(crate) fn add_overwritten(notes: &mut Notes, setup: &Setup) -> Added {
     Ok(())
 }
 
-/// Where the programs of a code store each slot that they store.
-fn spans_in(alloc: Global, code: &Code) -> Result<Vec<Span>, AllocError> {
-    let mut spans: Vec<Span> = Vec::new(alloc);
-    let mut places = vec![in alloc; None; code.slots().len()]?;
+/// Where the programs of a code store each slot that they store, in the order of the first stores.
+fn spans_in(alloc: Global, code: &Code) -> Result<IndexMap<usize, Span>, AllocError> {
+    let mut spans: IndexMap<usize, Span> = IndexMap::new(alloc);
     for place in 0..code.end_of(0) {
         if let Some(slot) = stored_at(code, place) {
-            if let Some(known) = places.get_mut(slot) {
-                match *known {
-                    None => {
-                        *known = Some(spans.len());
-                        let (first, last) = (place, place);
-                        spans.push(Span { slot, first, last })?;
-                    }
-                    Some(number) => {
-                        if let Some(span) = spans.get_mut(number) {
-                            span.last = place;
-                        }
-                    }
+            match spans.get_mut(&slot) {
+                Some(span) => span.last = place,
+                None => {
+                    let (first, last) = (place, place);
+                    spans.insert(slot, Span { slot, first, last })?;
                 }
             }
         }
@@ -89,18 +76,7 @@ fn lost_in(code: &Code, next: &mut Vec<Option<usize>>, span: Span) -> Option<Los
             continue;
         };
         let behind = next_at(next, span, place.saturating_add(1));
-        let mut here = match word {
-            Word::Jump { condition, target } => {
-                let there = next_at(next, span, target as usize);
-                match (condition, there, behind) {
-                    (Condition::Always, ..) => there,
-                    (_, Some(one), Some(other)) => Some(one.min(other)),
-                    _ => None,
-                }
-            }
-            _ if slot_read_by(word) == Some(span.slot) => None,
-            _ => behind,
-        };
+        let mut here = on_from(word, next, span, behind);
         if stored_at(code, place) == Some(span.slot) {
             if let Some(next) = behind {
                 lost = Some(Lost { place, next });
@@ -112,6 +88,22 @@ fn lost_in(code: &Code, next: &mut Vec<Option<usize>>, span: Span) -> Option<Los
         }
     }
     lost
+}
+
+/// The place of a store on a way on from a word, where all ways store the variable.
+fn on_from(word: Word, next: &[Option<usize>], span: Span, behind: Option<usize>) -> Option<usize> {
+    match word {
+        Word::Jump { condition, target } => {
+            let there = next_at(next, span, target as usize);
+            match (condition, there, behind) {
+                (Condition::Always, ..) => there,
+                (_, Some(one), Some(other)) => Some(one.min(other)),
+                _ => None,
+            }
+        }
+        _ if slot_read_by(word) == Some(span.slot) => None,
+        _ => behind,
+    }
 }
 
 /// The place of a store on a way from a place, where all ways from there store the variable.
@@ -133,36 +125,10 @@ fn stored_at(code: &Code, place: usize) -> Option<usize> {
     }
 }
 
-/// Adds the note on a store, unless its line has one.
-fn add_note(
-    notes: &mut Notes,
-    setup: &Setup,
-    told: &mut Vec<bool>,
-    task: usize,
-    slot: usize,
-    lost: Lost,
-) -> Added {
-    let plan = setup.plan();
-    if task >= plan.tasks() {
-        return Ok(());
-    }
-    let code = setup.code(task).code();
-    let line = line_at(code, lost.place);
-    let Some(owner) = plan.task(task).slots().get(slot) else {
-        return Ok(());
-    };
-    let Some(name) = name_of(plan, owner.variable) else {
-        return Ok(());
-    };
-    if is_marked(told, line) {
-        return Ok(());
-    }
-    mark(told, line);
-    let name = shown(plan.text(), name);
-    let next = line_at(code, lost.next);
-    let message = format!(in notes.alloc;
-        "what is stored to {name} here is lost: each way on stores it again before the scan ends, \
-         as line {next} does, and nothing reads it in between"
-    )?;
-    notes.add(NoteName::Overwritten, NotePlace::Line(line), message)
+/// The note on a store to a slot.
+fn note_on_lost(plan: &Plan, facts: &TaskFacts, slot: usize, lost: Lost) -> Option<Note> {
+    let name = name_of(plan, facts.task.slots().get(slot)?.variable)?;
+    let at = NotePlace::Line(line_at(facts.code, lost.place));
+    let next = Found::Count(line_at(facts.code, lost.next));
+    note_at(&kinds::OVERWRITTEN, at, Found::Name(name), next)
 }

@@ -1,22 +1,23 @@
-//! Notes on what the ranges say: an operator whose result is the same whatever comes, and a level
-//! that no store turns off.
+//! Notes on what the pass of the verifier found: words that no scan reaches, operators whose result
+//! is the same whatever comes, and levels that no store turns off.
 
-use crate::contents::constant_of;
-use crate::facts::TaskFacts;
-use crate::knowing::ValuesText;
-use crate::levels::{Levels, level_of};
-use crate::note_lines::{Added, NoteName, NotePlace, Notes};
-use crate::stars::{is_marked, mark};
-use crate::task_names::{TaskNames, functions_in};
+use crate::current::constant_of;
+use crate::facts::{House, TaskFacts};
+use crate::kinds;
+use crate::levels::Driven;
+use crate::marks::{is_marked, mark};
+use crate::note::{Added, Found, Note, NotePlace, Notes, note_at, note_of, note_on};
 use crate::uses::line_at;
-use crate::words::WordText;
 use ilblocks::BlockKind;
 use ilcode::{Target, Word};
-use ilcompile::Setup;
-use ilplan::SlotOwner;
-use ilranges::{Entry, Known, passing};
+use ilplan::{Location, Plan};
+use ilranges::{Known, passing};
 use iltypes::{Operator, Range};
-use ilverify::{Pass, Passed};
+use ilverify::{Pass, Passed, most_requests};
+use std::alloc::{AllocError, Global};
+
+/// How many requests of one class wait for a bus at most.
+const MOST_WAITING: u32 = limits::MOST_WAITING as u32;
 
 /// What is stored to a level.
 #[derive(Clone, Copy)]
@@ -28,64 +29,63 @@ struct Kept {
     is_moved: bool,
 }
 
-/// What the ranges have said so far.
+/// What the pass of the verifier found, over the tasks one after another.
 #[derive(Drop)]
-struct Findings {
-    /// The lines that have a note.
-    told: Vec<bool>,
+pub(crate) struct Ranges {
+    /// The notes on words that no scan reaches.
+    unreached: Vec<Note>,
+    /// The notes on words whose result is the same whatever comes, several for a line.
+    same: Vec<Note>,
     /// What is stored to each global variable that is a level.
     stored: Vec<Option<Kept>>,
-    /// The furthest place that a jump before leads to.
-    passed: usize,
+    /// For each function of the plan whether a task before has it.
+    told: Vec<bool>,
 }
 
-/// Adds the notes on what the ranges say.
-pub(crate) fn add_range_notes(
-    notes: &mut Notes,
-    setup: &Setup,
-    facts: &[TaskFacts],
-    levels: &Levels,
-) -> Added {
-    let plan = setup.plan();
-    let mut found = Findings {
-        told: notes.unmarked_lines()?,
-        stored: vec![in notes.alloc; None; plan.globals()]?,
-        passed: 0,
+/// What the pass of the verifier finds.
+///
+/// # Errors
+///
+/// The allocator is out of memory.
+pub(crate) fn ranges_of(alloc: Global, house: &House) -> Result<Ranges, AllocError> {
+    let mut ranges = Ranges {
+        unreached: Vec::new(alloc),
+        same: Vec::new(alloc),
+        stored: vec![in alloc; None; house.plan.globals()]?,
+        told: vec![in alloc; false; house.plan.functions().len()]?,
     };
-    for (task, of_task) in facts.iter().enumerate() {
-        if task >= plan.tasks() {
-            return Ok(());
-        }
-        let functions = functions_in(notes.alloc, plan, task)?;
-        let code = setup.code(task).code();
-        let names = TaskNames {
-            plan,
-            task,
-            code,
-            functions: &functions,
-        };
-        found.look(notes, &names, of_task)?;
-    }
-    if commands_gear(facts) {
-        return Ok(());
-    }
-    for (global, kept) in found.stored.iter().enumerate() {
-        if let Some(kept) = kept {
-            add_never_off(notes, levels, global, *kept)?;
+    for facts in &house.tasks {
+        ranges.add_task(alloc, house.plan, facts)?;
+        for number in &facts.functions {
+            mark(&mut ranges.told, *number);
         }
     }
-    Ok(())
+    Ok(ranges)
 }
 
-impl Findings {
-    /// Looks at each word that a scan of a task reaches.
-    fn look(&mut self, notes: &mut Notes, names: &TaskNames, facts: &TaskFacts) -> Added {
-        let mut pass = Pass::begin(notes.alloc, names.code)?;
-        self.passed = 0;
-        for place in 0..names.code.len() {
-            if let (Some(entry), Some(word)) = (pass.entry(), names.code.get(place)) {
-                self.add_same(notes, names, place, entry, word)?;
-                self.keep(names, facts, place, entry, word);
+impl Ranges {
+    /// Adds what is found at each word of a task.
+    fn add_task(&mut self, alloc: Global, plan: &Plan, facts: &TaskFacts) -> Added {
+        let code = facts.code;
+        let mut pass = Pass::begin(alloc, code)?;
+        let mut was_reached = true;
+        let mut passed: usize = 0;
+        for place in 0..code.len() {
+            let word = code.word(place);
+            match pass.entry() {
+                Some(entry) => {
+                    self.add_word(facts, place, word, entry.result, place >= passed)?;
+                    if let Word::Jump { target, .. } = word {
+                        passed = passed.max(target as usize);
+                    }
+                    was_reached = true;
+                }
+                None => {
+                    if was_reached {
+                        self.add_unreached(plan, facts, place)?;
+                    }
+                    was_reached = false;
+                }
             }
             let Passed::On(next) = pass.advance()? else {
                 return Ok(());
@@ -95,107 +95,101 @@ impl Findings {
         Ok(())
     }
 
-    /// Adds the note on a word whose result is the same whatever comes, unless its line has one.
-    fn add_same(
-        &mut self,
-        notes: &mut Notes,
-        names: &TaskNames,
-        place: usize,
-        entry: &Entry,
-        word: Word,
-    ) -> Added {
-        let line = line_at(names.code, place);
-        let (Some(known), Some(outcome)) = (entry.result, outcome_of(names, entry, word)) else {
-            return Ok(());
+    /// Adds that no scan comes to the word at a place, or no call of its function, unless a task
+    /// before has the function.
+    fn add_unreached(&mut self, plan: &Plan, facts: &TaskFacts, place: usize) -> Added {
+        let at = NotePlace::Line(line_at(facts.code, place));
+        let found = match facts.code.body_at(place).checked_sub(1) {
+            None => note_at(
+                &kinds::UNREACHED,
+                at,
+                Found::Task(facts.number),
+                Found::Nothing,
+            ),
+            Some(function) => {
+                let number = facts.functions.get(function).copied().unwrap_or(0);
+                match plan.functions().get(number) {
+                    Some(function) if !is_marked(&self.told, number) => {
+                        let name = Found::Name(function.name());
+                        note_at(&kinds::UNREACHED_CALL, at, name, Found::Nothing)
+                    }
+                    _ => None,
+                }
+            }
         };
-        if is_marked(&self.told, line) {
-            return Ok(());
+        if let Some(note) = found {
+            self.unreached.push(note)?;
         }
-        mark(&mut self.told, line);
-        let word = WordText { names, word };
-        let outcome = if outcome { "TRUE" } else { "FALSE" };
-        let mut message = format!(in notes.alloc; "{word} gives {outcome} whatever comes")?;
-        if matches!(known, Known::Int(_)) {
-            let values = ValuesText { known };
-            message.push_str(&format!(in notes.alloc; ": the number before it is {values}")?)?;
-        }
-        notes.add(NoteName::AlwaysSame, NotePlace::Line(line), message)
+        Ok(())
     }
 
-    /// Keeps what a word stores to a level, or how far it jumps.
-    fn keep(
+    /// Adds what is found at a word that a scan reaches: the note on its result, and what it stores
+    /// to a level, in each scan or not.
+    fn add_word(
         &mut self,
-        names: &TaskNames,
         facts: &TaskFacts,
         place: usize,
-        entry: &Entry,
         word: Word,
-    ) {
-        if let Word::Jump { target, .. } = word {
-            self.passed = self.passed.max(target as usize);
+        before: Option<Known>,
+        is_always: bool,
+    ) -> Added {
+        if let Some(note) = note_on_same(facts, place, word, before) {
+            self.same.push(note)?;
         }
-        let (Some((slot, global)), Some(Known::Int(range))) = (
-            level_stored(names, word),
-            entry.result,
-        ) else {
+        if let Some((number, found)) = level_stored(facts, word, before, is_always) {
+            if let Some(kept) = self.stored.get_mut(number) {
+                *kept = Some(found.and(*kept));
+            }
+        }
+        Ok(())
+    }
+
+    /// Adds the notes on words that no scan reaches.
+    pub fn add_unreached_notes(&self, notes: &mut Notes) {
+        for note in &self.unreached {
+            notes.add(Some(*note));
+        }
+    }
+
+    /// Adds the notes on words whose result is the same whatever comes, once for each line, and on
+    /// levels that no store turns off.
+    pub fn add_range_notes(&self, notes: &mut Notes, house: &House) {
+        notes.begin_rule();
+        for note in &self.same {
+            notes.add_once(Some(*note));
+        }
+        if commands_gear(house) {
             return;
+        }
+        for (number, kept) in self.stored.iter().enumerate() {
+            if let Some(kept) = kept {
+                notes.add(note_on_level(house, number, *kept));
+            }
+        }
+    }
+}
+
+impl Kept {
+    /// With what is stored besides.
+    fn and(self, other: Option<Kept>) -> Kept {
+        let Some(other) = other else {
+            return self;
         };
-        let is_always = place >= self.passed;
-        let is_moved = facts.stored.is_moved(slot);
-        if let Some(kept) = self.stored.get_mut(global) {
-            let before = (*kept).unwrap_or(Kept {
-                values: range,
-                is_always,
-                is_moved,
-            });
-            *kept = Some(Kept {
-                values: before.values.hull(range),
-                is_always: before.is_always || is_always,
-                is_moved: before.is_moved || is_moved,
-            });
+        Kept {
+            values: other.values.hull(self.values),
+            is_always: self.is_always || other.is_always,
+            is_moved: self.is_moved || other.is_moved,
         }
     }
 }
 
-/// The truth value that a word leaves whatever comes: an operator with a constant, of which the
-/// range before it lets one outcome alone be.
-fn outcome_of(names: &TaskNames, entry: &Entry, word: Word) -> Option<bool> {
-    let Word::Apply(operator, operand) = word else {
-        return None;
-    };
-    let constant = constant_of(names.code, operand)?;
-    let known = entry.result?;
-    match operator {
-        Operator::And { negated } => {
-            if (constant == 1) == negated {
-                Some(false)
-            } else {
-                None
-            }
-        }
-        Operator::Or { negated } => {
-            if (constant == 1) != negated {
-                Some(true)
-            } else {
-                None
-            }
-        }
-        _ => match known {
-            Known::Int(range) => outcome_in(range, operator, constant),
-            Known::Bool => None,
-        },
-    }
-}
-
-/// The one outcome that a comparison of the numbers of a range with a constant has.
-fn outcome_in(range: Range, comparison: Operator, constant: i64) -> Option<bool> {
-    let holds = passing(range, comparison, constant, true).is_some();
-    let fails = passing(range, comparison, constant, false).is_some();
-    if holds == fails { None } else { Some(holds) }
-}
-
-/// The slot that a word stores and its global variable, where that is a level.
-fn level_stored(names: &TaskNames, word: Word) -> Option<(usize, usize)> {
+/// The number of the level that a word stores, and what it stores there, in each scan or not.
+fn level_stored(
+    facts: &TaskFacts,
+    word: Word,
+    before: Option<Known>,
+    is_always: bool,
+) -> Option<(usize, Kept)> {
     let Word::Store {
         variable: Target::Slot(slot),
         ..
@@ -203,45 +197,100 @@ fn level_stored(names: &TaskNames, word: Word) -> Option<(usize, usize)> {
     else {
         return None;
     };
-    if names.task >= names.plan.tasks() {
+    let Some(Known::Int(values)) = before else {
         return None;
+    };
+    let global = facts.global_at(usize::from(slot))?;
+    let is_moved = facts.is_moved(global.slot);
+    let kept = Kept {
+        values,
+        is_always,
+        is_moved,
+    };
+    match global.driven() {
+        Some(_) => Some((global.number, kept)),
+        None => None,
     }
-    let slot = usize::from(slot);
-    let owner = names.plan.task(names.task).slots().get(slot)?.variable;
-    let (global, _) = level_of(names.plan, owner)?;
-    Some((slot, global))
+}
+
+/// The note on a word that leaves the same truth value whatever comes, where it is one.
+fn note_on_same(
+    facts: &TaskFacts,
+    place: usize,
+    word: Word,
+    before: Option<Known>,
+) -> Option<Note> {
+    let known = before?;
+    let outcome = Found::Outcome(outcome_of(facts, word, known)?);
+    let (kind, third) = match known {
+        Known::Int(_) => (&kinds::ALWAYS_SAME_NUMBER, Found::Known(known)),
+        Known::Bool => (&kinds::ALWAYS_SAME, Found::Nothing),
+    };
+    let task = facts.number;
+    let word = Found::Word { task, place };
+    let at = NotePlace::Line(line_at(facts.code, place));
+    note_of(kind, at, [word, outcome, third, Found::Nothing])
+}
+
+/// The truth value that a word leaves whatever comes: an operator with a constant, of which what is
+/// known before it lets one outcome alone be.
+fn outcome_of(facts: &TaskFacts, word: Word, known: Known) -> Option<bool> {
+    let Word::Apply(operator, operand) = word else {
+        return None;
+    };
+    let constant = constant_of(facts.code, operand).only()?;
+    match (operator, known) {
+        (Operator::And { negated }, _) if (constant == 1) == negated => Some(false),
+        (Operator::Or { negated }, _) if (constant == 1) != negated => Some(true),
+        (Operator::And { .. } | Operator::Or { .. }, _) => None,
+        (_, Known::Bool) => None,
+        (_, Known::Int(range)) => {
+            let holds = passing(range, operator, constant, true).is_some();
+            let fails = passing(range, operator, constant, false).is_some();
+            if holds == fails { None } else { Some(holds) }
+        }
+    }
 }
 
 /// Whether some task commands gear by a block, which may turn lamps off.
-fn commands_gear(facts: &[TaskFacts]) -> bool {
-    facts.iter().any(|of_task| {
-        of_task.calls.iter().any(|call| matches!(
-            call.kind,
-            BlockKind::GearLevel | BlockKind::GearDo
-        ))
+fn commands_gear(house: &House) -> bool {
+    house.tasks.iter().any(|facts| {
+        facts.calls.iter().any(|call| matches!(call.kind, BlockKind::GearLevel | BlockKind::GearDo))
     })
 }
 
-/// Adds the note on a level that no store turns off, where there is one. One that has a single
-/// value in each scan is meant so, and so is one that moves, as where a button dims, or one of gear
-/// that another level drives as well.
-fn add_never_off(notes: &mut Notes, levels: &Levels, global: usize, kept: Kept) -> Added {
-    let plan = levels.plan;
+/// The note on a level that no store turns off, where it is one. One that has a single value in each
+/// scan is meant so, and so is one that moves, as where a button dims, or one of gear that another
+/// level drives as well.
+fn note_on_level(house: &House, number: usize, kept: Kept) -> Option<Note> {
     let Range { lo, hi } = kept.values;
     if lo < 1 || lo > 254 || kept.is_moved || lo == hi && kept.is_always {
-        return Ok(());
+        return None;
     }
-    let Some((global, driven)) = level_of(plan, SlotOwner::Global(global)) else {
-        return Ok(());
+    if number >= house.plan.globals() {
+        return None;
+    }
+    let global = house.plan.global(number);
+    let Some(Location::Level { bus, address }) = global.location else {
+        return None;
     };
-    if global >= plan.globals() || levels.covering(driven).is_some() {
-        return Ok(());
+    if house.levels.covering(Driven { bus, address }).is_some() {
+        return None;
     }
-    let at = NotePlace::Name(plan.global(global).name);
-    let name = plan.global_name(global);
-    notes.add(
-        NoteName::NeverOff,
-        at,
-        format!(in notes.alloc; "no store turns {name} off: the least that is stored is {lo}")?,
-    )
+    note_on(&kinds::NEVER_OFF, global.name, Found::Number(lo))
+}
+
+/// Adds a note where the tasks together may make more requests than a class of a bus has room for.
+pub(crate) fn add_request_notes(notes: &mut Notes, house: &House) -> Added {
+    let mut all: u32 = 0;
+    for facts in &house.tasks {
+        let requests = most_requests(notes.alloc, facts.code)?;
+        all = all.saturating_add(requests.unwrap_or(0));
+    }
+    if all > MOST_WAITING {
+        let all = Found::Number(i64::from(all));
+        let most = Found::Number(i64::from(MOST_WAITING));
+        notes.add(note_at(&kinds::MANY_REQUESTS, NotePlace::Whole, all, most));
+    }
+    Ok(())
 }

@@ -4,7 +4,7 @@ ghost use Rattle.std.specs.Prelude.{◌<◌, length};
 
 use crate::names::shown;
 use ilcode::Code;
-use ilplan::{DeclaredName, Plan, SlotName, SlotOwner, UserFunction};
+use ilplan::{DeclaredName, Plan, SlotName, SlotOwner, Task, UserFunction};
 use ilsource::Name;
 use std::alloc::{AllocError, Global};
 
@@ -39,6 +39,15 @@ pub fn functions_in(alloc: Global, plan: &Plan, task: usize) -> Result<Vec<usize
 }
 
 impl<'a> TaskNames<'a> {
+    /// The task.
+    fn task(&self) -> Option<&'a Task> {
+        if self.task < self.plan.tasks() {
+            Some(self.plan.task(self.task))
+        } else {
+            None
+        }
+    }
+
     /// The name of the function of this number in the code, as declared.
     pub fn function(&self, function: usize) -> Option<DeclaredName<'a>> {
         Some(shown(self.plan.text(), self.user_function(function)?.name()))
@@ -51,20 +60,14 @@ impl<'a> TaskNames<'a> {
 
     /// The name of the program instance of this number, as declared.
     pub(crate) fn instance(&self, instance: usize) -> Option<DeclaredName<'a>> {
-        if self.task >= self.plan.tasks() {
-            return None;
-        }
-        let found = self.plan.task(self.task).instances().get(instance)?;
+        let found = self.task()?.instances().get(instance)?;
         Some(shown(self.plan.text(), found.name()))
     }
 
     /// The name of the variable in a slot, as declared: `instance.variable`, `function.variable`,
     /// and of a global variable its name alone. A function's result has the function's name.
     pub(crate) fn slot(&self, slot: usize) -> Option<SlotName<'a>> {
-        if self.task >= self.plan.tasks() {
-            return None;
-        }
-        match self.plan.task(self.task).slots().get(slot) {
+        match self.task()?.slots().get(slot) {
             Some(found) => self.variable(found.variable),
             None => self.function_slot(slot),
         }
@@ -116,19 +119,13 @@ impl<'a> TaskNames<'a> {
 
     /// The name of a block instance, as declared.
     pub(crate) fn block(&self, block: usize) -> Option<SlotName<'a>> {
-        if self.task >= self.plan.tasks() {
-            return None;
-        }
-        let found = self.plan.task(self.task).blocks().get(block)?;
+        let found = self.task()?.blocks().get(block)?;
         Some(self.name_within(found.instance, found.name))
     }
 
     /// The name of a port of a block instance.
     pub(crate) fn port(&self, block: usize, port: usize) -> Option<DeclaredName<'a>> {
-        if self.task >= self.plan.tasks() {
-            return None;
-        }
-        let kind = self.plan.task(self.task).blocks().get(block)?.kind;
+        let kind = self.task()?.blocks().get(block)?.kind;
         let bytes = kind.ports().get(port)?.name.spelling();
         Some(DeclaredName { bytes })
     }

@@ -2,7 +2,8 @@
 
 use crate::spelling::{SlotText, function_text, is_return, jump_text, operator_text};
 use crate::task_names::TaskNames;
-use ilcode::{Target, Word, WordOperand};
+use crate::uses::operand_of;
+use ilcode::{Word, WordOperand};
 use std::fmt;
 
 /// A word of a task's code, as it could stand in a text; a jump leads to the number of a word, and
@@ -11,6 +12,20 @@ use std::fmt;
 pub struct WordText<'a> {
     pub names: &'a TaskNames<'a>,
     pub word: Word,
+}
+
+/// How a word is written that has one operand or variable, and that.
+fn named(word: Word) -> Option<(&'static str, WordOperand)> {
+    match word {
+        Word::Load { negated, operand } => Some((if negated { "LDN" } else { "LD" }, operand)),
+        Word::Apply(applied, operand) => Some((operator_text(applied), operand)),
+        Word::Store { negated, variable } => {
+            Some((if negated { "STN" } else { "ST" }, operand_of(variable)))
+        }
+        Word::Set(variable) => Some(("S", operand_of(variable))),
+        Word::Reset(variable) => Some(("R", operand_of(variable))),
+        _ => None,
+    }
 }
 
 impl WordText<'_> {
@@ -22,22 +37,14 @@ impl WordText<'_> {
         }
     }
 
-    /// What a store writes.
-    fn target(&self, target: Target) -> OperandText<'_> {
-        self.operand(match target {
-            Target::Slot(slot) => WordOperand::Slot(slot),
-            Target::Port { port, block } => WordOperand::Port { port, block },
-        })
-    }
-
-    /// Writes a word that names one thing.
-    fn write_with<W: fmt::Write>(
+    /// Writes what a variable or a port is given.
+    fn write_given<W: fmt::Write>(
         &self,
         f: &mut fmt::Formatter<W>,
-        name: &str,
-        operand: OperandText,
+        to: WordOperand,
+        given: WordOperand,
     ) -> fmt::Result {
-        write!(f, "{name} {operand}")
+        write!(f, "{} := {}", self.operand(to), self.operand(given))
     }
 
     /// Writes a jump.
@@ -51,14 +58,6 @@ impl WordText<'_> {
             write!(f, "{name}")
         } else {
             write!(f, "{name} {target}")
-        }
-    }
-
-    /// Writes a call of a block instance.
-    fn write_call<W: fmt::Write>(&self, f: &mut fmt::Formatter<W>, block: usize) -> fmt::Result {
-        match self.names.block(block) {
-            Some(name) => write!(f, "CAL {name}"),
-            None => write!(f, "CAL ?"),
         }
     }
 
@@ -77,41 +76,28 @@ impl WordText<'_> {
 
 impl fmt::Display for WordText<'_> {
     fn fmt<W: fmt::Write>(&self, f: &mut fmt::Formatter<W>) -> fmt::Result {
+        if let Some((name, operand)) = named(self.word) {
+            return write!(f, "{name} {}", self.operand(operand));
+        }
         match self.word {
-            Word::Load { negated, operand } => {
-                let name = if negated { "LDN" } else { "LD" };
-                self.write_with(f, name, self.operand(operand))
-            }
-            Word::Apply(applied, operand) => {
-                self.write_with(f, operator_text(applied), self.operand(operand))
-            }
             Word::Transform(applied) => f.write_str(function_text(applied)),
-            Word::Store { negated, variable } => {
-                let name = if negated { "STN" } else { "ST" };
-                self.write_with(f, name, self.target(variable))
-            }
-            Word::Set(variable) => self.write_with(f, "S", self.target(variable)),
-            Word::Reset(variable) => self.write_with(f, "R", self.target(variable)),
             Word::Pass {
                 port,
                 block,
                 operand,
-            } => {
-                let to = self.target(Target::Port { port, block });
-                write!(f, "{to} := {}", self.operand(operand))
-            }
-            Word::Call(block) => self.write_call(f, usize::from(block)),
+            } => self.write_given(f, WordOperand::Port { port, block }, operand),
+            Word::Give { operand, slot } => self.write_given(f, WordOperand::Slot(slot), operand),
+            Word::Call(block) => match self.names.block(usize::from(block)) {
+                Some(name) => write!(f, "CAL {name}"),
+                None => f.write_str("CAL ?"),
+            },
             Word::Open(opened) => write!(f, "{}(", operator_text(opened)),
-            Word::Close => f.write_str(")"),
             Word::Jump { condition, target } => {
                 let name = jump_text(self.names.code, condition, target as usize);
                 self.write_jump(f, name, target as usize)
             }
-            Word::Give { operand, slot } => {
-                let to = self.target(Target::Slot(slot));
-                write!(f, "{to} := {}", self.operand(operand))
-            }
             Word::Invoke(function) => self.write_invoke(f, usize::from(function)),
+            _ => f.write_str(")"),
         }
     }
 }
@@ -131,11 +117,9 @@ impl OperandText<'_> {
         block: usize,
         port: usize,
     ) -> fmt::Result {
-        let name = self.names.block(block);
-        let port = self.names.port(block, port);
-        match (name, port) {
+        match (self.names.block(block), self.names.port(block, port)) {
             (Some(name), Some(port)) => write!(f, "{name}.{port}"),
-            _ => write!(f, "?"),
+            _ => f.write_str("?"),
         }
     }
 }
@@ -144,16 +128,14 @@ impl fmt::Display for OperandText<'_> {
     fn fmt<W: fmt::Write>(&self, f: &mut fmt::Formatter<W>) -> fmt::Result {
         match self.operand {
             WordOperand::Slot(slot) => {
-                let slot = SlotText {
-                    names: self.names,
-                    slot: usize::from(slot),
-                };
-                write!(f, "{slot}")
+                let names = self.names;
+                let slot = usize::from(slot);
+                write!(f, "{}", SlotText { names, slot })
             }
             WordOperand::Constant(number) => {
                 match self.names.code.constants().get(usize::from(number)) {
                     Some(value) => write!(f, "{value}"),
-                    None => write!(f, "?"),
+                    None => f.write_str("?"),
                 }
             }
             WordOperand::Port { port, block } => {

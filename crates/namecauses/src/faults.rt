@@ -1,57 +1,81 @@
 //! Faults of names as they are found.
 
-use ilscope::{Found, NameCause};
+use ildeclared::DeclaredTypes;
+use ilscope::{Found, NameCause, Names, Scope, found_where};
+use ilsource::Name;
 use std::alloc::{AllocError, Global};
 
-/// Faults that were found.
+/// The faults of a text that were found, until the allocator is out of memory.
 #[derive(Drop)]
-pub(crate) struct Faults {
+pub(crate) struct Faults<'a, 's> {
+    pub alloc: Global,
+    pub scope: &'a Scope<'s>,
+    /// The text in lower case.
+    pub lower: &'a [u8],
+    /// What the types mean that were met.
+    pub types: DeclaredTypes,
     found: Vec<Found>,
+    /// Whether something was left out, since the allocator was out of memory.
+    is_cut: bool,
 }
 
-impl Faults {
+impl<'a, 's> Faults<'a, 's> {
     /// None.
-    pub(crate) fn new(alloc: Global) -> Faults {
+    pub(crate) fn new(alloc: Global, scope: &'a Scope<'s>, lower: &'a [u8]) -> Faults<'a, 's> {
         Faults {
+            alloc,
+            scope,
+            lower,
+            types: Names::new(alloc),
             found: Vec::new(alloc),
+            is_cut: false,
         }
-    }
-
-    /// One more at a place, where it is a fault.
-    pub(crate) fn add_where(
-        &mut self,
-        is_fault: bool,
-        at: usize,
-        cause: NameCause,
-    ) -> Result<(), AllocError> {
-        if is_fault {
-            self.found.push(Found { at, cause })?;
-        }
-        Ok(())
     }
 
     /// One more, where one was found.
-    pub(crate) fn add_found(&mut self, found: Option<Found>) -> Result<(), AllocError> {
+    pub(crate) fn add(&mut self, found: Option<Found>) {
         if let Some(found) = found {
-            self.found.push(found)?;
+            let is_cut = self.found.push(found).is_err();
+            self.is_cut = self.is_cut || is_cut;
+        }
+    }
+
+    /// One more at a name, where it is a fault.
+    pub(crate) fn add_where(&mut self, is_fault: bool, name: Name, cause: NameCause) {
+        self.add(found_where(is_fault, name.from, cause));
+    }
+
+    /// Those of names that are spelled as one before them.
+    pub(crate) fn add_twice(&mut self, names: Result<Vec<Name>, AllocError>) {
+        let added = match names {
+            Ok(names) => self.add_repeated(&names),
+            Err(refused) => Err(refused),
+        };
+        self.is_cut = self.is_cut || added.is_err();
+    }
+
+    /// The same, of names that were gathered.
+    fn add_repeated(&mut self, names: &[Name]) -> Result<(), AllocError> {
+        let mut given = Names::new(self.alloc);
+        for name in names {
+            let is_new = given.add(self.alloc, name.text(self.lower), ())?;
+            self.add_where(!is_new, *name, NameCause::Twice);
         }
         Ok(())
     }
 
-    /// The least at each place, in the order of the text: others there mostly follow from it.
-    pub(crate) fn in_order(self, alloc: Global) -> Result<Vec<Found>, AllocError> {
+    /// All of them in the order of the text, by their causes at one place.
+    ///
+    /// # Errors
+    ///
+    /// The allocator was out of memory at some time.
+    pub(crate) fn in_order(self) -> Result<Vec<Found>, AllocError> {
         let mut all = self.found;
         all.sort_by_key(|fault| (fault.at, fault.cause.number()))?;
-        let mut each: Vec<Found> = Vec::new(alloc);
-        for fault in &all {
-            let is_known = match each.last() {
-                Some(last) => last.at == fault.at,
-                None => false,
-            };
-            if !is_known {
-                each.push(*fault)?;
-            }
+        if self.is_cut {
+            Err(AllocError)
+        } else {
+            Ok(all)
         }
-        Ok(each)
     }
 }

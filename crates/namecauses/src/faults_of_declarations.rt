@@ -1,138 +1,71 @@
-//! Faults of what declarations say, and of names that are given twice.
+//! Faults of what types, functions and programs declare.
 
 use crate::faults::Faults;
+use crate::standing::name_of;
 use ildeclared::{
-    DeclaredTypes, declared_type, fault_of, fault_of_result, function_names, names_of,
+    declared_type, fault_of, fault_of_all, fault_of_blocks, fault_of_result, function_names,
+    names_of,
 };
-use ilscope::{NameCause, Names};
-use ilsource::{
-    Declaration, Declared, Element, Name, Program, Source, SourceFunction, TypeDeclaration,
-};
-use std::alloc::{AllocError, Global};
+use ilscope::NameCause;
+use ilsource::{Declaration, Declared, Element, SourceFunction, TypeDeclaration};
+use std::alloc::AllocError;
 
-/// Adds the faults of types, functions and programs; what each type of the text means. `lower` is
-/// the text in lower case.
-pub(crate) fn add_elements(
-    alloc: Global,
-    faults: &mut Faults,
-    lower: &[u8],
-    source: &Source,
-) -> Result<DeclaredTypes, AllocError> {
-    let mut types = Names::new(alloc);
-    let mut names = Vec::new(alloc);
-    for element in source.elements() {
-        match element {
-            Element::DerivedType(declared) => {
-                names.push(declared.name)?;
-                add_type(alloc, faults, lower, &mut types, *declared)?;
-            }
-            Element::Function(function) => {
-                names.push(function.name())?;
-                add_function(alloc, faults, lower, &types, function)?;
-            }
-            Element::Program(program) => {
-                names.push(program.name())?;
-                add_program(alloc, faults, lower, &types, program)?;
+impl Faults<'_, '_> {
+    /// Adds the faults of types, functions and programs, and what each type means.
+    pub(crate) fn add_elements(&mut self) -> Result<(), AllocError> {
+        let scope = self.scope;
+        let elements = scope.source().elements();
+        for element in elements {
+            match element {
+                Element::DerivedType(declared) => self.add_type(*declared)?,
+                Element::Function(function) => self.add_function(function),
+                Element::Program(program) => {
+                    self.add_twice(names_of(self.alloc, program));
+                    self.add_declarations(program.declarations());
+                }
             }
         }
+        self.add_twice(elements.iter().map(name_of).collect(self.alloc));
+        Ok(())
     }
-    add_twice(alloc, faults, lower, &names)?;
-    Ok(types)
-}
 
-/// Adds the faults of names that are spelled as one before them.
-pub(crate) fn add_twice(
-    alloc: Global,
-    faults: &mut Faults,
-    lower: &[u8],
-    names: &[Name],
-) -> Result<(), AllocError> {
-    let mut given = Names::new(alloc);
-    for (number, name) in names.iter().enumerate() {
-        let is_new = given.add(alloc, name.text(lower), number)?;
-        faults.add_where(!is_new, name.from, NameCause::Twice)?;
+    /// Adds the fault of a type, and the type to those above what follows.
+    fn add_type(&mut self, declared: TypeDeclaration) -> Result<(), AllocError> {
+        let TypeDeclaration {
+            name,
+            specification,
+            initial,
+        } = declared;
+        let variables = Declared::Variables {
+            specification,
+            initial,
+        };
+        let found = fault_of(self.lower, &self.types, &[name], variables);
+        self.add(found);
+        let meaning = declared_type(self.lower, &self.types, specification, initial);
+        self.types.add(self.alloc, name.text(self.lower), meaning)?;
+        Ok(())
     }
-    Ok(())
-}
 
-/// Adds the fault of a type, and the type to those above what follows.
-fn add_type(
-    alloc: Global,
-    faults: &mut Faults,
-    lower: &[u8],
-    types: &mut DeclaredTypes,
-    declared: TypeDeclaration,
-) -> Result<(), AllocError> {
-    let TypeDeclaration {
-        name,
-        specification,
-        initial,
-    } = declared;
-    let declared = Declared::Variables {
-        specification,
-        initial,
-    };
-    faults.add_found(fault_of(lower, types, &[name], declared))?;
-    let meaning = declared_type(lower, types, specification, initial);
-    types.add(alloc, name.text(lower), meaning)?;
-    Ok(())
-}
-
-/// Adds the faults of what a function declares.
-fn add_function(
-    alloc: Global,
-    faults: &mut Faults,
-    lower: &[u8],
-    types: &DeclaredTypes,
-    function: &SourceFunction,
-) -> Result<(), AllocError> {
-    let names = function_names(alloc, function)?;
-    let has_no_input = function.inputs().is_empty();
-    add_twice(alloc, faults, lower, &names)?;
-    faults.add_where(
-        has_no_input,
-        function.name().from,
-        NameCause::BadDeclaration,
-    )?;
-    faults.add_found(fault_of_result(lower, types, function))?;
-    add_declarations(faults, lower, types, function.inputs())?;
-    add_declarations(faults, lower, types, function.variables())?;
-    add_blocks(faults, function.variables())
-}
-
-/// Adds the faults of what a program declares.
-fn add_program(
-    alloc: Global,
-    faults: &mut Faults,
-    lower: &[u8],
-    types: &DeclaredTypes,
-    program: &Program,
-) -> Result<(), AllocError> {
-    let names = names_of(alloc, program)?;
-    add_twice(alloc, faults, lower, &names)?;
-    add_declarations(faults, lower, types, program.declarations())
-}
-
-/// Adds the fault of each declaration.
-fn add_declarations(
-    faults: &mut Faults,
-    lower: &[u8],
-    types: &DeclaredTypes,
-    declarations: &[Declaration],
-) -> Result<(), AllocError> {
-    for one in declarations {
-        faults.add_found(fault_of(lower, types, one.names(), one.declared_kind()))?;
-    }
-    Ok(())
-}
-
-/// Adds the faults of block instances, of which a function has none.
-fn add_blocks(faults: &mut Faults, declarations: &[Declaration]) -> Result<(), AllocError> {
-    for one in declarations {
-        if let Some(name) = one.names().first() {
-            let is_block = matches!(one.declared_kind(), Declared::Blocks(_));
-            faults.add_where(is_block, name.from, NameCause::BadDeclaration)?;
+    /// Adds the faults of what a function declares.
+    fn add_function(&mut self, function: &SourceFunction) {
+        let has_no_input = function.inputs().is_empty();
+        self.add_where(has_no_input, function.name(), NameCause::BadDeclaration);
+        self.add_twice(function_names(self.alloc, function));
+        let found = fault_of_result(self.lower, &self.types, function);
+        self.add(found);
+        self.add_declarations(function.inputs());
+        self.add_declarations(function.variables());
+        for one in function.variables().chunks(1) {
+            self.add(fault_of_blocks(one));
         }
     }
-    Ok(())
+
+    /// Adds the fault of each declaration.
+    fn add_declarations(&mut self, declarations: &[Declaration]) {
+        for one in declarations.chunks(1) {
+            let found = fault_of_all(self.lower, &self.types, one);
+            self.add(found);
+        }
+    }
 }

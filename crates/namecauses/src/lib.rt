@@ -12,23 +12,21 @@
 #![tactic(auto)]
 
 mod addresses;
-mod all_faults;
+mod answers;
 mod declarations;
+mod facts;
 mod faults;
 mod faults_of_configuration;
 mod faults_of_declarations;
 mod faults_of_lines;
-mod function_causes;
-mod function_places;
-mod known_names;
 mod name_answers;
 mod name_causes;
 mod name_habits;
-mod near_names;
-mod occurrences;
 mod other_faults;
 mod said;
-mod scopes;
+mod standing;
+mod tokens;
+mod unknown_names;
 mod written_twice;
 
 pub use name_answers::answer_name;

@@ -4,7 +4,7 @@ use curing::Advice;
 
 /// Names that other languages have for one thing, in small letters; what to write in their place,
 /// empty where no word does; and what is said of them.
-pub(crate) type NameHabit = (&'static [&'static str], &'static str, Advice);
+pub(crate) type NameHabit = (&'static [&'static str], &'static str, &'static Advice);
 
 const TOF: Advice = Advice {
     what: "there is no TOF, a delay at switching off",
@@ -108,10 +108,10 @@ const INSTRUCTION: Advice = Advice {
     line: "LD button",
 };
 
-/// What is said of an instruction that has another word here; the cure names it.
-pub(crate) const OTHER_WORD: Advice = Advice {
+/// What is said of an instruction that has another word here.
+const OTHER_WORD: Advice = Advice {
     what: "an instruction that has another word here",
-    cure: "",
+    cure: "write {0}",
     line: "LD button\nANDN off\nST light",
 };
 
@@ -134,10 +134,10 @@ const EDGE: Advice = Advice {
     line: "CAL press(CLK := button)\nLD press.Q",
 };
 
-/// What is said of a type that has another word here; the cure names it.
+/// What is said of a type that has another word here.
 const OTHER_TYPE: Advice = Advice {
     what: "a type that has another word here",
-    cure: "",
+    cure: "write {0}",
     line: "VAR button : BOOL; END_VAR",
 };
 
@@ -169,34 +169,34 @@ const FRAME: Advice = Advice {
 
 /// Function blocks that other languages have.
 const BLOCKS: &[NameHabit] = &[
-    (&["tof"], "", TOF),
-    (&["tp"], "", TP),
-    (&["rs", "sr"], "", LATCH),
-    (&["ctd", "ctud"], "", DOWN),
-    (&["f_trig"], "", FALLING),
+    (&["tof"], "", &TOF),
+    (&["tp"], "", &TP),
+    (&["rs", "sr"], "", &LATCH),
+    (&["ctd", "ctud"], "", &DOWN),
+    (&["f_trig"], "", &FALLING),
 ];
 
 /// Types that other languages have.
 const TYPES: &[NameHabit] = &[
-    (&["real", "lreal", "float", "double"], "DINT", REAL),
-    (&["byte"], "USINT", BYTE),
-    (&["word"], "UINT", BYTE),
-    (&["dword"], "UDINT", BYTE),
-    (&["lint"], "DINT", LONG),
-    (&["lword", "ulint"], "UDINT", LONG),
-    (&["string", "wstring", "char"], "", STRING),
-    (&["boolean", "bit"], "BOOL", OTHER_TYPE),
-    (&["int8"], "SINT", OTHER_TYPE),
-    (&["integer", "int16"], "INT", OTHER_TYPE),
-    (&["int32"], "DINT", OTHER_TYPE),
-    (&["uint8"], "USINT", OTHER_TYPE),
-    (&["uint16"], "UINT", OTHER_TYPE),
-    (&["uint32"], "UDINT", OTHER_TYPE),
-    (&["timer", "s5time"], "", TIMER),
+    (&["real", "lreal", "float", "double"], "DINT", &REAL),
+    (&["byte"], "USINT", &BYTE),
+    (&["word"], "UINT", &BYTE),
+    (&["dword"], "UDINT", &BYTE),
+    (&["lint"], "DINT", &LONG),
+    (&["lword", "ulint"], "UDINT", &LONG),
+    (&["string", "wstring", "char"], "", &STRING),
+    (&["boolean", "bit"], "BOOL", &OTHER_TYPE),
+    (&["int8"], "SINT", &OTHER_TYPE),
+    (&["integer", "int16"], "INT", &OTHER_TYPE),
+    (&["int32"], "DINT", &OTHER_TYPE),
+    (&["uint8"], "USINT", &OTHER_TYPE),
+    (&["uint16"], "UINT", &OTHER_TYPE),
+    (&["uint32"], "UDINT", &OTHER_TYPE),
+    (&["timer", "s5time"], "", &TIMER),
     (
         &["date", "tod", "time_of_day", "dt", "date_and_time"],
         "",
-        DATE,
+        &DATE,
     ),
 ];
 
@@ -205,7 +205,7 @@ const STATEMENTS: &[NameHabit] = &[
     (
         &["if", "else", "end_if", "elsif", "case", "end_case"],
         "",
-        STRUCTURED,
+        &STRUCTURED,
     ),
     (
         &[
@@ -218,64 +218,64 @@ const STATEMENTS: &[NameHabit] = &[
             "end_repeat",
         ],
         "",
-        LOOP,
+        &LOOP,
     ),
-    (&["sel", "mux"], "", SELECT),
-    (&["shl", "shr"], "", SHIFT),
-    (&["rol", "ror"], "", ROTATION),
+    (&["sel", "mux"], "", &SELECT),
+    (&["shl", "shr"], "", &SHIFT),
+    (&["rol", "ror"], "", &ROTATION),
 ];
 
 /// Instructions alone on their line.
-const ALONE: &[NameHabit] = &[(&["set"], "LD TRUE", OTHER_WORD)];
+const ALONE: &[NameHabit] = &[(&["set"], "LD TRUE", &OTHER_WORD)];
 
 /// Instructions by the names that they have elsewhere.
 const INSTRUCTIONS: &[NameHabit] = &[
-    (&["goto", "jump"], "JMP", INSTRUCTION),
-    (&["return"], "RET", INSTRUCTION),
-    (&["load"], "LD", INSTRUCTION),
-    (&["store"], "ST", INSTRUCTION),
-    (&["set"], "S", INSTRUCTION),
-    (&["reset"], "R", INSTRUCTION),
-    (&["call"], "CAL", INSTRUCTION),
-    (&["out"], "ST", OTHER_WORD),
-    (&["rst"], "R", OTHER_WORD),
-    (&["inv"], "NOT", OTHER_WORD),
-    (&["ldi", "ldnot"], "LDN", OTHER_WORD),
-    (&["ani", "andnot"], "ANDN", OTHER_WORD),
-    (&["ori", "ornot"], "ORN", OTHER_WORD),
-    (&["xnor", "xornot"], "XORN", OTHER_WORD),
-    (&["gte"], "GE", OTHER_WORD),
-    (&["lte"], "LE", OTHER_WORD),
-    (&["nand", "nor"], "", TURNED),
-    (&["sn", "rn"], "", TURNED_STORE),
-    (&["begin", "end", "network"], "", FRAME),
+    (&["goto", "jump"], "JMP", &INSTRUCTION),
+    (&["return"], "RET", &INSTRUCTION),
+    (&["load"], "LD", &INSTRUCTION),
+    (&["store"], "ST", &INSTRUCTION),
+    (&["set"], "S", &INSTRUCTION),
+    (&["reset"], "R", &INSTRUCTION),
+    (&["call"], "CAL", &INSTRUCTION),
+    (&["out"], "ST", &OTHER_WORD),
+    (&["rst"], "R", &OTHER_WORD),
+    (&["inv"], "NOT", &OTHER_WORD),
+    (&["ldi", "ldnot"], "LDN", &OTHER_WORD),
+    (&["ani", "andnot"], "ANDN", &OTHER_WORD),
+    (&["ori", "ornot"], "ORN", &OTHER_WORD),
+    (&["xnor", "xornot"], "XORN", &OTHER_WORD),
+    (&["gte"], "GE", &OTHER_WORD),
+    (&["lte"], "LE", &OTHER_WORD),
+    (&["nand", "nor"], "", &TURNED),
+    (&["sn", "rn"], "", &TURNED_STORE),
+    (&["begin", "end", "network"], "", &FRAME),
 ];
 
 /// What Siemens' lists have: the word that stands for it, and what is said where none does.
 const SIEMENS: &[NameHabit] = &[
-    (&["l"], "LD", OTHER_WORD),
-    (&["t"], "ST", OTHER_WORD),
-    (&["a", "u"], "AND", OTHER_WORD),
-    (&["an", "un"], "ANDN", OTHER_WORD),
-    (&["o"], "OR", OTHER_WORD),
-    (&["x"], "XOR", OTHER_WORD),
-    (&["xn"], "XORN", OTHER_WORD),
-    (&["ju", "spa"], "JMP", OTHER_WORD),
-    (&["jc", "spb"], "JMPC", OTHER_WORD),
-    (&["jcn", "spbn"], "JMPCN", OTHER_WORD),
-    (&["be", "bea", "beu"], "RET", OTHER_WORD),
-    (&["beb", "bec"], "RETC", OTHER_WORD),
-    (&["clr"], "LD FALSE", OTHER_WORD),
-    (&["neg", "negi", "negd"], "MUL -1", OTHER_WORD),
-    (&["inc"], "ADD", OTHER_WORD),
-    (&["dec"], "SUB", OTHER_WORD),
-    (&["move", "mov"], "", MOVE),
-    (&["nop"], "", NOTHING_DONE),
-    (&["fp", "fn"], "", EDGE),
-    (&["ldp", "andp", "orp", "pls"], "", EDGE),
-    (&["ldf", "andf", "orf", "plf"], "", EDGE),
-    (&["slw", "srw", "sld", "srd"], "", SHIFT),
-    (&["se", "sd", "sa", "sf"], "", TIMER),
+    (&["l"], "LD", &OTHER_WORD),
+    (&["t"], "ST", &OTHER_WORD),
+    (&["a", "u"], "AND", &OTHER_WORD),
+    (&["an", "un"], "ANDN", &OTHER_WORD),
+    (&["o"], "OR", &OTHER_WORD),
+    (&["x"], "XOR", &OTHER_WORD),
+    (&["xn"], "XORN", &OTHER_WORD),
+    (&["ju", "spa"], "JMP", &OTHER_WORD),
+    (&["jc", "spb"], "JMPC", &OTHER_WORD),
+    (&["jcn", "spbn"], "JMPCN", &OTHER_WORD),
+    (&["be", "bea", "beu"], "RET", &OTHER_WORD),
+    (&["beb", "bec"], "RETC", &OTHER_WORD),
+    (&["clr"], "LD FALSE", &OTHER_WORD),
+    (&["neg", "negi", "negd"], "MUL -1", &OTHER_WORD),
+    (&["inc"], "ADD", &OTHER_WORD),
+    (&["dec"], "SUB", &OTHER_WORD),
+    (&["move", "mov"], "", &MOVE),
+    (&["nop"], "", &NOTHING_DONE),
+    (&["fp", "fn"], "", &EDGE),
+    (&["ldp", "andp", "orp", "pls"], "", &EDGE),
+    (&["ldf", "andf", "orf", "plf"], "", &EDGE),
+    (&["slw", "srw", "sld", "srd"], "", &SHIFT),
+    (&["se", "sd", "sa", "sf"], "", &TIMER),
 ];
 
 /// What is said of a name that is not declared, where other languages have it; instructions only
@@ -301,16 +301,10 @@ pub(crate) fn name_habit(
 /// The first of some that has a name.
 fn habit_among(habits: &'static [NameHabit], found: &[u8]) -> Option<&'static NameHabit> {
     for habit in habits {
-        if has_name(habit.0, found) {
+        let mut names = habit.0.iter();
+        if names.any(|name| found.eq_ignore_ascii_case(name.as_bytes())) {
             return Some(habit);
         }
     }
     None
-}
-
-/// Whether a name is one of several.
-fn has_name(names: &[&str], found: &[u8]) -> bool {
-    names
-        .iter()
-        .any(|name| found.eq_ignore_ascii_case(name.as_bytes()))
 }

@@ -1,12 +1,14 @@
 //! The faults of names of a text besides the one that is explained.
 
-use crate::all_faults::all_faults;
+use crate::faults::Faults;
 use crate::name_answers::what_of;
+use crate::standing::lower_case;
 use curing::{AskedText, place_of};
-use ilscope::{Found, NameCause, NameFault, report_of};
+use ilscope::{Found, NameCause, NameFault, Scope, report_of};
 use ilsource::Source;
 use iltext::parse;
 use std::alloc::{AllocError, Global};
+use wordlines::Binding;
 
 /// How many faults are named at most.
 const MOST_NAMED: usize = 20;
@@ -48,30 +50,33 @@ impl OtherFaults {
         let Ok(source) = parse(alloc, asked.text) else {
             return Err(AllocError);
         };
-        let first = Found {
-            at: place_of(asked.text, line, col),
-            cause,
-        };
-        OtherFaults::behind(alloc, asked, &source, first)
+        let found = all_faults(alloc, &source, asked.binding)?;
+        let at = place_of(asked.text, line, col);
+        OtherFaults::behind(alloc, asked, &source, Found { at, cause }, &found)
     }
 
-    /// Those of a text behind this fault, where it is the least.
+    /// Those of some behind this fault, where it is the least.
     fn behind(
         alloc: Global,
         asked: &AskedText,
         source: &Source,
         first: Found,
+        found: &[Found],
     ) -> Result<OtherFaults, AllocError> {
-        let found = all_faults(alloc, source, asked.binding)?;
-        let is_least = is_least(first, &found);
         let mut all = OtherFaults {
             named: Vec::new(alloc),
             more: 0,
         };
-        for other in &found {
-            if is_least && !is_same(*other, first) {
+        if !is_least(first, found) {
+            return Ok(all);
+        }
+        let mut last: Option<usize> = None;
+        for other in found {
+            // The others at one place mostly follow from the least there.
+            if last != Some(other.at) && !is_same(*other, first) {
                 all.add(alloc, asked, source, *other)?;
             }
+            last = Some(other.at);
         }
         Ok(all)
     }
@@ -115,4 +120,23 @@ fn is_least(fault: Found, found: &[Found]) -> bool {
 /// Whether both are one fault.
 fn is_same(one: Found, other: Found) -> bool {
     one.at == other.at && one.cause == other.cause
+}
+
+/// The faults of names of a text in its order. Left out are those of what is too much (cause 11),
+/// and such as only follow from another one.
+fn all_faults(alloc: Global, source: &Source, binding: &Binding) -> Result<Vec<Found>, AllocError> {
+    let scope = Scope::of(alloc, source, binding)?;
+    let lower = lower_case(alloc, source.text())?;
+    let mut faults = Faults::new(alloc, &scope, &lower);
+    faults.add_elements()?;
+    faults.add_bodies()?;
+    faults.add_addresses(binding)?;
+    match source.configuration() {
+        Some(configuration) => {
+            faults.add_configuration(configuration)?;
+            faults.add_written_twice(configuration.instances())?;
+        }
+        None => faults.add_externals(&[])?,
+    }
+    faults.in_order()
 }

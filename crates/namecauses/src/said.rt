@@ -1,103 +1,88 @@
-//! What is said of a fault of names, with changes that may cure it.
+//! What is said of a fault of names, as plain values.
 
-use crate::near_names::near_edit;
-use curing::{Advice, AskedText, Edit, EditOutcome, FaultAnswer, Spot};
-use std::alloc::{AllocError, Global};
+use curing::Advice;
+use ilblocks::BlockKind;
 
-/// What is said of a fault of names, with changes that may cure it.
-#[derive(Drop)]
+/// What is said of a fault of names.
+#[derive(Clone, Copy)]
 pub(crate) struct Said {
-    pub answer: FaultAnswer,
-    changes: Changes,
+    /// A row of texts, in which `{0}` to `{3}` stand for the slots.
+    pub advice: &'static Advice,
+    pub slots: [Slot; 4],
+    pub fact: Fact,
+    pub change: Change,
 }
 
-/// Changes, of which the first that helps is shown.
-#[derive(Drop)]
-enum Changes {
-    Edits(Vec<Edit>),
+/// What stands in a text in place of a number in braces.
+#[derive(Clone, Copy)]
+pub(crate) enum Slot {
+    Nothing,
+    Word(&'static str),
+    Number(u64),
+    /// A number that a declaration has.
+    Limit(i64),
+    /// These bytes of the text.
+    Part(usize, usize),
+}
+
+/// What more is known of a fault.
+#[derive(Clone, Copy)]
+pub(crate) enum Fact {
+    Nothing,
+    /// The name or the address was given first at this place.
+    GivenFirst(usize),
+    /// The label stands at this place.
+    Label(usize),
+    /// The line of VAR_GLOBAL at this place.
+    Global(usize),
+    /// The lines that store to the variable.
+    Stores,
+    /// The inputs of the function that is called.
+    Inputs,
+    /// The ports of a block.
+    Ports(BlockKind),
+    /// How many buses there are.
+    Buses,
+    /// Which sources there are.
+    Sources,
+}
+
+/// What may cure a fault; it is shown where it does.
+#[derive(Clone, Copy)]
+pub(crate) enum Change {
+    Nothing,
     /// Another word, or a name of the text, that is near to what was found.
     Near,
+    /// This text, which has slots too, in place of the bytes from one place to another.
+    Put(usize, usize, &'static str),
+    /// The address of a source of the binding: this word, and the number that is added to its own.
+    Source(&'static str, u64),
 }
 
 impl Said {
-    /// An answer, with no change.
-    pub(crate) fn plain(alloc: Global, answer: FaultAnswer) -> Said {
+    /// What a row says, and nothing else.
+    pub(crate) fn of(advice: &'static Advice) -> Said {
         Said {
-            answer,
-            changes: Changes::Edits(Vec::new(alloc)),
+            advice,
+            slots: [Slot::Nothing, Slot::Nothing, Slot::Nothing, Slot::Nothing],
+            fact: Fact::Nothing,
+            change: Change::Nothing,
         }
     }
 
-    /// What advice says, with no change.
-    pub(crate) fn of(alloc: Global, advice: &Advice) -> Result<Said, AllocError> {
-        Ok(Said::plain(alloc, FaultAnswer::of(alloc, *advice)?))
+    /// The same, with what stands for the first two slots.
+    pub(crate) fn with_pair(self, first: Slot, second: Slot) -> Said {
+        let slots = [first, second, Slot::Nothing, Slot::Nothing];
+        Said { slots, ..self }
     }
 
-    /// An answer, with what is near to what was found.
-    pub(crate) fn with_near(answer: FaultAnswer) -> Said {
-        Said {
-            answer,
-            changes: Changes::Near,
-        }
+    /// The same, with more that is known.
+    pub(crate) fn with_fact(self, fact: Fact) -> Said {
+        Said { fact, ..self }
     }
 
-    /// An answer, with a change.
-    pub(crate) fn with_edit(
-        alloc: Global,
-        answer: FaultAnswer,
-        edit: Edit,
-    ) -> Result<Said, AllocError> {
-        let mut edits = Vec::new(alloc);
-        edits.push(edit)?;
-        Ok(Said::with_edits(answer, edits))
+    /// The same, with what may cure the fault.
+    pub(crate) fn with_change(self, change: Change) -> Said {
+        Said { change, ..self }
     }
-
-    /// An answer, with changes.
-    pub(crate) fn with_edits(answer: FaultAnswer, edits: Vec<Edit>) -> Said {
-        Said {
-            answer,
-            changes: Changes::Edits(edits),
-        }
-    }
-
-    /// The answer, with the first change that helps.
-    pub(crate) fn tried(
-        self,
-        alloc: Global,
-        asked: &AskedText,
-        spot: &Spot,
-    ) -> Result<FaultAnswer, AllocError> {
-        let Said { answer, changes } = self;
-        let found = match changes {
-            Changes::Edits(edits) => first_cure(alloc, asked, edits)?,
-            Changes::Near => near_edit(alloc, asked, spot)?,
-        };
-        match found {
-            Some(edit) => answer.with_tried(alloc, asked.text, &edit),
-            None => Ok(answer),
-        }
-    }
-}
-
-/// The first of some changes that helps.
-fn first_cure(
-    alloc: Global,
-    asked: &AskedText,
-    edits: Vec<Edit>,
-) -> Result<Option<Edit>, AllocError> {
-    for edit in edits {
-        if is_cure(alloc, asked, &edit)? {
-            return Ok(Some(edit));
-        }
-    }
-    Ok(None)
-}
-
-/// Whether the names of a text with a change have no fault up to the change.
-pub(crate) fn is_cure(alloc: Global, asked: &AskedText, edit: &Edit) -> Result<bool, AllocError> {
-    Ok(match edit.outcome(alloc, asked)? {
-        EditOutcome::Accepted | EditOutcome::Code { .. } => true,
-        EditOutcome::Name { is_later, .. } => is_later,
-        EditOutcome::Text => false,
-    })
 }

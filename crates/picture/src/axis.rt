@@ -1,15 +1,16 @@
-//! The axis of a picture: where its columns stand, in pixels.
+//! The axis of a picture: where its columns stand, in pixels or in letters.
 
-use crate::gathering::gather;
 use crate::labels::labels_of;
-use crate::spans::{Scale, Span, spans_of};
+use crate::timeline::{Scale, Stop, stops_of};
 use crate::{Column, Moment, Picture};
 use std::alloc::{AllocError, Global};
 
-/// From one column to the next, at least, where each column has the same width.
+/// From one column to the next, at least, where each column has the same width, in pixels.
 pub(crate) const LEAST_STEP: usize = 30;
 /// From one column to the next, at most.
 const MOST_STEP: usize = 60;
+/// The width that an axis of columns of one width fills where there is room.
+const EVEN_WIDTH: usize = 784;
 /// The least width of a column on an axis that is true to time, in thousandths of a pixel.
 const LEAST_WIDTH: u64 = 3_000;
 
@@ -29,23 +30,45 @@ pub(crate) struct Label {
     pub moment: Moment,
 }
 
-/// Where the columns of a picture stand, and its moments.
+/// Where columns of a picture stand, and its moments.
 #[derive(Drop)]
 pub(crate) struct Axis {
+    /// The number of the first column.
+    pub first: usize,
+    /// Where the first column begins.
+    pub left: usize,
+    /// Where the last column ends.
+    pub right: usize,
     pub places: Vec<Place>,
     pub labels: Vec<Label>,
     /// Where the times begin that are left out.
     pub breaks: Vec<usize>,
-    /// Where the last column ends.
-    pub right: usize,
     /// Whether each column has the same width, at which all that is written has room.
     pub is_even: bool,
 }
 
 impl Axis {
+    /// An axis on which no column stands yet.
+    fn new(alloc: Global, left: usize, right: usize, is_even: bool) -> Axis {
+        Axis {
+            first: 0,
+            left,
+            right,
+            places: Vec::new(alloc),
+            labels: Vec::new(alloc),
+            breaks: Vec::new(alloc),
+            is_even,
+        }
+    }
+
+    /// The number behind that of the last column; where there is none, behind that of a first one.
+    pub fn end(&self) -> usize {
+        self.first.saturating_add(self.places.len().max(1))
+    }
+
     /// The place of a column.
     pub fn place(&self, column: usize) -> Place {
-        match self.places.get(column) {
+        match self.places.get(column.saturating_sub(self.first)) {
             Some(place) => *place,
             None => Place {
                 left: self.right,
@@ -55,48 +78,58 @@ impl Axis {
     }
 }
 
-/// A picture and its axis between two places. Where its columns have room there beside each other,
-/// each has the same width; else the axis is true to time. Then a moment, and what was heard, is
-/// one column with all that follows from it, and columns that fall together are one.
+/// The axis on which each of these columns has this width, and its marks stand so far in it.
+pub(crate) fn even_axis(
+    alloc: Global,
+    columns: &[Column],
+    left: usize,
+    step: usize,
+    inset: usize,
+) -> Result<Axis, AllocError> {
+    let mut axis = Axis::new(alloc, left, left, true);
+    for column in columns {
+        let middle = axis.right.saturating_add(inset);
+        axis.places.push(Place {
+            left: axis.right,
+            middle,
+        })?;
+        if let Some(moment) = column.moment {
+            axis.labels.push(Label { x: middle, moment })?;
+        }
+        axis.right = axis.right.saturating_add(step);
+    }
+    Ok(axis)
+}
+
+/// Places the columns of a picture between two places. Where they have room there beside each
+/// other, each has the same width; else the axis is true to time. Then a moment, and what was
+/// heard, is one column with all that follows from it, and columns that fall together are one.
 pub(crate) fn place_columns(
     alloc: Global,
-    picture: Picture,
+    picture: &mut Picture,
     left: usize,
     end: usize,
-) -> Result<(Picture, Axis), AllocError> {
+) -> Result<Axis, AllocError> {
     let columns = picture.columns.len();
     let room = end.saturating_sub(left);
     if columns.saturating_mul(LEAST_STEP) <= room {
-        let axis = even_axis(alloc, &picture.columns, left)?;
-        return Ok((picture, axis));
+        let step = EVEN_WIDTH.saturating_sub(left) / columns.max(1);
+        let step = step.max(LEAST_STEP).min(MOST_STEP);
+        let mut axis = even_axis(alloc, &picture.columns, left, step, step / 2)?;
+        axis.right = axis.right.max(left.saturating_add(step));
+        return Ok(axis);
     }
     let steps = steps_of(alloc, &picture.columns)?;
-    let picture = gather(alloc, picture, &steps)?;
-    let spans = spans_of(alloc, &picture.columns)?;
-    let scale = Scale::of(&spans, thousandths(room));
-    let starts = starts_of(alloc, &spans, &scale, left)?;
-    let numbers = numbers_of(alloc, &starts)?;
-    let axis = Axis {
-        places: places_of(alloc, &starts, &numbers)?,
-        labels: labels_of(alloc, &spans, &scale, thousandths(left))?,
-        breaks: breaks_of(alloc, &spans, &scale, left)?,
-        right: end,
-        is_even: false,
-    };
-    Ok((gather(alloc, picture, &numbers)?, axis))
-}
-
-/// The numbers that columns have where each that follows from another one is one with it.
-fn steps_of(alloc: Global, columns: &[Column]) -> Result<Vec<usize>, AllocError> {
-    let mut steps = Vec::new(alloc);
-    let mut step: usize = 0;
-    for column in columns {
-        if !column.follows && !steps.is_empty() {
-            step = step.saturating_add(1);
-        }
-        steps.push(step)?;
-    }
-    Ok(steps)
+    picture.regroup(alloc, &steps)?;
+    let mut stops = stops_of(alloc, &picture.columns)?;
+    let scale = Scale::of(&stops, thousandths(room));
+    scale.place(&mut stops, thousandths(left));
+    let mut axis = Axis::new(alloc, left, end, false);
+    axis.labels = labels_of(alloc, &stops, &scale)?;
+    axis.breaks = breaks_of(alloc, &stops, &scale)?;
+    let numbers = place_stops(alloc, &stops, &mut axis.places)?;
+    picture.regroup(alloc, &numbers)?;
+    Ok(axis)
 }
 
 /// Pixels in thousandths.
@@ -109,105 +142,47 @@ pub(crate) fn pixels(thousandths: u64) -> usize {
     usize::try_from(thousandths / 1000).unwrap_or(0)
 }
 
-/// The width that an axis of columns of one width fills where there is room.
-const EVEN_WIDTH: usize = 784;
-
-/// The axis on which each of these columns has the same width.
-fn even_axis(alloc: Global, columns: &[Column], left: usize) -> Result<Axis, AllocError> {
-    let room = EVEN_WIDTH.saturating_sub(left);
-    let step = (room / columns.len().max(1)).max(LEAST_STEP).min(MOST_STEP);
-    let mut places = Vec::new(alloc);
-    let mut labels = Vec::new(alloc);
-    let mut next = left;
+/// The numbers that columns have where each that follows from another one is one with it.
+fn steps_of(alloc: Global, columns: &[Column]) -> Result<Vec<Option<usize>>, AllocError> {
+    let mut steps = Vec::new(alloc);
+    let mut step: usize = 0;
     for column in columns {
-        let middle = next.saturating_add(step / 2);
-        places.push(Place { left: next, middle })?;
-        if let Some(moment) = column.moment {
-            labels.push(Label { x: middle, moment })?;
+        if !column.follows && !steps.is_empty() {
+            step = step.saturating_add(1);
         }
-        next = next.saturating_add(step);
+        steps.push(Some(step))?;
     }
-    Ok(Axis {
-        places,
-        labels,
-        breaks: Vec::new(alloc),
-        right: next.max(left.saturating_add(step)),
-        is_even: true,
-    })
+    Ok(steps)
 }
 
-/// Where each column begins on an axis that is true to time, in thousandths of a pixel.
-fn starts_of(
+/// Places columns, of which those are one that begin closer to each other than a column is wide at
+/// least: each where the first one of its number begins. Their numbers.
+fn place_stops(
     alloc: Global,
-    spans: &[Span],
-    scale: &Scale,
-    left: usize,
-) -> Result<Vec<u64>, AllocError> {
-    let mut starts = Vec::new(alloc);
-    let mut next = thousandths(left);
-    for span in spans {
-        add_starts(&mut starts, span, scale, next)?;
-        next = next.saturating_add(scale.span(span));
-    }
-    Ok(starts)
-}
-
-/// Adds where the columns of a span begin, the first one at `start`.
-fn add_starts(
-    starts: &mut Vec<u64>,
-    span: &Span,
-    scale: &Scale,
-    start: u64,
-) -> Result<(), AllocError> {
-    for column in 0..span.columns {
-        starts.push(start.saturating_add(column.saturating_mul(scale.column)))?;
-    }
-    Ok(())
-}
-
-/// The numbers that columns have where those are one that begin closer to each other than a column
-/// is wide at least.
-fn numbers_of(alloc: Global, starts: &[u64]) -> Result<Vec<usize>, AllocError> {
+    stops: &[Stop],
+    places: &mut Vec<Place>,
+) -> Result<Vec<Option<usize>>, AllocError> {
     let mut numbers = Vec::new(alloc);
-    let mut number: usize = 0;
-    let mut begins = starts.first().copied().unwrap_or(0);
-    for start in starts {
-        if start.saturating_sub(begins) >= LEAST_WIDTH {
-            number = number.saturating_add(1);
+    let mut begins = 0;
+    for Stop { start, .. } in stops {
+        if places.is_empty() || start.saturating_sub(begins) >= LEAST_WIDTH {
             begins = *start;
+            let left = pixels(begins);
+            let middle = pixels(begins.saturating_add(LEAST_WIDTH / 2));
+            places.push(Place { left, middle })?;
         }
-        numbers.push(number)?;
+        numbers.push(places.len().checked_sub(1))?;
     }
     Ok(numbers)
 }
 
-/// The places of the columns with these numbers: each where the first one of its number begins.
-fn places_of(alloc: Global, starts: &[u64], numbers: &[usize]) -> Result<Vec<Place>, AllocError> {
-    let mut places = Vec::new(alloc);
-    for (start, number) in starts.iter().zip(numbers.iter()) {
-        if *number >= places.len() {
-            let left = pixels(*start);
-            let middle = pixels(start.saturating_add(LEAST_WIDTH / 2));
-            places.push(Place { left, middle })?;
-        }
-    }
-    Ok(places)
-}
-
 /// Where the times begin that are left out.
-fn breaks_of(
-    alloc: Global,
-    spans: &[Span],
-    scale: &Scale,
-    left: usize,
-) -> Result<Vec<usize>, AllocError> {
+fn breaks_of(alloc: Global, stops: &[Stop], scale: &Scale) -> Result<Vec<usize>, AllocError> {
     let mut breaks = Vec::new(alloc);
-    let mut next = thousandths(left);
-    for span in spans {
-        if scale.leaves_out(span.gap) {
-            breaks.push(pixels(next.saturating_add(scale.columns_of(span))))?;
+    for stop in stops {
+        if scale.leaves_out(stop.gap) {
+            breaks.push(pixels(stop.start.saturating_add(scale.column)))?;
         }
-        next = next.saturating_add(scale.span(span));
     }
     Ok(breaks)
 }

@@ -2,12 +2,12 @@
 
 use crate::Moment;
 use crate::axis::{Label, pixels};
-use crate::spans::{Scale, Span};
+use crate::timeline::{Scale, Stop};
 use std::alloc::{AllocError, Global};
 
 /// From one round moment to the next, at least, in thousandths of a pixel.
 const LEAST_DISTANCE: u64 = 55_000;
-/// The most round moments of a span, so that there is an end.
+/// The most round moments behind a column, so that there is an end.
 const MOST_LABELS: u64 = 100;
 
 /// Milliseconds from one round moment to the next, from which a distance is chosen.
@@ -19,86 +19,71 @@ const DISTANCES: [u64; 21] = [
 /// A day, in milliseconds.
 const DAY: u64 = 86_400_000;
 
-/// The moments below these spans, of which the first begins at `left`, in thousandths of a pixel:
-/// the first one, the first behind each time that is left out, and round ones.
+/// The moments below these columns: the first one, the first behind each time that is left out, and
+/// round ones.
 pub(crate) fn labels_of(
     alloc: Global,
-    spans: &[Span],
+    stops: &[Stop],
     scale: &Scale,
-    left: u64,
 ) -> Result<Vec<Label>, AllocError> {
     let mut labels = Vec::new(alloc);
     let distance = distance_of(scale);
-    let mut start = left;
     let mut is_first = true;
-    for span in spans {
-        if is_first || round_up(span.moment, distance) == span.moment {
-            add_label(&mut labels, start, span.moment)?;
+    for stop in stops {
+        let is_round = round_up(stop.moment, distance) == stop.moment;
+        if stop.begins && (is_first || is_round) {
+            labels.push(label_at(stop.start, stop.moment))?;
         }
-        add_round(&mut labels, span, scale, start, distance)?;
-        is_first = scale.leaves_out(span.gap);
-        start = start.saturating_add(scale.span(span));
+        is_first = scale.leaves_out(stop.gap);
+        if !is_first {
+            add_round(&mut labels, stop, scale, distance)?;
+        }
     }
     Ok(labels)
 }
 
-/// The least distance of round moments that has room.
+/// The least distance of round moments that has room: one of those above, or so many days.
 fn distance_of(scale: &Scale) -> u64 {
     for distance in DISTANCES {
         if scale.width_of(distance) >= LEAST_DISTANCE {
             return distance;
         }
     }
-    days_of(scale)
-}
-
-/// So many days as have room.
-fn days_of(scale: &Scale) -> u64 {
     let mut distance = DAY;
     for _ in 0..40 {
-        if scale.width_of(distance) >= LEAST_DISTANCE {
-            return distance;
+        if scale.width_of(distance) < LEAST_DISTANCE {
+            distance = distance.saturating_mul(2);
         }
-        distance = distance.saturating_mul(2);
     }
     distance
 }
 
-/// Adds a moment below a place.
-fn add_label(labels: &mut Vec<Label>, x: u64, milliseconds: u64) -> Result<(), AllocError> {
-    labels.push(Label {
+/// A moment below a place.
+fn label_at(x: u64, milliseconds: u64) -> Label {
+    Label {
         x: pixels(x.saturating_add(500)),
         moment: Moment { milliseconds },
-    })?;
-    Ok(())
+    }
 }
 
-/// Adds the round moments between a span that begins at `start` and the next one, at a distance from
-/// each other.
+/// Adds the round moments between a column and the next one, at a distance from each other.
 fn add_round(
     labels: &mut Vec<Label>,
-    span: &Span,
+    stop: &Stop,
     scale: &Scale,
-    start: u64,
     distance: u64,
 ) -> Result<(), AllocError> {
-    if scale.leaves_out(span.gap) {
-        return Ok(());
-    }
-    let first = round_up(span.moment, distance);
-    let columns = start.saturating_add(scale.columns_of(span));
+    let first = round_up(stop.moment, distance);
+    let end = stop.start.saturating_add(scale.column);
     for number in 0..MOST_LABELS {
         let moment = first.saturating_add(number.saturating_mul(distance));
-        let after = moment.saturating_sub(span.moment);
-        if after >= span.gap {
+        let after = moment.saturating_sub(stop.moment);
+        if after >= stop.gap {
             return Ok(());
         }
         if after > 0 {
-            add_label(
-                labels,
-                columns.saturating_add(scale.width_of(after)),
-                moment,
-            )?;
+            let x = end.saturating_add(scale.width_of(after));
+            labels.push(label_at(x, moment))?;
         }
     }
     Ok(())

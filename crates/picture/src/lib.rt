@@ -6,28 +6,29 @@
 //! the code it is proved that it is safe and ends, for every picture.
 //!
 //! ```text
-//! picture.buses[0].add(alloc, column, Sign::Answered(200))?;
+//! picture.rows[0].set(column, Sign::Answered(200))?;
 //! write_svg(alloc, &mut out, picture)?;
 //! ```
 #![tactic(auto)]
 
 mod axis;
-mod gathering;
+mod elements;
 mod kinds;
 mod labels;
+mod marks;
 mod moment;
 mod parts;
-mod selecting;
+mod regrouping;
+mod rows;
 mod sheet;
-mod spans;
+mod signs;
 mod svg;
-mod svg_elements;
-mod svg_marks;
 mod svg_rows;
 mod text;
-mod text_cells;
+mod text_rows;
+mod timeline;
 
 pub use moment::Moment;
-pub use parts::{Column, Picture, Row, RowMark, Sign};
+pub use parts::{Column, Kind, Picture, Row, RowMark, Sign};
 pub use svg::write_svg;
 pub use text::write_text;

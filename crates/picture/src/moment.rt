@@ -9,28 +9,6 @@ pub struct Moment {
     pub milliseconds: u64,
 }
 
-impl Moment {
-    /// How many characters it is printed with.
-    pub(crate) fn width(self) -> usize {
-        let mut counter = Counter { letters: 0 };
-        let _ = write!(counter, "{self}");
-        counter.letters
-    }
-}
-
-/// Counts what is written: one byte a character, as those of a moment are.
-#[derive(Drop)]
-struct Counter {
-    letters: usize,
-}
-
-impl fmt::Write for Counter {
-    fn write_str(&mut self, text: &str) -> fmt::Result {
-        self.letters = self.letters.saturating_add(text.len());
-        Ok(())
-    }
-}
-
 impl fmt::Display for Moment {
     fn fmt<W: fmt::Write>(&self, f: &mut fmt::Formatter<W>) -> fmt::Result {
         if self.milliseconds == 0 {
@@ -50,24 +28,38 @@ fn write_part<W: fmt::Write>(f: &mut fmt::Formatter<W>, many: u64, unit: &str) -
     write!(f, "{many}{unit}")
 }
 
-/// Writes less than a minute, in milliseconds, where it is more than none.
+/// Writes less than a minute, in milliseconds, where it is more than none, without zeros at the end
+/// of its fraction.
 fn write_seconds<W: fmt::Write>(f: &mut fmt::Formatter<W>, milliseconds: u64) -> fmt::Result {
     let whole = milliseconds / 1000;
     let rest = milliseconds % 1000;
+    let (fraction, digits) = match (rest % 10, rest % 100) {
+        (0, 0) => (rest / 100, 1),
+        (0, _) => (rest / 10, 2),
+        _ => (rest, 3),
+    };
     if rest == 0 {
         return write_part(f, whole, "s");
     }
-    let (fraction, digits) = decimals_of(rest);
     write!(f, "{whole}.{fraction:0digits$}s")
 }
 
-/// Thousandths as a fraction without zeros at its end, and its digits.
-fn decimals_of(thousandths: u64) -> (u64, usize) {
-    if thousandths % 100 == 0 {
-        (thousandths / 100, 1)
-    } else if thousandths % 10 == 0 {
-        (thousandths / 10, 2)
-    } else {
-        (thousandths, 3)
+/// How many characters it takes to print this.
+pub(crate) fn width_of<D: fmt::Display>(shown: &D) -> usize {
+    let mut counter = Counter { letters: 0 };
+    let _ = write!(counter, "{shown}");
+    counter.letters
+}
+
+/// Counts the characters of what is written.
+#[derive(Drop)]
+struct Counter {
+    letters: usize,
+}
+
+impl fmt::Write for Counter {
+    fn write_str(&mut self, text: &str) -> fmt::Result {
+        self.letters = self.letters.saturating_add(text.chars().count());
+        Ok(())
     }
 }

@@ -1,25 +1,18 @@
 //! What a picture is made of.
 
 use crate::Moment;
+use crate::signs::lasting;
 use std::alloc::{AllocError, Global};
 
-/// What a scenario did. Of rows of each kind there may be any number.
+/// What a scenario did.
 #[derive(Drop)]
 pub struct Picture {
     /// What it is of: the files of the scenario.
     pub name: String,
     /// The steps of time, from left to right.
     pub columns: Vec<Column>,
-    /// The levels of lamps, of groups, and of all lamps of a bus.
-    pub lamps: Vec<Row>,
-    /// What was heard of buttons and sensors.
-    pub sources: Vec<Row>,
-    /// When tasks ran.
-    pub tasks: Vec<Row>,
-    /// The values of variables.
-    pub variables: Vec<Row>,
-    /// What was sent on buses.
-    pub buses: Vec<Row>,
+    /// What is followed through time: any number of rows of each kind. They are drawn kind by kind.
+    pub rows: Vec<Row>,
     /// What is said below, a line each.
     pub notes: Vec<String>,
 }
@@ -37,20 +30,33 @@ pub struct Column {
     pub title: String,
 }
 
+/// A kind of rows.
+#[derive(Clone, Copy, PartialEq, Eq)]
+pub enum Kind {
+    /// The level of a lamp, of a group, or of all lamps of a bus.
+    Level,
+    /// What was heard of a button or a sensor.
+    Source,
+    /// When a task ran.
+    Task,
+    /// The value of a variable.
+    Variable,
+    /// What was sent on a bus.
+    Bus,
+}
+
 /// A thing that a picture follows through time.
 #[derive(Drop)]
 pub struct Row {
+    pub kind: Kind,
     /// What people call it; `-` where it has no name.
     pub name: String,
     /// Where it is.
     pub place: String,
     /// The bus that it belongs to, where it belongs to one.
     pub bus: Option<u8>,
-    /// Its level before its first mark, where it has one; of a variable that is TRUE 254, and of one
-    /// that is FALSE 0.
-    pub level: Option<u8>,
-    /// The number that it is before its first mark, where it is a variable that is one.
-    pub number: Option<i64>,
+    /// Its level or value before its first mark, where it has one.
+    pub first: Option<Sign>,
     /// What happened to it, by rising columns.
     pub marks: Vec<RowMark>,
 }
@@ -98,59 +104,21 @@ impl Picture {
         Picture {
             name: String::new(alloc),
             columns: Vec::new(alloc),
-            lamps: Vec::new(alloc),
-            sources: Vec::new(alloc),
-            tasks: Vec::new(alloc),
-            variables: Vec::new(alloc),
-            buses: Vec::new(alloc),
+            rows: Vec::new(alloc),
             notes: Vec::new(alloc),
         }
     }
 }
 
 impl Row {
-    /// A row to which nothing happened.
-    pub fn new(alloc: Global, name: String, place: String, bus: Option<u8>) -> Self {
-        Row {
-            name,
-            place,
-            bus,
-            level: None,
-            number: None,
-            marks: Vec::new(alloc),
-        }
-    }
-
-    /// Adds what happened in a column; a column has one mark of a row, the first.
-    ///
-    /// # Errors
-    ///
-    /// The allocator is out of memory.
-    pub fn add(&mut self, column: usize, sign: Sign) -> Result<(), AllocError> {
-        if let Some(last) = self.marks.last() {
-            if last.column >= column {
-                return Ok(());
-            }
-        }
-        self.marks.push(RowMark { column, sign })?;
-        Ok(())
-    }
-
-    /// The row of a variable that has the value of this mark before anything happened.
-    pub fn of_variable(alloc: Global, name: String, first: Sign) -> Self {
-        let mut row = Row::new(alloc, name, String::new(alloc), None);
-        row.level = level_of(first);
-        row.number = number_of(first);
-        row
-    }
-
-    /// Sets the value that the variable has from a column on, where it is another one than before.
+    /// Sets what happened in a column, unless that is the level or the value that it has already. A
+    /// column has one mark of a row, the last.
     ///
     /// # Errors
     ///
     /// The allocator is out of memory.
     pub fn set(&mut self, column: usize, sign: Sign) -> Result<(), AllocError> {
-        if self.last_level() == level_of(sign) && self.last_number() == number_of(sign) {
+        if lasting(self.before(usize::MAX)) == Some(sign) {
             return Ok(());
         }
         match self.marks.last_mut() {
@@ -160,80 +128,27 @@ impl Row {
         Ok(())
     }
 
-    /// The number that it is now, where it is a variable that is one.
-    fn last_number(&self) -> Option<i64> {
-        match self.marks.last() {
-            Some(mark) => number_of(mark.sign),
-            None => self.number,
+    /// The last mark before a column; before the first one, what it was then.
+    pub(crate) fn before(&self, column: usize) -> Option<Sign> {
+        let Some(last) = self.marks_before(column).checked_sub(1) else {
+            return self.first;
+        };
+        match self.marks.get(last) {
+            Some(mark) => Some(mark.sign),
+            None => None,
         }
     }
 
-    /// The level that it has now, where it has one.
-    pub fn last_level(&self) -> Option<u8> {
-        match self.marks.last() {
-            Some(mark) => level_of(mark.sign),
-            None => self.level,
-        }
-    }
-
-    /// What it is called below a picture: by its place where it has no name.
-    pub(crate) fn called(&self) -> &str {
-        if self.name.as_str() == "-" {
-            &self.place
-        } else {
-            &self.name
-        }
-    }
-
-    /// What happened in a column.
-    pub(crate) fn sign_at(&self, column: usize) -> Option<Sign> {
-        match self.marks.get(self.marks_before(column)) {
-            Some(mark) if mark.column == column => Some(mark.sign),
-            _ => None,
-        }
-    }
-
-    /// The level before a column, where there was one.
-    pub(crate) fn level_before(&self, column: usize) -> Option<u8> {
-        match self.marks_before(column).checked_sub(1) {
-            Some(before) => match self.marks.get(before) {
-                Some(mark) => level_of(mark.sign),
-                None => None,
-            },
-            None => self.level,
-        }
-    }
-
-    /// The number before a column, where there was one.
-    pub(crate) fn number_before(&self, column: usize) -> Option<i64> {
-        match self.marks_before(column).checked_sub(1) {
-            Some(before) => match self.marks.get(before) {
-                Some(mark) => number_of(mark.sign),
-                None => None,
-            },
-            None => self.number,
+    /// The marks from a column on.
+    pub(crate) fn since(&self, column: usize) -> &[RowMark] {
+        match self.marks.get(self.marks_before(column)..) {
+            Some(marks) => marks,
+            None => &[],
         }
     }
 
     /// How many marks stand before a column.
     fn marks_before(&self, column: usize) -> usize {
         self.marks.partition_point(|mark| mark.column < column)
-    }
-}
-
-/// The level that a mark shows.
-pub(crate) fn level_of(sign: Sign) -> Option<u8> {
-    match sign {
-        Sign::Level(level) => Some(level),
-        Sign::Truth(truth) => Some(if truth { 254 } else { 0 }),
-        _ => None,
-    }
-}
-
-/// The number that a mark shows of a variable.
-pub(crate) fn number_of(sign: Sign) -> Option<i64> {
-    match sign {
-        Sign::Number(number) => Some(number),
-        _ => None,
     }
 }

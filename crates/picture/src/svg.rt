@@ -1,15 +1,37 @@
 //! A picture as SVG.
 
-use crate::axis::{Label, place_columns};
-use crate::kinds::blocks_of;
-use crate::sheet::{EDGE, MOMENTS, NOTE, Sheet, TOP, end_of, left_of, letters_of, width_of};
-use crate::svg_elements::{begin_words, write_plain, write_stroke, write_words};
-use crate::svg_rows::write_rows;
-use crate::{Column, Picture};
+use crate::Picture;
+use crate::axis::{Axis, Label, place_columns};
+use crate::elements::{begin_words, fill, write_plain, write_words};
+use crate::kinds::{Block, blocks_of, fold, widest_of, words_of};
+use crate::moment::width_of;
+use crate::rows::{Form, draw_rows};
+use crate::sheet::{
+    EDGE, HEADING, LEAST_WIDTH, LETTER, MOMENTS, NAME_LETTER, NOTE, Size, TOP, end_of, end_of_rows,
+    place_blocks,
+};
 use page::Page;
-use std::alloc::Global;
+use std::alloc::{AllocError, Global};
 use std::io;
 use std::io::Write;
+
+/// What begins an SVG, up to its title, with its width and height two times.
+const HEAD: &str = "<svg xmlns=\"http://www.w3.org/2000/svg\" viewBox=\"0 0 {} {}\" \
+width=\"{}\" height=\"{}\" font-family=\"system-ui, 'DejaVu Sans', sans-serif\" \
+font-size=\"12\">\n<title>";
+
+/// The line of a moment: its place, and where it ends.
+const MOMENT: &str = "<path class=\"m\" d=\"M{} {}V{}\"/>\n";
+
+/// A time that is left out: the place and the height of its band, and where its strokes begin.
+const BREAK: &str = "<rect class=\"g\" x=\"{}\" y=\"{}\" width=\"20\" height=\"{}\"/>
+<path class=\"z\" d=\"M{} {}l4 -12m4 12l4 -12\"/>\n";
+
+/// What begins the title of a column: its place, its width and its height.
+const TITLE: &str = "<rect class=\"c\" x=\"{}\" y=\"{}\" width=\"{}\" height=\"{}\"><title>";
+
+/// What is said of an axis that isn't true to time.
+const EVEN: &str = "columns in their order: the axis is not true to time";
 
 /// The looks of what is drawn, by classes.
 const STYLE: &str = "<style>
@@ -67,29 +89,36 @@ const SIGNS: &str = "<circle class=\"s\" cx=\"5\" cy=\"-4\" r=\"5\"/>
 ///
 /// The writer's, or that the allocator is out of memory.
 pub fn write_svg<W: Write>(alloc: Global, out: &mut W, picture: Picture) -> io::Result<()> {
-    let left = left_of(&picture);
-    let (picture, axis) = place_columns(alloc, picture, left, end_of(left))?;
-    let blocks = blocks_of(alloc, &picture, letters_of(width_of(&axis)))?;
-    let sheet = Sheet::of(left, axis, &blocks, picture.notes.len());
+    svg_of(alloc, picture)?.write_to(out)
+}
+
+/// A picture as SVG.
+fn svg_of(alloc: Global, mut picture: Picture) -> Result<Page, AllocError> {
+    let mut blocks = blocks_of(alloc, &picture.rows)?;
+    let names = widest_of(&picture.rows, &blocks, NAME_LETTER, LETTER);
+    let left = names.saturating_add(2 * EDGE);
+    let axis = place_columns(alloc, &mut picture, left, end_of(left))?;
+    let width = axis.right.saturating_add(EDGE).max(LEAST_WIDTH);
+    let letters = width.saturating_sub(2 * EDGE) / LETTER;
+    fold(alloc, &mut blocks, &picture.rows, letters)?;
+    let size = place_blocks(&mut blocks, width, picture.notes.len());
     let mut page = Page::new(alloc);
-    write_head(&mut page, &picture.name, &sheet);
-    write_breaks(&mut page, &sheet);
-    write_moments(&mut page, &sheet);
-    write_rows(&mut page, &blocks, &sheet);
-    write_foot(&mut page, &picture.notes, &sheet);
-    write_titles(&mut page, &picture.columns, &sheet);
+    write_head(&mut page, &picture.name, size);
+    write_breaks(&mut page, &axis, size.bottom);
+    write_moments(&mut page, &axis, size.bottom);
+    for block in &blocks {
+        draw_block(alloc, &mut page, &picture, block, &axis, size.is_low)?;
+    }
+    write_foot(&mut page, &picture.notes, size.bottom);
+    write_titles(&mut page, &picture, &axis, size.bottom);
     page.text("</svg>\n");
-    page.write_to(out)
+    Ok(page)
 }
 
 /// Writes what stands before all that is drawn, and the picture's name.
-fn write_head(page: &mut Page, name: &str, sheet: &Sheet) {
-    page.text("<svg xmlns=\"http://www.w3.org/2000/svg\" viewBox=\"0 0 ");
-    page.count(sheet.width);
-    page.text(" ");
-    page.count(sheet.height);
-    write_size(page, "\" width=\"", sheet.width, sheet.height);
-    page.text("\" font-family=\"system-ui, 'DejaVu Sans', sans-serif\" font-size=\"12\">\n<title>");
+fn write_head(page: &mut Page, name: &str, size: Size) {
+    let Size { width, height, .. } = size;
+    fill(page, HEAD, &[width, height, width, height]);
     write_plain(page, name);
     page.text("</title>\n");
     page.text(STYLE);
@@ -97,106 +126,88 @@ fn write_head(page: &mut Page, name: &str, sheet: &Sheet) {
     write_words(page, "d", EDGE, TOP - 8, name);
 }
 
-/// Writes a width and a height as looks of an element, behind what begins them.
-fn write_size(page: &mut Page, begins: &str, width: usize, height: usize) {
-    page.text(begins);
-    page.count(width);
-    page.text("\" height=\"");
-    page.count(height);
-}
-
-/// Begins a rectangle of a class from the first heading down, at `x`, up to its further looks.
-fn begin_band(page: &mut Page, class: &str, x: usize, width: usize, sheet: &Sheet) {
-    page.text("<rect class=\"");
-    page.text(class);
-    page.text("\" x=\"");
-    page.count(x);
-    page.text("\" y=\"");
-    page.count(TOP);
-    write_size(page, "\" width=\"", width, sheet.bottom.saturating_sub(TOP));
-}
-
 /// Marks the times that are left out: a band over all rows, and two strokes below.
-fn write_breaks(page: &mut Page, sheet: &Sheet) {
-    let y = sheet.bottom.saturating_add(6);
-    for left in sheet.axis.breaks.iter() {
-        begin_band(page, "g", left.saturating_add(8), 20, sheet);
-        page.text("\"/>\n<path class=\"z\" d=\"M");
-        page.count(left.saturating_add(12));
-        page.text(" ");
-        page.count(y);
-        page.text("l4 -12m4 12l4 -12\"/>\n");
+fn write_breaks(page: &mut Page, axis: &Axis, bottom: usize) {
+    let height = bottom.saturating_sub(TOP);
+    let y = bottom.saturating_add(6);
+    for left in axis.breaks.iter() {
+        let (x, begins) = (left.saturating_add(8), left.saturating_add(12));
+        fill(page, BREAK, &[x, TOP, height, begins, y]);
     }
 }
 
 /// Draws a line for each moment, and writes its name below where there is room; and that the axis
 /// isn't true to time, where it isn't.
-fn write_moments(page: &mut Page, sheet: &Sheet) {
+fn write_moments(page: &mut Page, axis: &Axis, bottom: usize) {
     let mut free: usize = 0;
-    let end = sheet.bottom.saturating_add(4);
-    for label in sheet.axis.labels.iter() {
+    let end = bottom.saturating_add(4);
+    for label in axis.labels.iter() {
         let x = label.x;
-        let half = label.moment.width().saturating_mul(7) / 2;
-        write_stroke(page, "m", x, TOP, 'V', end);
+        let half = width_of(&label.moment).saturating_mul(7) / 2;
+        fill(page, MOMENT, &[x, TOP, end]);
         if x >= free.saturating_add(half) {
-            write_moment(page, label, sheet.bottom);
+            write_moment(page, label, bottom);
             free = x.saturating_add(half).saturating_add(6);
         }
     }
-    if sheet.axis.is_even && sheet.axis.places.len() > 1 {
-        let y = sheet.bottom.saturating_add(31);
-        write_words(
-            page,
-            "p",
-            EDGE,
-            y,
-            "columns in their order: the axis is not true to time",
-        );
+    if axis.is_even && axis.places.len() > 1 {
+        write_words(page, "p", EDGE, bottom.saturating_add(31), EVEN);
     }
 }
 
 /// Writes the name of a moment below the rows.
 fn write_moment(page: &mut Page, label: &Label, bottom: usize) {
     begin_words(page, "k", label.x, bottom.saturating_add(18));
-    page.text("\" text-anchor=\"middle\">");
+    page.text(" text-anchor=\"middle\">");
     page.shown(&label.moment);
     page.text("</text>\n");
 }
 
-/// Writes what the signs mean, and the notes.
-fn write_foot(page: &mut Page, notes: &[String], sheet: &Sheet) {
-    let mut y = sheet.bottom.saturating_add(MOMENTS + NOTE - 4);
-    write_signs(page, y);
-    for note in notes {
+/// Draws the rows of a kind, below its heading, and what is said of those that are folded.
+fn draw_block(
+    alloc: Global,
+    page: &mut Page,
+    picture: &Picture,
+    block: &Block,
+    axis: &Axis,
+    is_low: bool,
+) -> Result<(), AllocError> {
+    let (heading, _) = words_of(block.kind);
+    let y = block.top.saturating_add(HEADING - 8);
+    write_words(page, "h", EDGE, y, heading);
+    let form = Form::Svg { is_low };
+    draw_rows(alloc, page, &picture.rows, block, axis, form)?;
+    let end = end_of_rows(block, is_low);
+    write_lines(page, "p", &block.folded, end.saturating_add(NOTE - 6));
+    Ok(())
+}
+
+/// Writes lines with the looks of a class, the first one at a height.
+fn write_lines(page: &mut Page, class: &str, lines: &[String], y: usize) {
+    let mut y = y;
+    for line in lines {
+        write_words(page, class, EDGE, y, line);
         y = y.saturating_add(NOTE);
-        write_words(page, "x", EDGE, y, note);
     }
 }
 
-/// Writes what the signs mean, on a line of text.
-fn write_signs(page: &mut Page, y: usize) {
-    page.text("<g transform=\"translate(");
-    page.count(EDGE);
-    page.text(" ");
-    page.count(y);
-    page.text(")\">\n");
+/// Writes what the signs mean, and the notes.
+fn write_foot(page: &mut Page, notes: &[String], bottom: usize) {
+    let y = bottom.saturating_add(MOMENTS + NOTE - 4);
+    fill(page, "<g transform=\"translate({} {})\">\n", &[EDGE, y]);
     page.text(SIGNS);
     page.text("\n</g>\n");
+    write_lines(page, "x", notes, y.saturating_add(NOTE));
 }
 
 /// Writes what happened in each column, over all rows.
-fn write_titles(page: &mut Page, columns: &[Column], sheet: &Sheet) {
-    for (number, column) in columns.iter().enumerate() {
-        write_title(page, column, number, sheet);
+fn write_titles(page: &mut Page, picture: &Picture, axis: &Axis, bottom: usize) {
+    let height = bottom.saturating_sub(TOP);
+    for (number, column) in picture.columns.iter().enumerate() {
+        let x = axis.place(number).left;
+        let end = axis.place(number.saturating_add(1)).left;
+        fill(page, TITLE, &[x, TOP, end.saturating_sub(x), height]);
+        write_plain(page, &column.title);
+        page.text("</title></rect>\n");
     }
-}
-
-/// Writes what happened in a column of this number.
-fn write_title(page: &mut Page, column: &Column, number: usize, sheet: &Sheet) {
-    let x = sheet.place(number).left;
-    let width = sheet.place(number.saturating_add(1)).left.saturating_sub(x);
-    begin_band(page, "c", x, width, sheet);
-    page.text("\"><title>");
-    write_plain(page, &column.title);
-    page.text("</title></rect>\n");
 }

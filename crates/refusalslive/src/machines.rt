@@ -57,5 +57,5 @@ where
     ensures stop { IfOk result
         (λ clock. option_map string_bytes clock.stop.path ≡ Some (codes "stop")) }
 {
-    site.clock(alloc, period, end)
+    site.clock(alloc, period, 0, end)
 }

@@ -28,7 +28,7 @@ pub fn bus_1_has_the_line_that_names_it<'a, S: Site>(
     ensures { IfOk result (λ building.
         IfSome (slice_get building.buses.items 1) (λ bus. S.is_of site.now bus line 700)) }
 {
-    open(alloc, site, setup, lines, options)
+    open(alloc, site, setup, lines, options, 0)
 }
 
 /// `all_buses_have_the_number_0`: the second bus had the number 0 too.
@@ -42,11 +42,12 @@ pub fn second_bus_has_number_1<'a, S: Site>(
     ensures { IfOk result (λ building.
         IfSome (slice_get building.buses.items 1) (λ bus. (S.Line.log bus).number ≡ 1)) }
 {
-    open(alloc, site, setup, lines, options)
+    open(alloc, site, setup, lines, options, 0)
 }
 
 /// `the_period_is_three_times_as_long`, `the_clock_has_another_period`, `it_runs_twice_as_long`,
-/// `the_stop_file_is_not_looked_for`: the clock had another period or end, or no path.
+/// `the_stop_file_is_not_looked_for`, `its_clock_begins_at_zero_again`: the clock had another period,
+/// beginning or end, or no path.
 pub fn clock_has_the_period_and_the_end_that_are_asked_for<'a, S: Site>(
     alloc: Global,
     site: &S,
@@ -58,9 +59,9 @@ pub fn clock_has_the_period_and_the_end_that_are_asked_for<'a, S: Site>(
     requires seconds { options.now.seconds ≡ Some 5 }
     requires stop { option_map (λ path. path.now) options.now.stop ≡ Some (codes "stop") }
     ensures { IfOk result
-        (λ building. S.is_timed site.now building.clock 20 5000 (Some (codes "stop"))) }
+        (λ building. S.is_timed site.now building.clock 20 3000 8000 (Some (codes "stop"))) }
 {
-    open(alloc, site, setup, lines, options)
+    open(alloc, site, setup, lines, options, 3000)
 }
 
 /// `it_ends_where_a_bus_goes_down_though_that_is_not_asked`: a building ended where a bus went down,
@@ -75,7 +76,7 @@ pub fn building_stays_where_no_end_is_asked_for<'a, S: Site>(
     requires { options.now.ends_on_down ≡ false }
     ensures { IfOk result (λ building. (arc_value building.watch).ends ≡ false) }
 {
-    open(alloc, site, setup, lines, options)
+    open(alloc, site, setup, lines, options, 0)
 }
 
 /// `a_line_of_no_bus_is_let_through`: of two buses the third might have a line.
@@ -92,7 +93,7 @@ pub fn line_of_no_bus_is_refused<'a, S: Site>(
     requires bus { line.bus ≡ 2 }
     ensures { OnOk result ⊥ }
 {
-    open(alloc, site, setup, lines, options)
+    open(alloc, site, setup, lines, options, 0)
 }
 
 /// `bus_0_needs_no_line`: a building was opened in which no line is that of bus 0.
@@ -107,7 +108,7 @@ pub fn bus_without_a_line_is_refused<'a, S: Site>(
     requires line { HasNoLine 0 lines.now }
     ensures { OnOk result ⊥ }
 {
-    open(alloc, site, setup, lines, options)
+    open(alloc, site, setup, lines, options, 0)
 }
 
 /// `few_events_for_many_buses_are_let_through`: of a limit that is too low for so many buses it was
@@ -122,7 +123,7 @@ pub fn low_limit_is_no_bad_count<'a, S: Site>(
     ensures { result ≡ false }
 {
     matches!(
-        open(alloc, site, setup, lines, options),
+        open(alloc, site, setup, lines, options, 0),
         Err(LiveStop::Start(StartFault::Plant(OpenFault::BadCount)))
     )
 }

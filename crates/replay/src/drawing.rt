@@ -1,37 +1,33 @@
 //! A picture that is drawn while a scenario is played.
 
-use crate::lamps::{Lamp, add_lamps, mark_lamps};
-use crate::sources::{add_sources, mark_sources};
-use crate::variables::{add_variables, mark_variables};
+use crate::marking::{mark, mark_levels, mark_values};
+use crate::things::{Happening, Thing};
 use daliframe::{Frame, Frame24};
 use driving::Observer;
 use framewords::{FrameWords, FramesWords};
-use ilplan::{Activation, Location, Plan};
-use picture::{Column, Moment, Picture, Row, Sign};
+use ilplan::Plan;
+use picture::{Column, Moment, Picture};
 use plantevents::Origin;
 use simbus::{Scenario, SimBus};
 use std::alloc::{AllocError, Global};
 use std::io;
-use transact::{Outcome, Reply, Report, Transaction};
+use transact::{Report, Transaction};
 use watching::Watch;
-use wordlines::BoundSource;
 
 /// A picture that is drawn while a scenario is played. Its columns have the lines of the play.
 #[derive(Drop)]
 pub struct Drawing {
-    alloc: Global,
-    picture: Picture,
-    /// What each row of levels shows, in the order of the picture.
-    lamps: Vec<Lamp>,
-    /// The sources of the binding, in the order of the picture.
-    sources: Vec<BoundSource>,
-    /// The values of the variables that have a row, in the order of the picture.
+    pub(crate) alloc: Global,
+    pub(crate) picture: Picture,
+    /// What each row of the picture shows.
+    pub(crate) things: Vec<Thing>,
+    /// The values of the variables that are watched.
     watch: Option<Watch>,
 }
 
 impl Drawing {
-    /// The picture of this plan on the buses of a scenario, before anything happened, with a row for
-    /// each variable that is watched.
+    /// The picture of this plan on the buses of a scenario, before anything happened, with a row
+    /// for each variable that is watched.
     ///
     /// # Errors
     ///
@@ -42,28 +38,19 @@ impl Drawing {
         scenario: &Scenario,
         watch: Option<Watch>,
     ) -> Result<Drawing, AllocError> {
-        let mut picture = Picture::new(alloc);
-        let lamps = add_lamps(alloc, plan, scenario, &mut picture.lamps)?;
-        let sources = add_sources(alloc, plan, &mut picture.sources)?;
-        for task in 0..plan.tasks() {
-            let name = String::from_str(alloc, plan.task_name(task))?;
-            let bus = bus_of_task(plan, task);
-            picture.tasks.push(row_called(alloc, name, bus))?;
-        }
-        for bus in 0..plan.buses() {
-            let name = format!(in alloc; "bus {bus}")?;
-            picture.buses.push(row_called(alloc, name, Some(bus)))?;
-        }
-        if let Some(watch) = &watch {
-            add_variables(alloc, watch, &mut picture.variables)?;
-        }
-        Ok(Drawing {
+        let mut drawing = Drawing {
             alloc,
-            picture,
-            lamps,
-            sources,
-            watch,
-        })
+            picture: Picture::new(alloc),
+            things: Vec::new(alloc),
+            watch: None,
+        };
+        drawing.add_lamps(plan, scenario)?;
+        drawing.add_others(plan)?;
+        if let Some(watch) = &watch {
+            drawing.add_variables(watch)?;
+        }
+        drawing.watch = watch;
+        Ok(drawing)
     }
 
     /// The picture, with these lines below it.
@@ -85,38 +72,61 @@ impl Drawing {
         Ok(picture)
     }
 
-    /// Begins the column of a moment with a line.
-    fn begin_moment(&mut self, moment: Moment, title: String) -> Result<(), AllocError> {
-        self.picture.columns.push(Column {
-            moment: Some(moment),
-            bus: None,
-            follows: false,
-            title,
-        })?;
-        Ok(())
-    }
-
-    /// Begins a column with a line of what happened on a bus, by itself or since it follows from
-    /// what happened before.
-    fn begin(&mut self, bus: u8, follows: bool, title: String) -> Result<(), AllocError> {
-        self.picture.columns.push(Column {
-            moment: None,
-            bus: Some(bus),
-            follows,
-            title,
-        })?;
-        Ok(())
-    }
-
-    /// Adds a line to the last column.
-    fn add(&mut self, line: &str) -> Result<(), AllocError> {
-        match self.picture.columns.last_mut() {
-            Some(column) => {
-                column.title.push_str("\n")?;
-                column.title.push_str(line)
+    /// What a task is called.
+    fn task_name(&self, task: usize) -> &str {
+        for (row, thing) in self.picture.rows.iter().zip(self.things.iter()) {
+            if matches!(thing, Thing::Task { task: of, .. } if *of == task) {
+                return &row.name;
             }
-            None => Ok(()),
         }
+        ""
+    }
+
+    /// Adds the line of what happened, tells it to the watch, and marks each row that shows it.
+    /// What a report comes to is told and marked apart, as are the values after a commit.
+    fn note(&mut self, happening: Happening, line: String) -> io::Result<()> {
+        self.add_line(&happening, line)?;
+        self.tell(&happening)?;
+        let is_marked = self.mark(&happening)?;
+        if let Happening::Heard(bus, _) = happening {
+            if !is_marked {
+                self.mark_stray(bus)?;
+            }
+        }
+        Ok(())
+    }
+
+    /// Tells the watch what happened.
+    fn tell(&mut self, happening: &Happening) -> Result<(), AllocError> {
+        let Some(watch) = &mut self.watch else {
+            return Ok(());
+        };
+        match *happening {
+            Happening::Ticked(moment) => watch.note_tick(moment),
+            Happening::Heard(bus, frame) => watch.note_frame(bus, frame),
+            Happening::Taken(_) => watch.note_take()?,
+            Happening::Handed(bus) => watch.note_handout(bus),
+            Happening::WentDown(bus) => watch.note_down(bus),
+            Happening::Strayed(_) | Happening::Committed | Happening::Reported(..) => {}
+        }
+        Ok(())
+    }
+
+    /// Adds the line of what happened to the last column, or begins one with it.
+    fn add_line(&mut self, happening: &Happening, line: String) -> Result<(), AllocError> {
+        let (moment, bus, follows) = match *happening {
+            Happening::Ticked(milliseconds) => (Some(Moment { milliseconds }), None, false),
+            Happening::Heard(bus, _) => (None, Some(bus), false),
+            Happening::Handed(bus) | Happening::WentDown(bus) => (None, Some(bus), true),
+            _ => return add_below(&mut self.picture.columns, &line),
+        };
+        self.picture.columns.push(Column {
+            moment,
+            bus,
+            follows,
+            title: line,
+        })?;
+        Ok(())
     }
 
     /// The number of the last column.
@@ -124,59 +134,48 @@ impl Drawing {
         self.picture.columns.len().saturating_sub(1)
     }
 
-    /// What a task is called.
-    fn task_name(&self, task: usize) -> &str {
-        match self.picture.tasks.get(task) {
-            Some(row) => row.name.as_str(),
-            None => "",
-        }
+    /// Marks what happened in the last column. Whether a row shows it.
+    fn mark(&mut self, happening: &Happening) -> Result<bool, AllocError> {
+        let column = self.column();
+        mark(&mut self.picture.rows, &self.things, column, happening)
     }
 
-    /// Marks the row of a bus in the last column.
-    fn mark_bus(&mut self, bus: u8, sign: Sign) -> Result<(), AllocError> {
-        let column = self.column();
-        match self.picture.buses.get_mut(usize::from(bus)) {
-            Some(row) => row.add(column, sign),
-            None => Ok(()),
+    /// Marks that a frame was heard of which nobody waits, in the row of its bus for such, which is
+    /// made where it isn't there.
+    fn mark_stray(&mut self, bus: u8) -> Result<(), AllocError> {
+        if !self.mark(&Happening::Strayed(bus))? {
+            let name = String::from_str(self.alloc, "no source")?;
+            self.add(Thing::Stray(bus), name, None)?;
+            self.mark(&Happening::Strayed(bus))?;
         }
+        Ok(())
     }
+}
+
+/// Adds a line to the last column.
+fn add_below(columns: &mut Vec<Column>, line: &str) -> Result<(), AllocError> {
+    if let Some(column) = columns.last_mut() {
+        column.title.push_str("\n")?;
+        column.title.push_str(line)?;
+    }
+    Ok(())
 }
 
 impl Observer<SimBus> for Drawing {
     fn note_tick(&mut self, _place: u64, moment: u64) -> io::Result<()> {
-        let title = format!(in self.alloc; "tick {moment}")?;
-        let milliseconds = moment;
-        self.begin_moment(Moment { milliseconds }, title)?;
-        if let Some(watch) = &mut self.watch {
-            watch.note_tick(moment);
-        }
-        Ok(())
+        let line = format!(in self.alloc; "tick {moment}")?;
+        self.note(Happening::Ticked(moment), line)
     }
 
     fn note_frame(&mut self, _place: u64, bus: u8, frame: Frame24) -> io::Result<()> {
         let words = FrameWords(Frame::Forward24(frame));
-        let title = format!(in self.alloc; "heard {bus} {frame}  {words}")?;
-        self.begin(bus, false, title)?;
-        let column = self.column();
-        let rows = &mut self.picture.sources;
-        mark_sources(self.alloc, &self.sources, rows, bus, frame, column)?;
-        if let Some(watch) = &mut self.watch {
-            watch.note_frame(bus, frame);
-        }
-        Ok(())
+        let line = format!(in self.alloc; "heard {bus} {frame}  {words}")?;
+        self.note(Happening::Heard(bus, frame), line)
     }
 
     fn note_take(&mut self, _place: u64, _worker: usize, task: usize) -> io::Result<()> {
         let line = format!(in self.alloc; "take {}", self.task_name(task))?;
-        self.add(&line)?;
-        let column = self.column();
-        if let Some(row) = self.picture.tasks.get_mut(task) {
-            row.add(column, Sign::Scan)?;
-        }
-        if let Some(watch) = &mut self.watch {
-            watch.note_take()?;
-        }
-        Ok(())
+        self.note(Happening::Taken(task), line)
     }
 
     fn note_commit(
@@ -187,10 +186,10 @@ impl Observer<SimBus> for Drawing {
         steps: u32,
     ) -> io::Result<()> {
         let line = format!(in self.alloc; "commit {} steps {steps}", self.task_name(task))?;
-        self.add(&line)?;
+        self.note(Happening::Committed, line)?;
         let column = self.column();
         if let Some(watch) = &self.watch {
-            mark_variables(watch, &mut self.picture.variables, column)?;
+            mark_values(&mut self.picture.rows, &self.things, column, watch)?;
         }
         Ok(())
     }
@@ -202,12 +201,8 @@ impl Observer<SimBus> for Drawing {
         _origin: Origin,
         transaction: &Transaction,
     ) -> io::Result<()> {
-        let title = handed_line(self.alloc, bus, transaction)?;
-        self.begin(bus, true, title)?;
-        if let Some(watch) = &mut self.watch {
-            watch.note_handout(bus);
-        }
-        Ok(())
+        let line = handed_line(self.alloc, bus, transaction)?;
+        self.note(Happening::Handed(bus), line)
     }
 
     fn note_report(
@@ -219,11 +214,10 @@ impl Observer<SimBus> for Drawing {
     ) -> io::Result<()> {
         let outcome = report.outcome();
         let done = format!(in self.alloc; "done {bus} {outcome}")?;
-        self.add(&done)?;
-        self.mark_bus(bus, sign_of(outcome))?;
+        self.note(Happening::Reported(bus, outcome), done)?;
         let column = self.column();
-        let rows = &mut self.picture.lamps;
-        mark_lamps(&self.lamps, rows, bus, report, line, column)?;
+        let rows = &mut self.picture.rows;
+        mark_levels(rows, &self.things, column, bus, report, line)?;
         if let Some(watch) = &mut self.watch {
             watch.note_report(bus, report);
         }
@@ -231,13 +225,8 @@ impl Observer<SimBus> for Drawing {
     }
 
     fn note_down(&mut self, _place: u64, bus: u8) -> io::Result<()> {
-        let title = format!(in self.alloc; "down {bus}")?;
-        self.begin(bus, true, title)?;
-        self.mark_bus(bus, Sign::Down)?;
-        if let Some(watch) = &mut self.watch {
-            watch.note_down(bus);
-        }
-        Ok(())
+        let line = format!(in self.alloc; "down {bus}")?;
+        self.note(Happening::WentDown(bus), line)
     }
 }
 
@@ -250,41 +239,4 @@ fn handed_line(alloc: Global, bus: u8, transaction: &Transaction) -> Result<Stri
     }
     line.push_str(&format!(in alloc; "  {}", FramesWords(transaction.frames()))?)?;
     Ok(line)
-}
-
-/// The bus on which a task's trigger is, where an event starts it.
-fn bus_of_task(plan: &Plan, task: usize) -> Option<u8> {
-    if task >= plan.tasks() {
-        return None;
-    }
-    match plan.task(task).activation() {
-        Activation::Event { trigger } if trigger < plan.globals() => {
-            bus_of_trigger(plan.global(trigger).location)
-        }
-        _ => None,
-    }
-}
-
-/// The bus of a trigger.
-fn bus_of_trigger(location: Option<Location>) -> Option<u8> {
-    match location {
-        Some(Location::Trigger { bus, .. }) => Some(bus),
-        _ => None,
-    }
-}
-
-/// A row of this name, of a task or a bus.
-fn row_called(alloc: Global, name: String, bus: Option<u8>) -> Row {
-    Row::new(alloc, name, String::new(alloc), bus)
-}
-
-/// The mark of a transaction that ended so.
-fn sign_of(outcome: Outcome) -> Sign {
-    match outcome {
-        Outcome::Done(Reply::Quiet) => Sign::Sent,
-        Outcome::Done(Reply::Answer(value)) => Sign::Answered(value),
-        Outcome::Done(Reply::Damaged) => Sign::Damaged,
-        Outcome::Done(Reply::Lost) | Outcome::GaveUp => Sign::GaveUp,
-        Outcome::Failed => Sign::Failed,
-    }
 }

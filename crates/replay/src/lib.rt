@@ -3,8 +3,8 @@
 //! What crosses the boundary: a [`Drawing`] is made of a plan and a scenario, is told what happens
 //! while the scenario is played, as an [`Observer`](driving::Observer), and then gives its
 //! [`Picture`](picture::Picture). After each transaction it asks the simulated gear for its levels.
-//! What is drawn is fixed by worked rows (crates/rows); of the code it is proved that it is safe and
-//! ends.
+//! What is drawn is fixed by worked rows (crates/rows); of the code it is proved that it is safe
+//! and ends.
 //!
 //! ```text
 //! let mut drawing = Drawing::new(alloc, setup.plan(), &scenario, None)?;
@@ -14,8 +14,8 @@
 #![tactic(auto)]
 
 mod drawing;
-mod lamps;
-mod sources;
-mod variables;
+mod marking;
+mod rows;
+mod things;
 
 pub use drawing::Drawing;

@@ -2,126 +2,98 @@
 
 use curing::Advice;
 
-/// Something that people write and the language does not have: where it stands, how it may be
-/// written in small letters, how it is changed, and what is said of it.
-pub(crate) type Habit = (Where, &'static [&'static str], Fix, Advice);
+/// Something that people write and the language does not have: what is said of it, and how it may
+/// be written.
+#[derive(Clone, Copy)]
+pub(crate) struct Habit {
+    pub row: Advice,
+    pub written: &'static [Written],
+}
+
+/// Which part of the text it is, where that stands, how it may be written in small letters, and how
+/// it is changed.
+pub(crate) type Written = (Part, Where, &'static [&'static str], Fix);
+
+/// Rows of habits: what is said, and behind `=>` which part it is, where that stands, how it is
+/// written, and how it is changed.
+macro_rules! habits {
+    ($($row:expr => $($part:ident $at:ident [$($text:literal),+]
+        $fix:ident $(($($with:literal),+))?),+;)+) => {
+        &[$(Habit {
+            row: $row,
+            written: &[$((Part::$part, Where::$at, &[$($text),+], Fix::$fix $(($($with),+))?)),+],
+        }),+]
+    };
+}
+
+pub(crate) use habits;
+
+/// Which part of a text something is that people write.
+#[derive(Clone, Copy)]
+pub(crate) enum Part {
+    Token, // what was found
+    Rest, // what was found begins with it
+    Before, // the word before it
+    Line, // the first word of the line
+    Block, // the word of other languages that begins the block of variables
+    Literal, // the number, time or address begins with it
+    Whole, // the number, time or address
+    Unit, // what stands behind the number
+    Second, // a comma, a name or a number where an instruction has its operand
+}
 
 /// Where something stands that people write.
 #[derive(Clone, Copy)]
 pub(crate) enum Where {
-    /// It is what was found.
-    Found,
-    /// What was found begins with it.
-    Begins,
-    /// The same, among instructions.
-    InBody,
-    /// What was found begins with it, behind a name.
-    Called,
-    /// It stands just before what was found.
-    Before,
-    /// The same, right behind the word that begins a block of variables.
-    Qualifies,
-    /// It stands before a name or a number that was found, as an instruction.
-    Takes,
-    /// It is what was found, in a function.
+    Anywhere,
+    InBody, // among instructions
     InFunction,
-    /// The same, in a program.
     InProgram,
-    /// The same, outside programs, functions and configurations.
-    Outside,
-    /// It begins the block of variables that stands around the place.
-    Within,
-    /// It is what was found, behind a name and with inputs behind it.
-    Invoked,
-    /// What was found begins with it, first on its line.
-    Leads,
-    /// The same, among instructions.
-    LeadsInBody,
-    /// The same, behind a blank.
-    Apart,
-    /// What was found begins with it, and no `:=` stands behind it.
-    Plain,
-    /// It stands right before a name.
-    Prefix,
-    /// It stands before a parenthesis, first on its line.
-    Opened,
-    /// It stands before a word that begins something.
-    Split,
-    /// A name in quotes begins with it.
-    Quotes,
-    /// It is what was found, behind the word LIMIT, MIN or MAX.
-    Opens,
-    /// What was found begins with it, among instructions and not in a call.
-    Ends,
-    /// It is what was found, among instructions.
-    FoundInBody,
-    /// It is what was found, behind a type of whole numbers.
-    Bounds,
-    /// It stands between two digits.
-    Parts,
-    /// It is what was found, a type where a variable begins.
-    Types,
-    /// The time begins with it, and is none.
-    Unitless,
-    /// It is what was found, behind a colon.
-    Lists,
-    /// It is what was found, or a name or a number was, where an instruction has its operand.
-    Second,
-    /// A number was found behind it.
-    Bit,
-    /// An address as Siemens' lists have it begins with this letter.
-    Absolute,
-    /// It is what was found, in VAR_GLOBAL.
+    Outside, // outside programs, functions and configurations
     InGlobal,
-    /// The same, behind a name.
-    Names,
-    /// It is what was found, in another block of variables.
-    InOther,
-    /// It is the first word of the line.
-    First,
-    /// The number, time or address begins with it.
-    Literal,
-    /// The number, time or address is it.
-    Whole,
-    /// It is an address, and begins with this.
-    Address,
-    /// The number has this unit behind it.
-    Unit,
-    /// The time has a dot in it.
-    Dotted,
+    InOther, // in another block of variables than VAR_GLOBAL
+    Names, // in VAR_GLOBAL, behind a name
+    Types, // where a variable begins
+    Qualifies, // where a name is declared
+    Lists, // behind a colon
+    Bounds, // behind a type of whole numbers
+    Opens, // behind the word LIMIT, MIN or MAX
+    Called, // behind a name
+    Invoked, // the same, with inputs behind it
+    Ends, // among instructions and not in a call
+    Takes, // before a name or a number, as an instruction
+    Opened, // before a parenthesis, first on its line
+    Leads, // first on its line
+    LeadsInBody, // the same, among instructions
+    Apart, // behind a blank
+    Prefix, // the same, right before a name
+    Plain, // with no `:=` behind it
+    Quotes, // around a name
+    Parts, // between two digits
+    Split, // before a word that begins something
+    Bit, // before a number
+    Unitless, // where it is no time
+    Dotted, // where it has a dot in it
+    Address, // where it is one
+    Absolute, // where it is one as Siemens' lists have it
 }
 
 /// How a text is changed to what is meant.
 #[derive(Clone, Copy)]
 pub(crate) enum Fix {
-    /// Nothing is tried.
     Nothing,
-    /// What was found is left out.
     LeaveOut,
-    /// The word before it is left out.
-    LeaveOutBefore,
-    /// The word is replaced.
-    Replace(&'static str),
-    /// The rest of the line becomes a comment.
-    Comment,
-    /// So many characters at the number's front are replaced.
-    Front(usize, &'static str),
-    /// The number is replaced.
-    Literal(&'static str),
-    /// What stands up to the `#` is left out.
-    Untyped,
-    /// The part behind the dot becomes milliseconds.
-    Milliseconds,
-    /// What stands in parentheses stands without them.
-    Bare,
-    /// `a := b;` becomes a load and a store.
-    LoadAndStore,
-    /// The word that begins the block of variables around the place is replaced.
-    Block(&'static str),
-    /// The call of an instance begins with CAL.
-    Call,
-    /// The name in quotes stands without them.
+    LeaveOutBefore, // the word before what was found
+    Replace(&'static str), // the first word of the line
+    Front(u8, &'static str), // so many characters at the number's front
+    Literal(&'static str), // the number
+    Block(&'static str), // the word that begins the block of variables
+    Comment, // the rest of the line becomes one
+    Untyped, // without what stands up to the `#`
+    Milliseconds, // in place of the part behind the dot
+    Bare, // without the parentheses
+    LoadAndStore, // in place of `a := b;`
+    Call, // with CAL before the instance
     Unquoted,
-    /// The word before it and what was found are one.
-    Joined,
+    Joined, // with the word before it
 }

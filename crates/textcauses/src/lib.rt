@@ -9,19 +9,18 @@
 //! ```
 #![tactic(auto)]
 
+mod answers;
 mod decimals;
-mod equals;
 mod examples;
+mod filling;
 mod fixes;
 mod habit;
-mod habit_advice;
 mod habit_rows;
 mod habits;
 mod negations;
 mod numbers;
 mod proposals;
-mod text_answers;
-mod text_causes;
-mod unexpected;
+mod rows;
+mod said;
 
-pub use text_answers::answer_text;
+pub use answers::answer_text;

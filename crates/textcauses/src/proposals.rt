@@ -1,467 +1,241 @@
-//! Changes of a line that are tried where something cannot stand.
+//! Changes of a line that are tried where something cannot stand, one after another.
 
-use crate::unexpected::Standing;
+use crate::rows::{ASKED, NEAR, RESERVED};
+use crate::said::{Change, Place, Said, Standing, advice};
 use curing::{
-    Edit, Group, OpenConstruct, Possible, SIGNS, Spot, content_len, in_place_of_sign, left_out,
-    line_number, near_word, shown_text, sign_name,
+    Advice, Group, OpenConstruct, Possible, Spot, content_len, is_one_of, line_number, near_word,
+    sign_name,
 };
-use iltokens::{Keyword, keyword_of};
-use std::alloc::{AllocError, Global};
+use iltokens::keyword_of;
 
-/// A change with what is wrong without it, and what helps.
-#[derive(Drop)]
-pub(crate) struct Proposal {
-    pub what: String,
-    pub cure: String,
-    pub edit: Edit,
-}
+/// How many changes are tried.
+const COUNT: usize = 22;
 
-impl Proposal {
-    /// A change, with what helps in these words.
-    fn new(
-        alloc: Global,
-        what: String,
-        cure: &str,
-        edit: Edit,
-    ) -> Result<Option<Proposal>, AllocError> {
-        Ok(Some(Proposal {
-            what,
-            cure: String::from_str(alloc, cure)?,
-            edit,
-        }))
-    }
-}
-
-/// What was found, and what is said of it.
-pub(crate) fn with_found(alloc: Global, found: &[u8], what: &str) -> Result<String, AllocError> {
-    let found = shown_text(alloc, found)?;
-    format!(in alloc; "{found} {what}")
-}
-
-/// That something was found where something else is asked for.
-pub(crate) fn in_place_of(alloc: Global, found: &[u8], asked: &str) -> Result<String, AllocError> {
-    let found = shown_text(alloc, found)?;
-    format!(in alloc; "{found} where {asked} is asked for")
-}
-
-/// A kind of change.
-#[derive(Clone, Copy)]
-pub(crate) enum Kind {
-    /// The end of what is open.
-    End,
-    /// The parenthesis that closes an open one.
-    Close,
-    /// The one word that could stand there.
-    Only,
-    /// The end of what is open in place of another end.
-    OtherEnd,
-    /// A name that is not reserved.
-    Renamed,
-    /// A reserved word that is near to what was found.
-    Near,
-    /// A reserved word that is near to what stands before.
-    NearBefore,
-    /// A time in place of a number.
-    Timed,
-    /// A sign more, by its number.
-    With(usize),
-    /// An end of the line more.
-    Broken,
-    /// Without what was found.
-    Without,
-    /// A sign in place of what was found, by its number.
-    Instead(usize),
-}
-
-impl Kind {
-    /// Whether the change may take away what the next line needs.
-    pub(crate) fn is_bold(self) -> bool {
-        matches!(self, Kind::Without | Kind::Instead(_) | Kind::With(_))
-    }
-}
-
-/// What is tried, one after another.
-pub(crate) const PROPOSALS: &[Kind] = &[
-    Kind::End,
-    Kind::Close,
-    Kind::OtherEnd,
-    Kind::Near,
-    Kind::NearBefore,
-    Kind::Timed,
-    Kind::Only,
-    Kind::Renamed,
-    Kind::With(2),
-    Kind::With(1),
-    Kind::With(0),
-    Kind::With(3),
-    Kind::With(5),
-    Kind::With(6),
-    Kind::With(7),
-    Kind::Broken,
-    Kind::Without,
-    Kind::Instead(1),
-    Kind::Instead(2),
-    Kind::Instead(0),
-    Kind::Instead(3),
-    Kind::Instead(5),
+/// Words that end something.
+const ENDS: &[&str] = &[
+    "END_TYPE",
+    "END_FUNCTION",
+    "END_PROGRAM",
+    "END_VAR",
+    "END_RESOURCE",
+    "END_CONFIGURATION",
 ];
 
-/// A change of this kind at a place, where there is one.
-pub(crate) fn propose(
-    alloc: Global,
-    kind: Kind,
-    standing: &Standing,
-    possible: &Possible,
-) -> Result<Option<Proposal>, AllocError> {
+/// Words that begin a block of variables.
+const BLOCKS: &[&str] = &["VAR", "VAR_INPUT", "VAR_EXTERNAL", "VAR_GLOBAL"];
+
+/// The changes that are tried at a place, of which the first that helps is shown.
+pub(crate) fn proposals(standing: &Standing, possible: &Possible) -> [Option<Said>; COUNT] {
     let spot = &standing.spot;
-    match kind {
-        Kind::End => end(alloc, standing, possible),
-        Kind::Close => close(alloc, standing),
-        Kind::Renamed => renamed(alloc, spot, possible),
-        Kind::Near => near(alloc, spot, spot.at, spot.found_to()),
-        Kind::NearBefore => {
-            let (from, to) = standing.around.before;
-            near(alloc, spot, from, to)
-        }
-        Kind::Timed => timed(alloc, spot, possible),
-        Kind::Only => only(alloc, spot, possible),
-        Kind::OtherEnd => other_end(alloc, standing, possible),
-        Kind::With(number) => with_sign(alloc, standing, possible, number),
-        Kind::Broken => broken(alloc, standing, possible),
-        Kind::Without => without(alloc, spot, possible),
-        Kind::Instead(number) => instead(alloc, spot, possible, number),
-    }
+    [
+        end(standing, possible),
+        close(standing),
+        other_end(standing, possible),
+        near(spot, found(spot)),
+        near(spot, standing.around.before),
+        timed(spot, possible),
+        only(spot, possible),
+        renamed(spot, possible),
+        missing(standing, possible, ";"),
+        missing(standing, possible, ":"),
+        missing(standing, possible, ","),
+        missing(standing, possible, ":="),
+        missing(standing, possible, ".."),
+        missing(standing, possible, "("),
+        missing(standing, possible, ")"),
+        broken(standing, possible),
+        without(spot, possible),
+        instead(spot, possible, ":"),
+        instead(spot, possible, ";"),
+        instead(spot, possible, ","),
+        instead(spot, possible, ":="),
+        instead(spot, possible, ".."),
+    ]
+}
+
+/// What was found.
+fn found(spot: &Spot) -> Place {
+    (spot.at, spot.found_to())
 }
 
 /// The end of what is open, before a word that begins or ends something else, or at the text's end.
-fn end(
-    alloc: Global,
-    standing: &Standing,
-    possible: &Possible,
-) -> Result<Option<Proposal>, AllocError> {
+fn end(standing: &Standing, possible: &Possible) -> Option<Said> {
     let spot = &standing.spot;
-    let Some(opened) = standing.around.innermost() else {
-        return Ok(None);
-    };
-    let (_, word) = opened.words();
+    let opened = standing.around.innermost()?;
+    let (begin, word) = opened.words();
     let is_end = spot.at >= spot.text.len();
     if !possible.has_word(word) || !is_end && keyword_of(spot.token()).is_none() {
-        return Ok(None);
+        return None;
     }
-    Ok(Some(Proposal {
-        what: missing_end(alloc, spot, opened)?,
-        cure: format!(in alloc; "write {word} before what follows")?,
-        edit: before_line(alloc, spot, word)?,
-    }))
-}
-
-/// That the end of something is missing.
-fn missing_end(alloc: Global, spot: &Spot, opened: OpenConstruct) -> Result<String, AllocError> {
-    let (_, word) = opened.words();
-    let title = title_of(alloc, spot, opened)?;
-    format!(in alloc; "{word} of {title} is missing")
-}
-
-/// How something that is open is called.
-fn title_of(alloc: Global, spot: &Spot, opened: OpenConstruct) -> Result<String, AllocError> {
-    let line = line_number(spot.text, opened.at);
-    match opened.name {
-        Some((from, to)) => {
-            let name = shown_text(alloc, spot.part(from, to))?;
-            format!(in alloc; "{name} (line {line})")
-        }
-        None => {
-            let (word, _) = opened.words();
-            format!(in alloc; "the {word} in line {line}")
-        }
-    }
-}
-
-/// A line of its own with this word before what was found.
-fn before_line(alloc: Global, spot: &Spot, word: &str) -> Result<Edit, AllocError> {
-    let mut with = Vec::new(alloc);
-    if spot.at >= spot.text.len() && !spot.front().is_empty() {
-        with.push(b'\n')?;
-    }
+    let with = match spot.front() {
+        _ if !is_end => "{w}\n",
+        [] => "{w}",
+        _ => "\n{w}",
+    };
     let from = if spot.is_first() {
         spot.line_from
     } else {
         spot.at
     };
-    with.extend_from_slice(word.as_bytes())?;
-    if spot.at < spot.text.len() {
-        with.push(b'\n')?;
-    }
-    Edit::new(alloc, from, from, &with)
+    let title = opened.name.unwrap_or((0, 0));
+    let line = line_number(spot.text, opened.at) as u64;
+    let said = Said::of(missing_end(opened), title).with_words(word, begin);
+    Some(said.with_numbers(line, 0).put((from, from), with))
 }
 
-/// The parenthesis that closes what an operator opened, before a word that stands only outside.
-fn close(alloc: Global, standing: &Standing) -> Result<Option<Proposal>, AllocError> {
+/// What is said where the end of something is missing.
+fn missing_end(opened: OpenConstruct) -> Advice {
+    Advice {
+        what: match opened.name {
+            Some(_) => "{w} of {0} (line {n}) is missing",
+            None => "{w} of the {v} in line {n} is missing",
+        },
+        cure: "write {w} before what follows",
+        line: "",
+    }
+}
+
+/// The parentheses that close what operators opened, before a word that stands only outside, each on
+/// a line of its own.
+fn close(standing: &Standing) -> Option<Said> {
     let around = &standing.around;
     let spot = &standing.spot;
-    let Some(opened) = around.parenthesis else {
-        return Ok(None);
-    };
+    let opened = around.parenthesis?;
     if !around.is_in_body() || !spot.is_first() {
-        return Ok(None);
+        return None;
     }
-    let line = line_number(spot.text, opened);
-    let edit = closing(alloc, spot, around.open)?;
-    let what = format!(in alloc; "the ( of line {line} is not closed")?;
-    Proposal::new(
-        alloc,
-        what,
-        "close it before this line, with ) on a line of its own",
-        edit,
-    )
-}
-
-/// So many parentheses that close, each on a line of its own before the line.
-fn closing(alloc: Global, spot: &Spot, count: usize) -> Result<Edit, AllocError> {
-    let mut with = Vec::new(alloc);
-    for _ in 0..count {
-        with.extend_from_slice(b")\n")?;
-    }
-    Edit::new(alloc, spot.line_from, spot.line_from, &with)
+    let row = advice!("the ( of line {n} is not closed";
+        "close it before this line, with ) on a line of its own";
+        "");
+    let line = line_number(spot.text, opened) as u64;
+    let said = Said::of(row, found(spot)).with_numbers(line, around.open as u64);
+    Some(said.put((spot.line_from, spot.line_from), "{)}"))
 }
 
 /// Another name in place of a reserved word.
-pub(crate) fn renamed(
-    alloc: Global,
-    spot: &Spot,
-    possible: &Possible,
-) -> Result<Option<Proposal>, AllocError> {
-    let word = keyword_of(spot.token());
-    let is_value = matches!(word, Some(Keyword::True | Keyword::False));
-    let is_reserved = word.is_some() && !is_bracket(spot.token()) && !is_value;
+pub(crate) fn renamed(spot: &Spot, possible: &Possible) -> Option<Said> {
+    let is_value = is_one_of(spot.token(), &["TRUE", "FALSE"]);
+    let is_reserved = keyword_of(spot.token()).is_some() && !is_bracket(spot.token()) && !is_value;
     if !is_reserved || !possible.has(Group::Name) {
-        return Ok(None);
+        return None;
     }
-    let edit = renaming(alloc, spot)?;
-    let what = with_found(
-        alloc,
-        spot.token(),
-        "is a word of the language, and no name",
-    )?;
-    Proposal::new(
-        alloc,
-        what,
-        "choose another name, here and wherever it is meant",
-        edit,
-    )
-}
-
-/// What was found with a number behind it.
-fn renaming(alloc: Global, spot: &Spot) -> Result<Edit, AllocError> {
-    let mut with = Vec::from_slice(alloc, spot.token())?;
-    with.extend_from_slice(b"_1")?;
-    Edit::new(alloc, spot.at, spot.found_to(), &with)
+    Some(Said::of(RESERVED, found(spot)).put(found(spot), "{0}_1"))
 }
 
 /// A reserved word in place of one that is near to it.
-fn near(
-    alloc: Global,
-    spot: &Spot,
-    from: usize,
-    to: usize,
-) -> Result<Option<Proposal>, AllocError> {
-    let found = spot.part(from, to);
-    let Some(word) = near_word(found) else {
-        return Ok(None);
-    };
-    Ok(Some(Proposal {
-        what: with_found(alloc, found, "is no word of the language")?,
-        cure: format!(in alloc; "the word that is near to it is {word}")?,
-        edit: Edit::new(alloc, from, to, word.as_bytes())?,
-    }))
+fn near(spot: &Spot, place: Place) -> Option<Said> {
+    let word = near_word(spot.part(place.0, place.1))?;
+    Some(Said::of(NEAR, place).with_words(word, "").put(place, "{w}"))
 }
 
 /// A time in place of a number.
-fn timed(alloc: Global, spot: &Spot, possible: &Possible) -> Result<Option<Proposal>, AllocError> {
+fn timed(spot: &Spot, possible: &Possible) -> Option<Said> {
     let is_number = spot.token().iter().all(|byte| byte.is_ascii_digit());
     let is_time = possible.has(Group::Time) && !possible.has(Group::Number);
     if !is_number || !is_time || spot.token().is_empty() {
-        return Ok(None);
+        return None;
     }
-    let edit = timing(alloc, spot)?;
-    let what = String::from_str(alloc, "a number where a time is asked for")?;
-    Proposal::new(
-        alloc,
-        what,
-        "write T# before it, and its unit behind it: d, h, m, s or ms",
-        edit,
-    )
-}
-
-/// So many milliseconds in place of the number that was found.
-fn timing(alloc: Global, spot: &Spot) -> Result<Edit, AllocError> {
-    let number = shown_text(alloc, spot.token())?;
-    let with = format!(in alloc; "T#{number}ms")?;
-    Edit::new(alloc, spot.at, spot.found_to(), with.as_bytes())
+    let row = advice!("a number where a time is asked for";
+        "write T# before it, and its unit behind it: d, h, m, s or ms";
+        "");
+    Some(Said::of(row, found(spot)).put(found(spot), "T#{0}ms"))
 }
 
 /// The one word that could stand there in place of another one.
-fn only(alloc: Global, spot: &Spot, possible: &Possible) -> Result<Option<Proposal>, AllocError> {
-    let Some(word) = possible.only_word() else {
-        return Ok(None);
-    };
+fn only(spot: &Spot, possible: &Possible) -> Option<Said> {
+    let word = possible.only_word()?;
     if !is_bracket(spot.token()) {
-        return Ok(None);
+        return None;
     }
-    Ok(Some(Proposal {
-        what: in_place_of(alloc, spot.token(), word)?,
-        cure: format!(in alloc; "write {word}")?,
-        edit: Edit::new(alloc, spot.at, spot.found_to(), word.as_bytes())?,
-    }))
+    Some(asked(spot, word))
 }
 
 /// The end of what is open in place of the end of something else.
-fn other_end(
-    alloc: Global,
-    standing: &Standing,
-    possible: &Possible,
-) -> Result<Option<Proposal>, AllocError> {
+fn other_end(standing: &Standing, possible: &Possible) -> Option<Said> {
     let spot = &standing.spot;
-    let Some(opened) = standing.around.innermost() else {
-        return Ok(None);
-    };
-    let (_, word) = opened.words();
-    if !is_end_word(spot.token()) || !possible.has_word(word) {
-        return Ok(None);
+    let (_, word) = standing.around.innermost()?.words();
+    if !is_one_of(spot.token(), ENDS) || !possible.has_word(word) {
+        return None;
     }
-    Ok(Some(Proposal {
-        what: in_place_of(alloc, spot.token(), word)?,
-        cure: format!(in alloc; "write {word}")?,
-        edit: Edit::new(alloc, spot.at, spot.found_to(), word.as_bytes())?,
-    }))
+    Some(asked(spot, word))
+}
+
+/// A word in place of what was found.
+fn asked(spot: &Spot, word: &'static str) -> Said {
+    Said::of(ASKED, found(spot))
+        .with_words(word, "")
+        .put(found(spot), "{w}")
 }
 
 /// One sign more, behind what stands before the place.
-fn with_sign(
-    alloc: Global,
-    standing: &Standing,
-    possible: &Possible,
-    number: usize,
-) -> Result<Option<Proposal>, AllocError> {
-    let Some(sign) = SIGNS.get(number) else {
-        return Ok(None);
-    };
-    if !possible.has_word(sign) {
-        return Ok(None);
-    }
-    let name = sign_name(sign);
-    let edit = sign_edit(alloc, standing, sign)?;
-    let what = format!(in alloc; "{name} is missing")?;
-    Proposal::new(alloc, what, "write it before what was found", edit)
-}
-
-/// This sign behind what stands before the place.
-fn sign_edit(alloc: Global, standing: &Standing, sign: &str) -> Result<Edit, AllocError> {
+fn missing(standing: &Standing, possible: &Possible, sign: &'static str) -> Option<Said> {
     let spot = &standing.spot;
     let (_, from) = standing.around.before;
-    let mut with = Vec::new(alloc);
-    if sign.as_bytes().starts_with(b":") && !standing.around.is_in_body() {
-        with.push(b' ')?;
+    if !possible.has_word(sign) {
+        return None;
     }
-    with.extend_from_slice(sign.as_bytes())?;
-    if sign.as_bytes() != b"(".as_slice() {
-        return Edit::new(alloc, from, from, &with);
-    }
-    with.extend_from_slice(spot.rest())?;
-    with.push(b')')?;
-    Edit::new(alloc, from, spot.line_to, &with)
+    let row = advice!("{w} is missing"; "write it before what was found"; "");
+    let said = Said::of(row, (spot.at, spot.line_to)).with_words(sign_name(sign), sign);
+    let said = match sign.as_bytes() {
+        b"(" => said.put((from, spot.line_to), "({0})"),
+        [b':', ..] if !standing.around.is_in_body() => said.put((from, from), " {v}"),
+        _ => said.put((from, from), "{v}"),
+    };
+    Some(said.bold())
 }
 
 /// The end of the line before what was found.
-fn broken(
-    alloc: Global,
-    standing: &Standing,
-    possible: &Possible,
-) -> Result<Option<Proposal>, AllocError> {
+fn broken(standing: &Standing, possible: &Possible) -> Option<Said> {
     let spot = &standing.spot;
     if !possible.is_line_end || !standing.around.is_in_body() || spot.is_first() {
-        return Ok(None);
+        return None;
     }
     let is_end = spot.token() == b")".as_slice() && standing.around.open > 0;
-    let word = keyword_of(spot.token());
     // NOT behind a store may be meant for what is stored.
-    let is_store = keyword_of(spot.first_word()) == Some(Keyword::St);
-    if word.is_none() && !is_end || word == Some(Keyword::Not) && is_store {
-        return Ok(None);
+    let is_stored = is_one_of(spot.token(), &["NOT"]) && is_one_of(spot.first_word(), &["ST"]);
+    if keyword_of(spot.token()).is_none() && !is_end || is_stored {
+        return None;
     }
-    let from = spot.line_from.saturating_add(content_len(spot.front()));
-    let edit = Edit::new(alloc, from, spot.at, b"\n")?;
     let what = if is_end {
         ") behind an instruction"
     } else {
         "two instructions on one line"
     };
-    let what = String::from_str(alloc, what)?;
-    Proposal::new(alloc, what, "write each on a line of its own", edit)
+    let row = Advice {
+        what,
+        cure: "write each on a line of its own",
+        line: "",
+    };
+    let from = spot.line_from.saturating_add(content_len(spot.front()));
+    Some(Said::of(row, found(spot)).put((from, spot.at), "\n"))
 }
 
 /// The line without the sign that was found, where nothing stands behind it.
-fn without(
-    alloc: Global,
-    spot: &Spot,
-    possible: &Possible,
-) -> Result<Option<Proposal>, AllocError> {
+fn without(spot: &Spot, possible: &Possible) -> Option<Said> {
     if possible.has(Group::Outer) {
-        return Ok(None);
+        return None;
     }
-    let Some(edit) = left_out(alloc, spot)? else {
-        return Ok(None);
-    };
-    let what = with_found(alloc, spot.token(), "is too much here")?;
-    Proposal::new(alloc, what, "leave it out, or end the line before it", edit)
-}
-
-/// Whether a word ends something, or begins a block of variables.
-pub(crate) fn is_bracket(found: &[u8]) -> bool {
-    is_end_word(found)
-        || matches!(
-            keyword_of(found),
-            Some(Keyword::Var | Keyword::VarInput | Keyword::VarExternal | Keyword::VarGlobal)
-        )
-}
-
-/// Whether a word ends something.
-fn is_end_word(found: &[u8]) -> bool {
-    matches!(
-        keyword_of(found),
-        Some(
-            Keyword::EndType
-                | Keyword::EndFunction
-                | Keyword::EndProgram
-                | Keyword::EndVar
-                | Keyword::EndResource
-                | Keyword::EndConfiguration
-        )
+    let row = advice!("{0} is too much here"; "leave it out, or end the line before it"; "");
+    Some(
+        Said::of(row, found(spot))
+            .with_change(Change::LeaveOut)
+            .bold(),
     )
 }
 
 /// A sign in place of what was found.
-fn instead(
-    alloc: Global,
-    spot: &Spot,
-    possible: &Possible,
-    number: usize,
-) -> Result<Option<Proposal>, AllocError> {
-    let Some(sign) = SIGNS.get(number) else {
-        return Ok(None);
-    };
+fn instead(spot: &Spot, possible: &Possible, sign: &'static str) -> Option<Said> {
     // A dot within a name parts it, where a comma would make two of it.
     let is_name = spot.token() == b".".as_slice() && sign.as_bytes() == b",".as_slice();
     if !possible.has_word(sign) || is_name {
-        return Ok(None);
+        return None;
     }
-    let Some(edit) = in_place_of_sign(alloc, spot, sign)? else {
-        return Ok(None);
-    };
-    let name = sign_name(sign);
-    Ok(Some(Proposal {
-        what: in_place_of(alloc, spot.token(), name)?,
-        cure: format!(in alloc; "write {name} in its place")?,
-        edit,
-    }))
+    let row = advice!("{0} where {w} is asked for"; "write {w} in its place"; "");
+    let said = Said::of(row, found(spot)).with_words(sign_name(sign), "");
+    Some(said.with_change(Change::Sign(sign)).bold())
+}
+
+/// Whether a word ends something, or begins a block of variables.
+pub(crate) fn is_bracket(word: &[u8]) -> bool {
+    is_one_of(word, ENDS) || is_one_of(word, BLOCKS)
 }

@@ -1,6 +1,7 @@
 use Rattle.std.proofs.Common.{rules, ◌≡◌, ◌∙◌, Some, option_map, ap, subst, sym}
 use Rattle.keeping.specs.Faults.{IsKeptFaultOrMemory}
 use Rattle.keeping.specs.declared.fault.KeptFault.TheVariants.{Empty, Torn}
+use Rattle.commands.proofs.KeptNotes.{noted_unused}
 use Rattle.commands.proofs.UnusedValues.{begun_without, unusable_unused}
 use Rattle.commands.proofs.beginning.beginning_of.Goals as goal
 
@@ -29,3 +30,29 @@ returns-in-Err-Torn-clause-used c =
     (option_map (λ bytes. bytes.now.items) c.args.file) c.without-in-Err-Torn.result Torn
     (ap (λ file. option_map (λ bytes. bytes.now.items) file) c.in-Some.is ∙ ap Some (sym bytes)) c.without-in-Err-Torn.ensures.kept
     (subst (IsKeptFaultOrMemory c.deref.result.now) c.in-Err-Torn.field-0-is c.in-Err-Torn.ensures.fault)
+
+pub returns-in-Err-Empty-clause-noted : goal.returns-in-Err-Empty-clause-noted
+returns-in-Err-Empty-clause-noted c =
+    let bytes : c.deref.result.now ≡ c.in-Some.bytes.now.items = search rules in
+    let own = c.in_ok-setup.setup in (
+      own,
+      c.in_ok-setup.ensures.setup,
+      noted_unused c.deref.result.now
+          (option_map (λ bytes. bytes.now.items) c.args.file) c.without.result own.plan Empty
+          (ap (λ file. option_map (λ bytes. bytes.now.items) file) c.in-Some.is ∙ ap Some (sym bytes)) c.without.ensures.kept
+          c.without.ensures.note
+          (subst (IsKeptFaultOrMemory c.deref.result.now) c.in-Err-Empty.field-0-is c.in-Err-Empty.ensures.fault),
+    )
+
+pub returns-in-Err-Torn-clause-noted : goal.returns-in-Err-Torn-clause-noted
+returns-in-Err-Torn-clause-noted c =
+    let bytes : c.deref.result.now ≡ c.in-Some.bytes.now.items = search rules in
+    let own = c.in_ok-setup.setup in (
+      own,
+      c.in_ok-setup.ensures.setup,
+      noted_unused c.deref.result.now
+          (option_map (λ bytes. bytes.now.items) c.args.file) c.without-in-Err-Torn.result own.plan Torn
+          (ap (λ file. option_map (λ bytes. bytes.now.items) file) c.in-Some.is ∙ ap Some (sym bytes)) c.without-in-Err-Torn.ensures.kept
+          c.without-in-Err-Torn.ensures.note
+          (subst (IsKeptFaultOrMemory c.deref.result.now) c.in-Err-Torn.field-0-is c.in-Err-Torn.ensures.fault),
+    )

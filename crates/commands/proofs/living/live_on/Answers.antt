@@ -1,3 +1,4 @@
+use Rattle.commands.proofs.KeptNotes.{told_before}
 use Rattle.commands.proofs.LivesOut.{if_left}
 use Rattle.commands.proofs.living.live_on.Goals as goal
 
@@ -12,3 +13,15 @@ returns-clause-lived g c =
     let pages = c.args.pages.now in
     if_left _ _ (λ left lived. lived pages.binding pages.text pages.file c.in_ok-begun.ensures.begun)
     c.live_with.result c.live_with.ensures.lived
+
+pub returns-then-not-is_empty-clause-told : goal.returns-then-not-is_empty-clause-told
+returns-then-not-is_empty-clause-told g c =
+    let pages = c.args.pages.now in let begun = c.in_ok-begun.begun in
+    told_before (g.N.Notice.is_told c.args.grounds.now.notice.now) pages.binding pages.text pages.file
+    c.live_with-end.result (begun.note, (begun.kept, c.in_ok-begun.ensures.begun.noted), c.begins-told.ensures)
+
+pub returns-clause-told : goal.returns-clause-told
+returns-clause-told g c =
+    let pages = c.args.pages.now in let begun = c.in_ok-begun.begun in
+    told_before (g.N.Notice.is_told c.args.grounds.now.notice.now) pages.binding pages.text pages.file
+    c.live_with.result (begun.note, (begun.kept, c.in_ok-begun.ensures.begun.noted), c.begins-told.ensures)

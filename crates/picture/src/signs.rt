@@ -1,0 +1,128 @@
+//! What stands for each kind of mark, on a terminal and in an SVG: tables, a line for each.
+
+use crate::Sign;
+use std::fmt;
+use std::fmt::Write;
+
+/// A mark that lasts until the next one.
+pub(crate) fn lasting(sign: Option<Sign>) -> Option<Sign> {
+    match sign {
+        Some(Sign::Level(_) | Sign::Truth(_) | Sign::Number(_)) => sign,
+        _ => None,
+    }
+}
+
+/// How much a mark matters among those of its row: from 2 on something went wrong.
+pub(crate) fn gravity(sign: Sign) -> u8 {
+    match sign {
+        Sign::Level(_) | Sign::Truth(_) | Sign::Number(_) => 0,
+        Sign::Scan | Sign::Stray | Sign::Sent => 0,
+        Sign::Event(_) | Sign::Answered(_) => 1,
+        Sign::Damaged => 2,
+        Sign::GaveUp => 3,
+        Sign::Failed => 4,
+        Sign::Down => 5,
+    }
+}
+
+/// The level that a mark shows: of a variable that is TRUE the greatest one.
+pub(crate) fn level_of(sign: Option<Sign>) -> Option<u8> {
+    match sign {
+        Some(Sign::Level(level)) => Some(level),
+        Some(Sign::Truth(true)) => Some(254),
+        Some(Sign::Truth(false)) => Some(0),
+        _ => None,
+    }
+}
+
+/// The number that is written of a mark.
+pub(crate) fn number_of(sign: Sign) -> Option<i64> {
+    match sign {
+        Sign::Level(level) => Some(i64::from(level)),
+        Sign::Number(number) => Some(number),
+        Sign::Event(information) => Some(i64::from(information)),
+        Sign::Answered(value) => Some(i64::from(value)),
+        _ => None,
+    }
+}
+
+/// The word that is written of a mark.
+pub(crate) fn word_of(sign: Sign) -> &'static str {
+    match sign {
+        Sign::Damaged => "?",
+        Sign::GaveUp => "×",
+        Sign::Failed => "!",
+        Sign::Down => "down",
+        Sign::Truth(true) => "TRUE",
+        Sign::Truth(false) => "FALSE",
+        _ => "",
+    }
+}
+
+/// What stands for a mark on a terminal, before its word and its number.
+fn letter_of(sign: Sign) -> &'static str {
+    match sign {
+        Sign::Event(_) => "●",
+        Sign::Stray => "○",
+        Sign::Scan => "•",
+        Sign::Sent | Sign::Answered(_) => "│",
+        Sign::Damaged | Sign::GaveUp | Sign::Failed => "│",
+        Sign::Level(_) | Sign::Truth(_) | Sign::Number(_) | Sign::Down => "",
+    }
+}
+
+impl fmt::Display for Sign {
+    /// Writes what stands for a mark on a terminal.
+    fn fmt<W: fmt::Write>(&self, f: &mut fmt::Formatter<W>) -> fmt::Result {
+        f.write_str(letter_of(*self))?;
+        f.write_str(word_of(*self))?;
+        match number_of(*self) {
+            Some(number) => write!(f, "{number}"),
+            None => Ok(()),
+        }
+    }
+}
+
+/// The element of an SVG that stands for a mark, with its place and then an end for `{}`, and a
+/// smaller one where columns have no room beside each other.
+pub(crate) fn element_of(sign: Sign, has_room: bool) -> &'static str {
+    match (sign, has_room) {
+        (Sign::Level(_) | Sign::Truth(_), _) => "",
+        (Sign::Number(_), _) => "<path class=\"e\" d=\"M{} {}V{}\"/>\n",
+        (Sign::Event(_), true) => "<circle class=\"s\" cx=\"{}\" cy=\"{}\" r=\"5\"/>\n",
+        (Sign::Event(_), false) => "<circle class=\"s\" cx=\"{}\" cy=\"{}\" r=\"3.5\"/>\n",
+        (Sign::Stray, true) => "<circle class=\"o\" cx=\"{}\" cy=\"{}\" r=\"4.5\"/>\n",
+        (Sign::Stray, false) => "<circle class=\"o\" cx=\"{}\" cy=\"{}\" r=\"3\"/>\n",
+        (Sign::Scan, true) => "<circle class=\"t\" cx=\"{}\" cy=\"{}\" r=\"3.5\"/>\n",
+        (Sign::Scan, false) => "<circle class=\"t\" cx=\"{}\" cy=\"{}\" r=\"2.5\"/>\n",
+        (Sign::Sent, _) => "<path class=\"f\" d=\"M{} {}V{}\"/>\n",
+        (Sign::Answered(_), _) => "<path class=\"q\" d=\"M{} {}V{}\"/>\n",
+        (Sign::Damaged | Sign::GaveUp | Sign::Failed, _) => "<path class=\"l\" d=\"M{} {}V{}\"/>\n",
+        (Sign::Down, _) => "<path class=\"l\" d=\"M{} {}H{}\"/>\n",
+    }
+}
+
+/// What is written beside a mark in an SVG.
+#[derive(Clone, Copy)]
+pub(crate) struct Beside {
+    /// Its looks.
+    pub class: &'static str,
+    /// How far right of the mark it stands, in pixels.
+    pub right: usize,
+    /// How far above the mark it stands, in pixels.
+    pub up: usize,
+}
+
+/// What is written beside a mark in an SVG, where something is.
+pub(crate) fn beside_of(sign: Sign) -> Option<Beside> {
+    let (class, right, up) = match sign {
+        Sign::Level(_) => ("v", 2, 4),
+        Sign::Number(_) => ("v", 3, 3),
+        Sign::Event(_) => ("i", 7, 3),
+        Sign::Answered(_) => ("r", 4, 5),
+        Sign::Damaged | Sign::GaveUp | Sign::Failed => ("x", 4, 5),
+        Sign::Down => ("x", 0, 5),
+        Sign::Truth(_) | Sign::Stray | Sign::Scan | Sign::Sent => return None,
+    };
+    Some(Beside { class, right, up })
+}
