@@ -59,7 +59,7 @@ IsStopOrMemory Stops (Binding fault) = Stops (Binding fault)
 IsStopOrMemory Stops (Load fault) = Stops (Load fault)
 IsStopOrMemory Stops (NoTask asked) = Stops (NoTask asked)
 
--- why a text isn't accepted: it isn't loaded
+-- why a text is not accepted: it is not loaded
 abbrev pub IsCheckStop : Wiring → List ℕ → Stop → Type 0
 IsCheckStop wiring bytes (Load fault) = IsLoadFault wiring bytes fault
 IsCheckStop wiring bytes _ = ⊥
@@ -69,7 +69,7 @@ abbrev pub IsAfterName : Option (List ℕ) → LoadFault → Type 0
 IsAfterName name (load_faults.Code refused) = (task : ℕ) × IsMeantTask refused.plan name task
 IsAfterName name _ = ⊤
 
--- why a task of a text isn't run: the fault of the text or its names, else that no task is meant, else the first refused
+-- why a task of a text is not run: the fault of the text or its names, else that no task is meant, else the first refused
 -- code
 abbrev pub IsStepStop : Wiring → List ℕ → Option (List ℕ) → Stop → Type 0
 IsStepStop wiring bytes name (Load fault) = IsLoadFault wiring bytes fault × IsAfterName name fault

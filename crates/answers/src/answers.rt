@@ -88,7 +88,7 @@ pub fn binding_of(alloc: Global, bytes: Option<&[u8]>) -> Result<Binding, Stop>
 ///
 /// # Errors
 ///
-/// The fault that the text isn't loaded for, or that the allocator is out of memory.
+/// The fault that the text is not loaded for, or that the allocator is out of memory.
 pub fn check(alloc: Global, binding: &Binding, text: &[u8]) -> Result<Setup, Stop>
     ensures setup { IfOk result (IsSetup binding.now text.now) }
     ensures stop { IfErr result (IsStopOrMemory (IsCheckStop binding.now text.now)) }
@@ -99,8 +99,8 @@ pub fn check(alloc: Global, binding: &Binding, text: &[u8]) -> Result<Setup, Sto
     Ok(load(alloc, text, binding)?)
 }
 
-/// The setup of a text, and the number of the first task of a name, in any letter case, or without a
-/// name that of the only task.
+/// The setup of a text, and the number of the first task of a name, in any letter case, or without
+/// a name that of the only task.
 ///
 /// # Errors
 ///
@@ -125,8 +125,8 @@ pub(crate) fn find_task(
     Ok((setup, number))
 }
 
-/// The requests of this many scans of the task of a name, or without a name of the only task, and its
-/// variables after them: the first scan from their initial values, but TRUE at an event task's
+/// The requests of this many scans of the task of a name, or without a name of the only task, and
+/// its variables after them: the first scan from their initial values, but TRUE at an event task's
 /// trigger, and from block instances before their first call, `every` milliseconds apart.
 ///
 /// # Errors

@@ -10,7 +10,8 @@ use std::fmt;
 /// What is answered to bytes that may be a code file.
 #[derive(Clone, Copy, PartialEq, Eq, Debug)]
 pub enum CodeAnswer {
-    /// Their code is accepted: so many words, and the greatest number of them in a scan.
+    /// Their code is accepted: the number of its words, and the greatest number of them in a
+    /// scan.
     Accepted { words: usize, bound: u32 },
     /// Their code is refused.
     Refused(Refusal),

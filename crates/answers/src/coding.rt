@@ -13,7 +13,8 @@ use ilverify::{VerifyError, verify};
 use std::alloc::Global;
 use wordlines::Binding;
 
-/// The code file of the first task of a name, in any letter case, or without a name of the only one.
+/// The code file of the first task of a name, in any letter case, or without a name of the only
+/// one.
 ///
 /// # Errors
 ///

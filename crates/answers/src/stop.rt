@@ -1,4 +1,4 @@
-//! Why a text isn't run.
+//! Why a text is not run.
 
 use ilplan::Plan;
 use plantload::LoadFault;
@@ -8,8 +8,8 @@ use std::fmt;
 use std::marker::Model;
 use wordlines::BindFault;
 
-/// A task that isn't there: the name that a user gave for it, where one was given, and the names of
-/// those that are. Without a name, the text has no task or more than one.
+/// A task that is not there: the name that a user gave for it, where one was given, and the names
+/// of those that are. Without a name, the text has no task or more than one.
 #[derive(Drop)]
 pub struct UnknownTask {
     asked: Option<String>,
@@ -95,9 +95,9 @@ pub enum Stop {
     Memory,
     /// The binding's first fault.
     Binding(BindFault),
-    /// The text isn't loaded.
+    /// The text is not loaded.
     Load(LoadFault),
-    /// No task has the name, or none is named and there isn't one alone.
+    /// No task has the name, or none is named and there is not one alone.
     NoTask(UnknownTask),
 }
 

@@ -55,7 +55,7 @@ impl Said {
         }
     }
 
-    /// That there is no such bus, where so many are said in line `first`.
+    /// That there is no such bus, where line `first` says how many there are.
     fn no_bus(&self, buses: u64, first: usize) -> Reason {
         let what = if buses == 1 {
             "there is no bus {0}: there is bus 0 alone (line {3})"
@@ -94,7 +94,7 @@ impl Said {
         }
     }
 
-    /// Why the ticks of one line can't be: their last moment is before the first, the first falls,
+    /// Why the ticks of one line cannot be: their last moment is before the first, the first falls,
     /// or they are too many.
     fn bad_ticks(&self, bytes: &[u8]) -> Reason {
         let first = self.numbers[0];
@@ -177,7 +177,7 @@ impl Said {
         found
     }
 
-    /// Whether a line has so many of its numbers.
+    /// Whether a line has the given number of its numbers.
     fn has_numbers(&self, line: &[u8], count: usize) -> bool {
         let numbers = numbers_of(without_return(line));
         (0..count).all(|index| numbers.get(index) == self.numbers.get(index))

@@ -85,7 +85,8 @@ fn unknown(word: &[u8], forms: &'static [Form]) -> Reason {
     }
 }
 
-/// Why the words behind the first are bad: one is not what it has to be, is too much, or is missing.
+/// Why the words behind the first are bad: one is not what it has to be, is too much, or is
+/// missing.
 fn bad_fields(line: &[u8], form: &Form) -> Option<Reason> {
     let mut fields = form.1;
     let mut parts = parts_of(form);

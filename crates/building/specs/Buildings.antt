@@ -42,7 +42,7 @@ pub record IsOpened {B C : Type 0} (bus_log : B → BusLog) (clock_log : C → C
 
 -- ---- what stands against it
 
--- the words are not the lines of the buses; else the limit is too low for so many buses, or the clock can't be read; the
+-- the words are not the lines of the buses; else the limit is too low for so many buses, or the clock cannot be read; the
 -- allocator may be out of memory. That a line is not there stands against no building.
 abbrev pub IsLiveStop : Loaded → List LineWord → RunSize → LiveStop → Type 0
 IsLiveStop setup words size (Lineup fault) = IsLineupFault setup.plan.buses words fault
@@ -52,7 +52,7 @@ IsLiveStop setup words size (Start Memory) = ⊤
 IsLiveStop setup words size (Start (Plant fault)) =
     AreLinesOf setup.plan.buses words × (fault ≡ Limit) × ¬ IsRoomy setup.plan.buses size.limit
 
--- a building with so many lines doesn't run: its plant doesn't start
+-- a building with so many lines does not run: its plant does not start
 abbrev pub IsNotLived : Loaded → RunSize → ℕ → LiveStop → Type 0
 IsNotLived setup size buses (Start (Plant fault)) = IsStartFault setup size.workers buses size.limit fault
 IsNotLived setup size buses _ = ⊥

@@ -25,7 +25,7 @@ pub record AreLinesOf (buses : ℕ) (words : List LineWord) : Type 0 where
   pub each : (bus : ℕ) → bus < buses → HasLine bus words
   pub known : AreKnown buses words
 
--- why the words are not the lines of so many buses: one names a bus that there isn't; else a bus has no line
+-- why the words are not the lines of so many buses: one names a bus that there is not; else a bus has no line
 abbrev pub IsLineupFault : ℕ → List LineWord → LineupFault → Type 0
 IsLineupFault buses words (Unknown bus) = HasLine bus words × ¬ (bus < buses)
 IsLineupFault buses words (Missing bus) = (bus < buses) × HasNoLine bus words × AreKnown buses words

@@ -40,7 +40,8 @@ pub struct Building<B: Bus, C: Clock> {
     pub size: RunSize,
     /// The milliseconds from one tick to the next.
     pub period: NonZeroU64,
-    /// Ends the clock where a bus goes down, if that is asked for, and tells lines of the clock's end.
+    /// Ends the clock where a bus goes down, if that is asked for, and tells lines of the clock's
+    /// end.
     pub watch: Arc<DownWatch>,
 }
 
@@ -50,8 +51,8 @@ pub struct Building<B: Bus, C: Clock> {
 ///
 /// # Errors
 ///
-/// The words aren't the lines of the buses; else the limit is below 500 with more than 16 buses;
-/// else the clock can't be read. The allocator may be out of memory.
+/// The words are not the lines of the buses; else the limit is below 500 with more than 16 buses;
+/// else the clock cannot be read. The allocator may be out of memory.
 pub fn open<'a, S: Site>(
     alloc: Global,
     site: &S,
@@ -183,13 +184,13 @@ fn open_line<'a, S: Site>(
 }
 
 impl<B: Bus + Send, C: Clock + Send> Building<B, C> {
-    /// Runs the plant on the building's lines until the clock comes to its end, memory or a thread is
-    /// refused, or 2^59 events are used up. Where the history of one run is full the next begins, with
-    /// the same plant, buses and clock. The gate is told of each event, in all runs.
+    /// Runs the plant on the building's lines until the clock comes to its end, memory or a thread
+    /// is refused, or 2^59 events are used up. Where the history of one run is full the next
+    /// begins, with the same plant, buses and clock. The gate is told of each event, in all runs.
     ///
     /// # Errors
     ///
-    /// The plant doesn't start. Nothing was sent.
+    /// The plant does not start. Nothing was sent.
     pub fn go<G: Gate, R: Threads + Wait + Timer + Sync>(
         self,
         rt: &R,

@@ -67,8 +67,8 @@ fn write_tasks<W: fmt::Write, B: Bus, C: Clock>(
     Ok(())
 }
 
-/// A line for each level that is sent at the start, since it doesn't begin at 255. It says what the
-/// level begins at: a scan that comes before the bus's turn may store what is sent.
+/// A line for each level that is sent at the start, since it does not begin at 255. It says what
+/// the level begins at: a scan that comes before the bus's turn may store what is sent.
 fn write_levels<W: fmt::Write>(f: &mut fmt::Formatter<W>, plan: &Plan) -> fmt::Result {
     for global in 0..plan.globals() {
         write_level(f, *plan.global(global))?;
@@ -76,7 +76,7 @@ fn write_levels<W: fmt::Write>(f: &mut fmt::Formatter<W>, plan: &Plan) -> fmt::R
     Ok(())
 }
 
-/// The line of a global variable that is located at a level, where that doesn't begin at 255.
+/// The line of a global variable that is located at a level, where that does not begin at 255.
 fn write_level<W: fmt::Write>(f: &mut fmt::Formatter<W>, global: Global) -> fmt::Result {
     match (global.location, global.initial) {
         (_, Value::Int(255)) => Ok(()),

@@ -20,7 +20,7 @@ pub trait Devices<F>: Drop {
     ///
     /// # Errors
     ///
-    /// It can't be opened, or a regular file is there. Nothing was written.
+    /// It cannot be opened, or a regular file is there. Nothing was written.
     fn open(&self, from: &str, to: Option<&str>) -> Result<(F, F), Reason>;
 }
 
@@ -68,7 +68,7 @@ impl<F: Read + Write + Drop, D: Devices<F>> Opener<F> for HostOpener<D> {
 ///
 /// # Errors
 ///
-/// One is a regular file, or what it is can't be read.
+/// One is a regular file, or what it is cannot be read.
 fn checked<F: OpenFile + Drop>(from: F, to: F) -> Result<(F, F), Reason> {
     if is_regular(&from)? || is_regular(&to)? {
         return Err(Reason::RegularFile);
@@ -80,7 +80,7 @@ fn checked<F: OpenFile + Drop>(from: F, to: F) -> Result<(F, F), Reason> {
 ///
 /// # Errors
 ///
-/// What it is can't be read.
+/// What it is cannot be read.
 fn is_regular<F: OpenFile>(file: &F) -> Result<bool, Reason> {
     match file.metadata() {
         Ok(metadata) => Ok(metadata.is_file()),

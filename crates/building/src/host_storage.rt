@@ -161,7 +161,7 @@ impl<R: Files + Wait + Timer + Eprint + Drop, D: Drop> Storage for HostSite<'_, 
 ///
 /// # Errors
 ///
-/// It can't be written or renamed. What was at the path stays.
+/// It cannot be written or renamed. What was at the path stays.
 fn move_in<R: Files>(rt: &R, beside: &str, path: &str, bytes: &[u8], care: Care) -> io::Result<()> {
     let mut file = made_anew(rt, beside, care)?;
     file.write_all(bytes)?;
@@ -171,11 +171,12 @@ fn move_in<R: Files>(rt: &R, beside: &str, path: &str, bytes: &[u8], care: Care)
     rt.rename(beside, path)
 }
 
-/// A new file at this path, in place of one that is there. What a link there leads to stays as it is.
+/// A new file at this path, in place of one that is there. What a link there leads to stays as it
+/// is.
 ///
 /// # Errors
 ///
-/// It can't be made.
+/// It cannot be made.
 fn made_anew<R: Files>(rt: &R, path: &str, care: Care) -> io::Result<R::File> {
     match rt.remove_file(path) {
         Err(error) if error.kind() != ErrorKind::NotFound => return Err(error),
@@ -193,7 +194,7 @@ fn made_anew<R: Files>(rt: &R, path: &str, care: Care) -> io::Result<R::File> {
 ///
 /// # Errors
 ///
-/// The folder can't be read or synced.
+/// The folder cannot be read or synced.
 fn sync_folder<R: Files>(rt: &R, path: &str) -> io::Result<()> {
     let folder = match Path::new(path).parent() {
         Some(folder) if !folder.as_str().is_empty() => folder.as_str(),
@@ -202,8 +203,8 @@ fn sync_folder<R: Files>(rt: &R, path: &str) -> io::Result<()> {
     File::open(rt, folder)?.sync_all()
 }
 
-/// The resident memory in KiB, by the line that Linux shows of it: the second number counts pages of
-/// 4 KiB.
+/// The resident memory in KiB, by the line that Linux shows of it: the second number counts pages
+/// of 4 KiB.
 fn resident(line: &[u8]) -> Option<u64> {
     let text = str::from_utf8(line).ok()?;
     let pages = text.split(' ').nth(1)?.parse::<u64>().ok()?;

@@ -8,10 +8,10 @@ ghost use Rattle.building.specs.Lineups.{IsLineupFault};
 use options::LineWord;
 use std::fmt;
 
-/// Why the words of `--line` aren't the lines of a plant's buses.
+/// Why the words of `--line` are not the lines of a plant's buses.
 #[derive(Clone, Copy, PartialEq, Eq, Debug)]
 pub enum LineupFault {
-    /// A word names this bus, which isn't in the binding.
+    /// A word names this bus, which is not in the binding.
     Unknown { bus: u8 },
     /// No word names this bus of the binding.
     Missing { bus: u8 },
@@ -34,7 +34,7 @@ pub(crate) fn line_for<'l, 'a>(words: &'l [LineWord<'a>], bus: u8) -> Option<&'l
     words.iter().find(|word| word.bus == bus)
 }
 
-/// The first word that names none of so many buses.
+/// The first word that names none of the given number of buses.
 fn unknown_in<'l, 'a>(words: &'l [LineWord<'a>], buses: u8) -> Option<&'l LineWord<'a>>
     ensures { MatchOption result (AreKnown buses words.now)
         (λ word. Contains words.now word.now × ¬ (word.now.bus < buses)) }
@@ -42,7 +42,7 @@ fn unknown_in<'l, 'a>(words: &'l [LineWord<'a>], buses: u8) -> Option<&'l LineWo
     words.iter().find(|word| word.bus >= buses)
 }
 
-/// The first of so many buses that no word names.
+/// The first of the given number of buses that no word names.
 fn missing_in(words: &[LineWord], buses: u8) -> Option<u8>
     ensures { MatchOption result ((bus : ℕ) → bus < buses → HasLine bus words.now)
         (λ bus. (bus < buses) × HasNoLine bus words.now) }
@@ -55,7 +55,8 @@ fn missing_in(words: &[LineWord], buses: u8) -> Option<u8>
     None
 }
 
-/// Whether the words are the lines of so many buses: each bus has one, and there is none of another.
+/// Whether the words are the lines of the given number of buses: each bus has one, and there is
+/// none of another.
 ///
 /// # Errors
 ///

@@ -8,12 +8,12 @@ use std::alloc::{AllocError, Global};
 use std::num::NonZeroU64;
 use std::sync::Arc;
 
-/// Why a line wasn't opened, or the clock wasn't made.
+/// Why a line was not opened, or the clock was not made.
 #[derive(Clone, Copy, PartialEq, Eq, Debug)]
 pub enum SiteFault {
     /// The allocator is out of memory.
     Memory,
-    /// It can't be opened, or its interface doesn't greet.
+    /// It cannot be opened, or its interface does not greet.
     Failed,
 }
 
@@ -35,21 +35,21 @@ pub trait Site {
 
     type Clock: Clock + Send;
 
-    // The line of this word can't be opened, for this reason.
+    // The line of this word cannot be opened, for this reason.
     ghost refuses: { Self → LineWord → SiteFault → Type 0 };
 
     // The bus is behind the line of this word, whose interface may be silent for so many
     // milliseconds.
     ghost is_of: { Self → Self.Line → LineWord → ℕ → Type 0 };
 
-    // The clock gives a moment each so many milliseconds, none before the first of these two, none
-    // after the second, and none once there is a file at this path.
+    // The clock gives a moment in each period of milliseconds, none before the first of these two,
+    // none after the second, and none once there is a file at this path.
     ghost is_timed: { Self → Self.Clock → ℕ → ℕ → ℕ → Option (List ℕ) → Type 0 };
 
-    /// The bus behind a line, which begins to be opened and greeted beside: until it has greeted each
-    /// call fails. Nothing was sent or heard on the bus. The interface may be silent for so many
-    /// milliseconds. Once the clock of this watch came to its end, the bus hears no more frames than
-    /// an interface keeps.
+    /// The bus behind a line, which begins to be opened and greeted beside: until it has greeted
+    /// each call fails. Nothing was sent or heard on the bus. The interface may be silent for so
+    /// many milliseconds. Once the clock of this watch came to its end, the bus hears no more
+    /// frames than an interface keeps.
     ///
     /// # Errors
     ///
@@ -69,11 +69,13 @@ pub trait Site {
     fn settle(&self, lines: &[Self::Line]);
 
     /// Opens the line of a bus and greets the interface at its other end. Nothing was sent or heard
-    /// on the bus. The interface may be silent for so many milliseconds, and so long it may take.
+    /// on the bus. The interface may be silent for the given number of milliseconds, and so long it
+    /// may take.
     ///
     /// # Errors
     ///
-    /// The allocator is out of memory; or the line can't be opened, or its interface doesn't greet.
+    /// The allocator is out of memory; or the line cannot be opened, or its interface does not
+    /// greet.
     fn open<'a>(
         &self,
         alloc: Global,
@@ -85,12 +87,12 @@ pub trait Site {
         ensures of { IfOk result (λ bus. is_of self.now bus line.entry patience) }
         ensures refused { IfErr result (refuses self.now line.entry) };
 
-    /// The clock, at which it is `begins` now, and which gives a moment each so many milliseconds,
-    /// until the end. It gave none yet.
+    /// The clock, at which it is `begins` now, and which gives a moment in each period of
+    /// milliseconds, until the end. It gave none yet.
     ///
     /// # Errors
     ///
-    /// The allocator is out of memory, or the machine's clock can't be read.
+    /// The allocator is out of memory, or the machine's clock cannot be read.
     fn clock<'a>(
         &self,
         alloc: Global,

@@ -1,4 +1,4 @@
-//! Why a building doesn't run.
+//! Why a building does not run.
 
 use crate::lineup::LineupFault;
 use options::LineWord;
@@ -6,16 +6,16 @@ use plant::StartFault;
 use std::alloc::AllocError;
 use std::fmt;
 
-/// Why a building doesn't run. Nothing was sent on any bus.
+/// Why a building does not run. Nothing was sent on any bus.
 #[derive(Clone, Copy)]
 pub enum LiveStop<'a> {
-    /// The words of `--line` aren't the lines of the binding's buses.
+    /// The words of `--line` are not the lines of the binding's buses.
     Lineup(LineupFault),
-    /// This line isn't opened, or its interface doesn't greet.
+    /// This line is not opened, or its interface does not greet.
     NotOpened(LineWord<'a>),
-    /// The machine's clock can't be read.
+    /// The machine's clock cannot be read.
     NoClock,
-    /// The plant doesn't start, or the allocator is out of memory.
+    /// The plant does not start, or the allocator is out of memory.
     Start(StartFault),
 }
 

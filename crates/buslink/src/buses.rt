@@ -17,8 +17,8 @@ pub trait Bus: Drop {
 
     ghost log: { Self → BusLog };
 
-    /// Makes room for so many frames more, sent or heard. Where there is room already it succeeds,
-    /// and room is never given up.
+    /// Makes room for the given number of frames more, sent or heard. Where there is room already
+    /// it succeeds, and room is never given up.
     ///
     /// # Errors
     ///
@@ -39,8 +39,8 @@ pub trait Bus: Drop {
         requires { 0 < (log self.old).spare }
         ensures { log self.new ≡ after_send frame priority result (log self.old) };
 
-    /// The next 24-bit frame that came on the bus, where there is one. Where there is none, all that
-    /// has come was heard.
+    /// The next 24-bit frame that came on the bus, where there is one. Where there is none, all
+    /// that has come was heard.
     ///
     /// # Errors
     ///

@@ -2,8 +2,8 @@
 ghost use Rattle.std.specs.Prelude.{◌≡◌, IfSome};
 ghost use Rattle.buslink.specs.ClockLog.{TellsEnd, after_now, IsNotBefore};
 
-/// A clock, with the moments that it is to give where they are known, those that it gave so far, and
-/// how often it was asked.
+/// A clock, with the moments that it is to give where they are known, those that it gave so far,
+/// and how often it was asked.
 pub trait Clock: Drop {
     ghost use Rattle.buslink.specs.ClockLog.{ClockLog};
 

@@ -88,7 +88,7 @@ fn simulated(alloc: Global, text: &[u8]) -> Result<SimBus, Fail> {
     Ok(SimBus::new(alloc, setup)?)
 }
 
-/// The frame with so many bits, 16 or 24, and this number.
+/// The frame with the given number of bits, 16 or 24, and this number.
 fn frame(bits: u8, number: u32) -> Option<Frame> {
     if bits == 16 {
         let number = u16::try_from(number).ok()?;

@@ -62,8 +62,8 @@ const NO_ANSWERS: [&[u8]; 8] = [
     b"GUSHEWA 2 hears 5\n",
 ];
 
-/// What an interface of version 1 says up to where it is silent and from there on, and whether it has
-/// greeted then.
+/// What an interface of version 1 says up to where it is silent and from there on, and whether it
+/// has greeted then.
 const PLAIN: [(&[u8], &[u8], bool); 7] = [
     (b"fault\n", b"gushewa 1\n", true),
     (

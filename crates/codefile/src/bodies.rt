@@ -12,8 +12,8 @@ use crate::version::is_old;
 use ilcode::{FunctionBody, PackedWord, Word};
 use limits::MOST_INPUTS;
 
-/// Whether a code for so many buses, with so many slots, may have programs and functions that begin
-/// so, and these words.
+/// Whether a code for the given number of buses, with the given number of slots, may have programs
+/// and functions that begin so, and these words.
 pub(crate) fn are_bodies(
     buses: u8,
     slots: usize,

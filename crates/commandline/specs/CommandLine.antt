@@ -297,7 +297,7 @@ HasLastWord name found =
 abbrev pub NamesBindingTwice : Text → List Row → Type 0
 NamesBindingTwice name found = IsSome (first_of (codes "bind") found) × HasLastWord name found
 
--- of what was found one thing can't be used beside another one
+-- of what was found one thing cannot be used beside another one
 abbrev pub IsConflicting : Text → List Row → Type 0
 IsConflicting name found = AsksBesideCode name found ⊎ NamesBindingTwice name found
 
@@ -367,7 +367,7 @@ abbrev pub WatchesTooMany : Text → List Row → Type 0
 WatchesTooMany name found =
     ((name ≡ codes "play") ⊎ (name ≡ codes "look")) × (16 < length (watched_words found))
 
--- what was found has a value that isn't taken
+-- what was found has a value that is not taken
 abbrev pub HasWrongValue : Text → List Row → Type 0
 HasWrongValue name found =
     WritesOverInput name found ⊎ NamesNoLines name found ⊎ IsUnexpected name found ⊎ WatchesTooMany name found

@@ -12,7 +12,7 @@ ghost use Rattle.commandline.specs.CommandLine.{WritesOverInput};
 use clap::ArgMatches;
 use invocations::{CodeWords, code_words_in};
 
-/// Whether one thing is given beside another one that it can't be used with.
+/// Whether one thing is given beside another one that it cannot be used with.
 pub(crate) fn is_conflicting(name: &str, found: &ArgMatches) -> bool
     ensures { IsTrue result ↔ IsConflicting name.now (rows_of (found_of found.now)) }
 {
@@ -76,7 +76,7 @@ fn names_no_binding(name: &str, found: &ArgMatches) -> bool
     name == "probe" && is_given(found, "TEXT") && !is_given(found, "BIND")
 }
 
-/// Whether a scenario that is looked at isn't named, or no binding for it.
+/// Whether a scenario that is looked at is not named, or no binding for it.
 fn names_no_scenario(name: &str, found: &ArgMatches) -> bool
     ensures { IsTrue result ↔ NamesNoScenario name.now (rows_of (found_of found.now)) }
 {
@@ -97,8 +97,8 @@ fn names_no_code_file(name: &str, found: &ArgMatches) -> bool
     name == "code" && !is_given(found, "BIND")
 }
 
-/// Whether JSON is asked for without a file for how a building stands, or the size of a log that has
-/// no file.
+/// Whether JSON is asked for without a file for how a building stands, or the size of a log that
+/// has no file.
 fn has_no_file_beside(name: &str, found: &ArgMatches) -> bool
     ensures { IsTrue result ↔ HasNoFileBeside name.now (rows_of (found_of found.now)) }
 {

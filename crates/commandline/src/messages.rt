@@ -1,4 +1,4 @@
-//! The faults that `clap` doesn't find, in its words.
+//! The faults that `clap` does not find, in its words.
 
 ghost use Rattle.std.specs.Prelude.{◌≡◌, IfOk};
 ghost use Rattle.clap.specs.Words.{kind_of};
@@ -14,8 +14,8 @@ use clap::{ArgMatches, Error};
 use invocations::{ExpectedFault, LineWordFault, WatchedFault, WordFault, code_words_in};
 use std::alloc::{AllocError, Global};
 
-/// The fault of one thing that is given beside another one: a binding or JSON beside a code file, or
-/// a binding beside another one.
+/// The fault of one thing that is given beside another one: a binding or JSON beside a code file,
+/// or a binding beside another one.
 pub(crate) fn conflict(alloc: Global, name: &str, found: &ArgMatches) -> Result<Error, AllocError>
     ensures { IfOk result (λ error. kind_of error ≡ ErrorKind.ArgumentConflict) }
 {
@@ -69,7 +69,7 @@ fn text_command(name: &str) -> Subcommand {
     CHECK
 }
 
-/// The fault of files that aren't named.
+/// The fault of files that are not named.
 pub(crate) fn lack(alloc: Global, name: &str, found: &ArgMatches) -> Result<Error, AllocError>
     ensures { IfOk result (λ error. kind_of error ≡ ErrorKind.MissingRequiredArgument) }
 {
@@ -159,8 +159,8 @@ fn watched(alloc: Global, name: &str, fault: WatchedFault) -> Result<Error, Allo
     command_of(alloc, command)?.error(ErrorKind::ValueValidation, message.as_str())
 }
 
-/// The fault of a word that names no line, or a second one of a bus or of a path, under the command's
-/// name.
+/// The fault of a word that names no line, or a second one of a bus or of a path, under the
+/// command's name.
 fn no_line(alloc: Global, name: &str, fault: LineWordFault) -> Result<Error, AllocError>
     ensures { IfOk result (λ error. kind_of error ≡ ErrorKind.ValueValidation) }
 {

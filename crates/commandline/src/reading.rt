@@ -45,7 +45,7 @@ pub fn read<'a>(alloc: Global, words: &'a [String]) -> Result<Invocation<'a>, Er
 ///
 /// # Errors
 ///
-/// Those of [`read`] that `clap` doesn't find.
+/// Those of [`read`] that `clap` does not find.
 fn invocation<'a>(
     alloc: Global,
     name: &str,

@@ -1,4 +1,4 @@
-//! What is said of words that aren't taken.
+//! What is said of words that are not taken.
 
 use clap::Error;
 use std::alloc::{AllocError, Global};
@@ -6,7 +6,7 @@ use std::alloc::{AllocError, Global};
 /// What stands before a range in what `clap` says of a number.
 const BEFORE_RANGE: &str = " is not in ";
 
-/// What is said of words that aren't taken, with a range as the help writes it, `0..63`.
+/// What is said of words that are not taken, with a range as the help writes it, `0..63`.
 ///
 /// # Errors
 ///

@@ -2,11 +2,12 @@
 
 use crate::words::Word;
 
-/// The program's version, the kit that proves it, and where it is from. `packaging/parts` writes the
-/// commit, and whether the program is proved, in place of the last words, which are as long.
+/// The program's version, the kit that proves it, and where it is from. `packaging/parts` writes
+/// the commit, and whether the program is proved, in place of the last words, which are as long.
 pub(crate) const VERSION: &str = "0.15.0, rattle-kit-13f, built in a checkout and not packed";
 
-/// A command: its name, what the help says of it, its usage, its words, and what its help ends with.
+/// A command: its name, what the help says of it, its usage, its words, and what its help ends
+/// with.
 #[derive(Clone, Copy)]
 pub(crate) struct Subcommand {
     pub(crate) name: &'static str,
@@ -474,8 +475,8 @@ const EVENT: Subcommand = Subcommand {
           {n}{n}Example: dalictl event hall.bind 0.3 1",
 };
 
-/// The commands at the desk: the first of the help. The commands stand in tables of a few each, since
-/// a proof of one table takes the square of its words.
+/// The commands at the desk: the first of the help. The commands stand in tables of a few each,
+/// since a proof of one table takes the square of its words.
 pub(crate) const DESK: [Subcommand; 5] = [CHECK, EXPLAIN, NOTES, LIST, CODE];
 
 /// The commands that try a text out.

@@ -32,7 +32,7 @@ silent_question command = record { outcome = outcome.Done Quiet; question = reco
 pub begins_whole : (P : List Asked → Type 0) (asked : List Asked) → P asked → Begins P asked
 begins_whole P asked whole = record { rest = []; whole = subst P (sym (append-nil asked)) whole }
 
--- a command that isn't answered
+-- a command that is not answered
 pub broken_one : (command : Command) (fault : AskFault) (old new : BusLog) → IsUnanswered command fault old new
     → IsBrokenOff (IsSomeQuestion command) fault old new
 broken_one command Memory old new nothing = record {

@@ -122,7 +122,7 @@ pub flashes_cut : (address count : ℕ) (fault : AskFault) (old middle new : Bus
 flashes_cut address count fault old middle new fewer =
     broken_part (λ time. IsFlash address) (some_flash address) count 3 fault old middle new fewer
 
--- gear whose level isn't known gives none
+-- gear whose level is not known gives none
 no_level : (address : ℕ) → IsSomeBlink address (silent (GearAsk address 16))
 no_level address = (NoLevel (outcome.Done Quiet), (refl, λ level known. cc known.answered))
 

@@ -28,7 +28,7 @@ pub record IsSent (list : FrameList) (report : ReportParts) (old new : BusLog) :
 abbrev pub IsAsked : Command → ReportParts → BusLog → BusLog → Type 0
 IsAsked command = IsSent (transaction_of command)
 
--- .. and the interface didn't fail
+-- .. and the interface did not fail
 pub record IsAnswered (command : Command) (report : ReportParts) (old new : BusLog) : Type 0 where
   pub asked : IsAsked command report old new
   pub whole : ¬ (report.outcome ≡ outcome.Failed)

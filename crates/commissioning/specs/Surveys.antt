@@ -47,7 +47,7 @@ AreParts P (suc count) asked =
 abbrev pub IsQueryPart : ℕ → ℕ → List Asked → Type 0
 IsQueryPart address query part = MatchBool (is_surveyed query) (IsSomeQuestion (GearAsk address query) part) (part ≡ [])
 
--- the queries of gear, or none where it isn't there
+-- the queries of gear, or none where it is not there
 abbrev pub AreQueries : ℕ → Bool → List Asked → Type 0
 AreQueries address there rest = MatchBool there (AreParts (IsQueryPart address) 43 rest) (rest ≡ [])
 

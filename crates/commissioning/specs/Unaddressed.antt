@@ -27,7 +27,7 @@ pub record IsMissingAsked (outcome : Outcome) (old new : BusLog) : Type 0 where
   pub sent : IsSent missing_query report old new
   pub ends : outcome ≡ report.outcome
 
--- .. and the interface didn't fail
+-- .. and the interface did not fail
 pub record IsMissingAnswered (outcome : Outcome) (old new : BusLog) : Type 0 where
   pub asked : IsMissingAsked outcome old new
   pub whole : ¬ (outcome ≡ ended.Failed)

@@ -68,7 +68,7 @@ pub fn ask<B: Bus>(bus: &mut B, command: Command) -> Result<Report, AskFault>
         (λ report. IsAnswered command report (B.log bus.old) (B.log bus.new))
         (λ fault. IsUnanswered command fault (B.log bus.old) (B.log bus.new)) }
 
-    // Memory is refused only where fifteen frames don't fit.
+    // Memory is refused only where fifteen frames do not fit.
     ensures enough { most_sent ≤ (B.log bus.old).spare → ¬ (result ≡ Err AskFault.Memory) }
 {
     let request = Request {

@@ -36,7 +36,7 @@ const HALF_A_SECOND: u64 = 500;
 pub enum Blinked {
     /// It blinked, and its level from before, 0 to 254, was sent last, which ended so.
     Back(u8, Outcome),
-    /// It didn't give a level, so that nothing else was sent.
+    /// It did not give a level, so that nothing else was sent.
     NoLevel(Outcome),
 }
 
@@ -50,8 +50,8 @@ pub struct Shown {
 }
 
 /// Asks gear for its status, sends it three times to its greatest level and off, with half a second
-/// at each, and then back to the level that it had before. Gear that doesn't give its level is sent
-/// nothing more.
+/// at each, and then back to the level that it had before. Gear that does not give its level is
+/// sent nothing more.
 ///
 /// # Errors
 ///

@@ -23,8 +23,8 @@ use std::io::Write;
 /// QUERY GROUPS 0-7, which QUERY GROUPS 8-15 follows.
 const GROUPS: u8 = 41;
 
-/// Writes what of a text is silent, what is there and isn't in the text, each level that is another
-/// than the text first sends, and each group of the text in which no gear is, a line each.
+/// Writes what of a text is silent, what is there and is not in the text, each level that is
+/// another than the text first sends, and each group of the text in which no gear is, a line each.
 ///
 /// # Errors
 ///

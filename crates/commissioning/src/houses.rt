@@ -7,7 +7,7 @@ use daliframe::ShortAddress;
 use std::io;
 use std::io::Write;
 
-/// The level of gear that doesn't know it.
+/// The level of gear that does not know it.
 const NO_LEVEL: u8 = 255;
 
 /// Writes a line of a scenario for each gear that answered: with its level where it is on, its

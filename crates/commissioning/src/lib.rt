@@ -3,11 +3,11 @@
 //!
 //! What crosses the boundary: a [`Bus`](buslink::Bus) and writers go in. What is sent are
 //! transactions, legal by their type: [`ask`] sends one, and all else asks by it, but for
-//! [`ask_unaddressed`], which sends the one query to all gear. [`probe`] gives a [`Survey`], which goes
-//! to a [`Table`] as it comes, and [`write_differences`] compares it with the plan of a text.
+//! [`ask_unaddressed`], which sends the one query to all gear. [`probe`] gives a [`Survey`], which
+//! goes to a [`Table`] as it comes, and [`write_differences`] compares it with the plan of a text.
 //! [`listen`] only hears. Each command has a function `serve_..` that writes what is to be read and
-//! tells how it was [`Served`]. The definition to read first is `IsAsked`
-//! (specs/Asking.antt), and then `IsSurvey` (specs/Surveys.antt), which questions a survey has.
+//! tells how it was [`Served`]. The definition to read first is `IsAsked` (specs/Asking.antt), and
+//! then `IsSurvey` (specs/Surveys.antt), which questions a survey has.
 //!
 //! ```text
 //! let report = ask(&mut bus, command)?; // what became of it, attempt by attempt

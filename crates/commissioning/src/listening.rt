@@ -23,7 +23,7 @@ const PAUSE: u64 = 20;
 /// When listening ends.
 #[derive(Drop)]
 pub struct ListenEnd<S: StopCondition> {
-    /// After so many milliseconds.
+    /// After this number of milliseconds.
     pub millis: Option<u64>,
     /// As soon as this is wanted.
     pub stop: S,
@@ -36,13 +36,13 @@ pub enum Silenced {
     Ended,
     /// The bus failed, or had no room.
     Fault(AskFault),
-    /// The clock can't be read.
+    /// The clock cannot be read.
     NoClock,
 }
 
 /// Writes what comes on a bus, a line each: the moment in milliseconds since it began, what came,
-/// and where it is bound, or by which line it could be bound. `scenario` gets each event as lines of
-/// a scenario: all that was heard, where no writer failed. Nothing is sent.
+/// and where it is bound, or by which line it could be bound. `scenario` gets each event as lines
+/// of a scenario: all that was heard, where no writer failed. Nothing is sent.
 ///
 /// # Errors
 ///

@@ -21,8 +21,8 @@ pub struct Probed {
     pub unaddressed: Outcome,
 }
 
-/// Makes a survey of a bus, and asks then by one frame whether there is gear without a short address.
-/// What is there goes to the table at once, and how far it is to `progress`.
+/// Makes a survey of a bus, and asks then by one frame whether there is gear without a short
+/// address. What is there goes to the table at once, and how far it is to `progress`.
 ///
 /// # Errors
 ///

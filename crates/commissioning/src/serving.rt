@@ -39,7 +39,7 @@ pub enum Served {
     Done,
     /// The allocator is out of memory.
     NoMemory,
-    /// The interface failed, or the clock can't be read.
+    /// The interface failed, or the clock cannot be read.
     Failed,
 }
 
@@ -140,7 +140,7 @@ fn write_survey<W: Write>(
     }
 }
 
-/// Writes that there is gear without a short address, or that this isn't known.
+/// Writes that there is gear without a short address, or that this is not known.
 fn write_unaddressed<W: Write>(to: &mut W, outcome: Outcome) -> io::Result<()> {
     if is_answer(outcome) {
         return writeln!(to, "there is gear without a short address");
@@ -154,7 +154,7 @@ fn write_unaddressed<W: Write>(to: &mut W, outcome: Outcome) -> io::Result<()> {
     Ok(())
 }
 
-/// Writes why a command wasn't done.
+/// Writes why a command was not done.
 fn write_fault<W: Write>(to: &mut W, fault: AskFault) -> io::Result<Served>
     ensures { IfOk result (λ served. served ≡ served_of fault) }
 {
@@ -273,7 +273,7 @@ pub fn serve_ask<B: Bus, W: Write>(bus: &mut B, command: Command, to: &mut W) ->
     ensures served { IsServed
         (λ asked. HasAsked command asked (B.log bus.old) (B.log bus.new)) result }
 
-    // Memory is refused only where fifteen frames don't fit.
+    // Memory is refused only where fifteen frames do not fit.
     ensures enough { most_sent ≤ (B.log bus.old).spare → ¬ (result ≡ Ok Served.NoMemory) }
 {
     let asked = ask(bus, command);

@@ -258,8 +258,8 @@ pub(crate) fn is_answer(outcome: Outcome) -> bool
     matches!(outcome, Outcome::Done(Reply::Answer(_) | Reply::Damaged))
 }
 
-/// Whether gear is asked this query: for its status, its device type, its levels, its fade time, its
-/// scenes and its groups.
+/// Whether gear is asked this query: for its status, its device type, its levels, its fade time,
+/// its scenes and its groups.
 fn is_surveyed(number: u8) -> bool
     ensures { result ≡ is_surveyed number }
 {

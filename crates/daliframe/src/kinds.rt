@@ -1,4 +1,4 @@
-//! What a number of this crate is the number of, so that a group isn't taken for a bus.
+//! What a number of this crate is the number of, so that a group is not taken for a bus.
 
 /// A short address.
 pub enum OfShort {}

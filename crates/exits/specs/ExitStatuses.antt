@@ -23,7 +23,7 @@ number_of_status Refused = 1
 number_of_status Misused = 2
 number_of_status Failed = 3
 
--- of words that aren't taken: the help or the version is shown, or out of memory, or they are no command line
+-- of words that are not taken: the help or the version is shown, or out of memory, or they are no command line
 abbrev pub status_of_words : ErrorKind → ExitStatus
 status_of_words kinds.DisplayHelp = Accepted
 status_of_words kinds.DisplayVersion = Accepted
@@ -42,7 +42,7 @@ abbrev pub status_of_run : Ended → Bool → ExitStatus
 status_of_run Asked false = Accepted
 status_of_run ended is_down = Failed
 
--- of what stands against a text: out of memory, or a task that isn't there, or something is at fault
+-- of what stands against a text: out of memory, or a task that is not there, or something is at fault
 abbrev pub status_of_stop : Stop → ExitStatus
 status_of_stop stops.Memory = Failed
 status_of_stop (stops.NoTask asked) = Misused

@@ -10,9 +10,9 @@ use workers::Ended;
 pub enum ExitStatus {
     /// What was asked for was done.
     Accepted,
-    /// A file, a task's name or a code is refused, or what was expected of a play doesn't hold.
+    /// A file, a task's name or a code is refused, or what was expected of a play does not hold.
     Refused,
-    /// The words aren't a command line.
+    /// The words are not a command line.
     Misused,
     /// A device failed, or the allocator is out of memory.
     Failed,
@@ -36,7 +36,7 @@ impl ExitStatus {
         }
     }
 
-    /// Of words that `clap` didn't take, by the kind of its error.
+    /// Of words that `clap` did not take, by the kind of its error.
     pub fn of_words(kind: ErrorKind) -> ExitStatus
         ensures { result ≡ status_of_words kind }
     {

@@ -1,4 +1,4 @@
-//! Why a scenario isn't played or run.
+//! Why a scenario is not played or run.
 
 use crate::exit_status::ExitStatus;
 use answers::Stop;
@@ -14,7 +14,7 @@ pub enum PlayStop {
     Text(Stop),
     /// Of the scenario.
     Scenario(ScenarioFault),
-    /// The plant can't start.
+    /// The plant cannot start.
     Start(StartFault),
 }
 

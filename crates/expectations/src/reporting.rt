@@ -1,4 +1,4 @@
-//! What is reported where a plant isn't as it is expected to be.
+//! What is reported where a plant is not as it is expected to be.
 
 ghost use Rattle.std.specs.Prelude.{◌<◌, length};
 
@@ -29,7 +29,7 @@ pub fn report_unknown<E: Write>(
     Ok(())
 }
 
-/// Reports what isn't as expected, with what is.
+/// Reports what is not as expected, with what is.
 ///
 /// # Errors
 ///

@@ -12,7 +12,7 @@ pub(crate) enum Held {
 /// Whose words they are.
 #[derive(Clone, Copy)]
 enum Owner {
-    /// Programs, of a code with so many functions.
+    /// Programs, of a code with the given number of functions.
     Programs(u32),
     /// The first function.
     First,
@@ -38,7 +38,7 @@ impl Body {
         Body::programs(0, to)
     }
 
-    /// Programs of a code with so many functions.
+    /// Programs of a code with the given number of functions.
     pub(crate) fn programs(functions: u32, to: u32) -> Body {
         Body {
             owner: Owner::Programs(functions),

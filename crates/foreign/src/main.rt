@@ -59,7 +59,7 @@ fn asked<R: Env + AllocGlobal>(rt: &R) -> io::Result<u32> {
     Ok(1000)
 }
 
-/// What becomes of so many random files.
+/// What becomes of the given number of random files.
 fn random(alloc: Global, count: u32) -> Result<Tally, AllocError> {
     let mut files = RandomFiles::new(42);
     let mut tally = Tally::default();
@@ -70,7 +70,7 @@ fn random(alloc: Global, count: u32) -> Result<Tally, AllocError> {
     Ok(tally)
 }
 
-/// What becomes of so many random files with functions.
+/// What becomes of the given number of random files with functions.
 fn random_with_functions(alloc: Global, count: u32) -> Result<Tally, AllocError> {
     let mut files = RandomFiles::new(43);
     let mut tally = Tally::default();

@@ -307,7 +307,7 @@ fn push_head(bytes: &mut Vec<u8>, version: u8, slots: u32) -> Result<(), AllocEr
 }
 
 /// What a file with one or two functions begins with, up to its instances: one or two programs, and
-/// so many words in all.
+/// the given number of words in all.
 fn push_front(bytes: &mut Vec<u8>, two: bool, programs: bool, all: u32) -> Result<(), AllocError> {
     push_head(bytes, 2, if two { 10 } else { 6 })?;
     bytes.extend_from_slice(&(if programs { 2u32 } else { 1 }).to_le_bytes())?;

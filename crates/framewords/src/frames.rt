@@ -9,9 +9,9 @@ use dalievent::{Heard, decode};
 use daliframe::{Fields16, Frame, Frame16, Frame24};
 use std::fmt;
 
-/// What a forward frame says: `short 5 level 200`, `group 3 RECALL MAX LEVEL`, `DTR0 := 100`, `device
-/// 3 instance 0 QUERY INPUT VALUE`, `event: device 3 instance 0, scheme device-instance, information
-/// 2`. An opcode that this profile does not have is a number: `short 5 opcode 0x0B`.
+/// What a forward frame says: `short 5 level 200`, `group 3 RECALL MAX LEVEL`, `DTR0 := 100`,
+/// `device 3 instance 0 QUERY INPUT VALUE`, `event: device 3 instance 0, scheme device-instance,
+/// information 2`. An opcode that this profile does not have is a number: `short 5 opcode 0x0B`.
 #[derive(Clone, Copy)]
 pub struct FrameWords(pub Frame);
 
@@ -24,8 +24,8 @@ impl fmt::Display for FrameWords {
     }
 }
 
-/// What forward frames say that are sent one after another, with `again` for one that is the same as
-/// the one before: `DTR0 := 100, short 5 SET SCENE 2, again`.
+/// What forward frames say that are sent one after another, with `again` for one that is the same
+/// as the one before: `DTR0 := 100, short 5 SET SCENE 2, again`.
 #[derive(Clone, Copy)]
 pub struct FramesWords<'a>(pub &'a [Frame]);
 

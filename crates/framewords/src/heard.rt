@@ -4,8 +4,8 @@ use dalievent::{EventMessage, Heard, decode};
 use daliframe::{EventScheme, Frame24};
 use std::fmt;
 
-/// What a 24-bit forward frame is to those who listen: `device 3 instance 0, scheme device-instance,
-/// information 2`; `command`, to a control device; or `other frame`.
+/// What a 24-bit forward frame is to those who listen: `device 3 instance 0, scheme
+/// device-instance, information 2`; `command`, to a control device; or `other frame`.
 #[derive(Clone, Copy)]
 pub struct HeardWords(pub Frame24);
 

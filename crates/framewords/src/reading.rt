@@ -15,9 +15,9 @@ use daliframe::{Address, EventScheme, Number};
 use gearcmd::Command;
 
 /// What the block of this name, in any letter case, asks for with this address and these numbers at
-/// the ports behind it, in their order, where it has so many ports and the numbers are within their
-/// ranges. An address is 0 to 63, a short one; 64 to 79, the groups 0 to 15; or 80, all control
-/// gear.
+/// the ports behind it, in their order, where it has the given number of ports and the numbers are
+/// within their ranges. An address is 0 to 63, a short one; 64 to 79, the groups 0 to 15; or 80,
+/// all control gear.
 pub fn request_of(
     block: &str,
     address: u8,

@@ -19,8 +19,8 @@ impl fmt::Display for DevicesWords {
     }
 }
 
-/// The part of these devices that an instance byte names, with a blank before it: ` instance 0`; and
-/// nothing where it is the device itself.
+/// The part of these devices that an instance byte names, with a blank before it: ` instance 0`;
+/// and nothing where it is the device itself.
 #[derive(Clone, Copy)]
 pub(crate) struct PartWords(pub u8);
 

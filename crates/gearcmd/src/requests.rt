@@ -18,7 +18,7 @@ pub enum TaskKind {
 }
 
 impl TaskKind {
-    /// The class of what a task of this kind sends once and isn't answered: 2 of an event task, 4
+    /// The class of what a task of this kind sends once and is not answered: 2 of an event task, 4
     /// of a cyclic one (profile).
     pub fn class(self) -> u8
         ensures { result ≡ task_class self }
@@ -132,7 +132,7 @@ impl Request {
     pub fn class(&self, task: TaskKind) -> u8
         ensures value { result ≡ class_of self.now.command task }
 
-        // Classes 3 and 5 don't depend on the kind of task; 2 comes from event tasks alone, and 4
+        // Classes 3 and 5 do not depend on the kind of task; 2 comes from event tasks alone, and 4
         // from cyclic ones.
         ensures same { (result ≡ 3) ⊎ (result ≡ 5)
             → (other : Kind) → class_of self.now.command other ≡ result }

@@ -7,7 +7,7 @@ use Rattle.gushewa.specs.declared.controller.Controller.{Controller}
 use Rattle.gushewa.specs.declared.not_opened.NotOpened.{NotOpened}
 use Rattle.gushewa.specs.declared.not_opened.NotOpened.TheVariants.{Buses, Plant}
 
--- a bus of this number on which nothing was sent and heard, and of which it isn't known what comes
+-- a bus of this number on which nothing was sent and heard, and of which it is not known what comes
 abbrev pub fresh_bus : ℕ → BusLog
 fresh_bus number = record {
   number = number;

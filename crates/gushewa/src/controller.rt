@@ -28,8 +28,8 @@ impl<B: Drop> Controller<B> {
     ghost use Rattle.gushewa.specs.Controllers.{IsNotOpened, IsOpened};
 
     /// The plant of a setup, to which nothing has happened, with one scan worker, on these buses:
-    /// one for each bus of the plan, in the order of their numbers. Its history has so many events
-    /// at most, 100 to 1,000,000, and with more than 16 buses at least 500.
+    /// one for each bus of the plan, in the order of their numbers. Its history has the given
+    /// number of events at most, 100 to 1,000,000, and with more than 16 buses at least 500.
     ///
     /// # Errors
     ///

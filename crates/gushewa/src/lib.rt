@@ -1,5 +1,6 @@
-//! The front door for a program that has a controller in it: a text is loaded, and its plant runs on
-//! buses of the program's own, on one thread, without a command line and without simulated buses.
+//! The front door for a program that has a controller in it: a text is loaded, and its plant runs
+//! on buses of the program's own, on one thread, without a command line and without simulated
+//! buses.
 //!
 //! What crosses the boundary: [`load`] makes a [`Setup`] of a text and its [`Binding`]. An
 //! [`Interface`] is what the program has in place of a bus: three functions, and nothing of it is

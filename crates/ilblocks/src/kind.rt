@@ -60,7 +60,7 @@ impl BlockKind {
         !matches!(self, BlockKind::RTrig | BlockKind::Ctu | BlockKind::Ton)
     }
 
-    /// The type of a port, on so many buses.
+    /// The type of a port, on the given number of buses.
     pub fn port_type(self, buses: u8, port: usize) -> Option<IlType>
         requires { 1 ≤ buses }
         ensures { result ≡ port_type buses self port }
@@ -70,7 +70,7 @@ impl BlockKind {
             .map(|port| port.values.il_type(buses))
     }
 
-    /// The type of an input port, on so many buses; none where the port is an output.
+    /// The type of an input port, on the given number of buses; none where the port is an output.
     pub fn input_type(self, buses: u8, port: usize) -> Option<IlType>
         requires { 1 ≤ buses }
         ensures { result ≡ input_type buses self port }

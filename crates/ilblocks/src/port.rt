@@ -95,7 +95,7 @@ impl PortValues {
     ghost use Rattle.std.specs.Prelude.{◌≡◌, ◌≤◌};
     ghost use Rattle.ilblocks.specs.Ports.{type_of, first_of};
 
-    /// The type, on so many buses.
+    /// The type, on the given number of buses.
     pub fn il_type(self, buses: u8) -> IlType
         requires { 1 ≤ buses }
         ensures { result ≡ type_of buses self }

@@ -75,7 +75,7 @@ module _ (code : Listing) (calls : List OpenCall) (start end : ℕ) (region : Re
   Fills c q slot many t (Some vs) =
       (u : Store) × Holds u.slots slot vs × Kept slot (slot + many) t u × Reaches code c (at q u r n calls)
 
-  -- a word gives an operand to a slot; slots that were given before don't change what it is worth
+  -- a word gives an operand to a slot; slots that were given before do not change what it is worth
   module _ (word : Operand Place → WordOperand) (val : Operand Place → Option Value) (Good : Operand Place → Type 0)
       (lo hi : ℕ) (t0 : Store)
       (reads : (o : Operand Place) → Good o → (t : Store) → Kept lo hi t0 t → value_of code t (word o) ≡ val o) where

@@ -106,7 +106,7 @@ module _ (code : Listing) where
         targets = lawful;
       }
 
-  -- outside of calls nothing happens where no program and no function begins and the programs don't end
+  -- outside of calls nothing happens where no program and no function begins and the programs do not end
   calm_out : (p : ℕ) (s : Store) (r : Option Value) (n : List Opened) → is_start code p ≡ false → p < end_of code 0
       → Calm p s r n []
   calm_out p s r n h lt =

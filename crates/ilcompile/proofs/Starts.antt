@@ -31,7 +31,7 @@ not_before s p h = grind (arith, nat_tests)
 not_after : (s p : ℕ) → p < s → (s == p) ≡ false
 not_after s p h = grind (arith, nat_tests)
 
--- starts that are behind a place don't matter there
+-- starts that are behind a place do not matter there
 past : (before rest : List ℕ) (q p : ℕ) → UpTo q before → q < p → starts_at p (before ++ rest) ≡ starts_at p rest
 past [] rest q p l h = refl
 past (s ∷ before) rest q p l h =

@@ -67,7 +67,8 @@ fn push_bodies(
     Ok(())
 }
 
-/// Adds this place so many times: each word of a starting value stands where FUNCTION does.
+/// Adds this place the given number of times: each word of a starting value stands where FUNCTION
+/// does.
 fn push_values(places: &mut Vec<usize>, at: usize, many: usize) -> Result<(), AllocError>
     ensures { OnOk result (places.new.items ≡ places.old.items ++ replicate many at) }
 {

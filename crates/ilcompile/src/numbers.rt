@@ -104,7 +104,8 @@ impl<'a> CodeNumbers<'a> {
     }
 }
 
-/// The number of a variable, of a block instance, which is called or has the port, or of a function.
+/// The number of a variable, of a block instance, which is called or has the port, or of a
+/// function.
 pub(crate) fn number_of(place: Place) -> usize
     ensures { result ≡ number_of place }
 {

@@ -10,7 +10,7 @@ use crate::slots::TaskSlot;
 use crate::task_row::TaskRow;
 use std::alloc::{AllocError, Global};
 
-/// The slots of each of so many global variables.
+/// The slots of each of the given number of global variables.
 pub(crate) fn index_of(
     alloc: Global,
     globals: usize,
@@ -29,7 +29,7 @@ pub(crate) fn index_of(
     Ok(index)
 }
 
-/// The index of so many global variables, of which none stands anywhere.
+/// The index of the given number of global variables, of which none stands anywhere.
 fn empty_index(alloc: Global, globals: usize) -> Result<Vec<Vec<TaskSlot>>, AllocError>
     ensures { IfOk result (λ index.
         lists_of (λ slots. slots.items) index.items ≡ replicate globals []) }

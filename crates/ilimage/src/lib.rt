@@ -1,10 +1,10 @@
 //! The process image: a value for each global variable of a plant, and for each task the values of
 //! its own variables and its block instances.
 //!
-//! What crosses the boundary: an [`Image`] is made of [`TaskImage`]s. Each keeps the task's verified
-//! code as the machine reads it ([`PreparedCode`]). [`Image::take`] gives the
-//! [`Snapshot`] that a scan of a task starts from, and [`Image::commit`] writes what the scan left:
-//! the globals that the task stores ([`StoredSlot`]), its own variables and its block instances.
+//! What crosses the boundary: an [`Image`] is made of [`TaskImage`]s. Each keeps the task's
+//! verified code as the machine reads it ([`PreparedCode`]). [`Image::take`] gives the [`Snapshot`]
+//! that a scan of a task starts from, and [`Image::commit`] writes what the scan left: the globals
+//! that the task stores ([`StoredSlot`]), its own variables and its block instances.
 //! [`Image::take_with`] is for an event task: by [`Override`]s its snapshot has the trigger TRUE,
 //! and the information and count of the event that activated it.
 //! Which variable stands in which slot, and which a scan writes, is `variable_in` and `written_in`

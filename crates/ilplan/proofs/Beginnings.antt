@@ -15,7 +15,7 @@ module _ {X Y : Type 0} (put : X → Y → X) where
   length_with (x ∷ xs) [] = refl
   length_with (x ∷ xs) (y ∷ ys) = ap suc (length_with xs ys)
 
-  -- what isn't reached is as it was
+  -- what is not reached is as it was
   pub with_past : (xs : List X) (ys : List Y) (i : ℕ) (d : X) → get_or (each_with put xs (take i ys)) i d ≡ get_or xs i d
   with_past [] ys i d = refl
   with_past (x ∷ xs) ys zero d = refl

@@ -1,4 +1,4 @@
--- What a task means doesn't hang on what its variables begin with.
+-- What a task means does not hang on what its variables begin with.
 use Rattle.std.proofs.Common.{◌≡◌, ℕ, zero, suc, List, [], ◌∷◌, map, Option, Some, refl, sym, ap, ◌∙◌}
 use Rattle.std.specs.Prelude.{slice_get}
 use Rattle.iltypes.specs.declared.value.IlType.{IlType}

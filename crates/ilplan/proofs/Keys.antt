@@ -68,7 +68,7 @@ module _ {X : Type 0} (test : X → Bool) where
       (λ t. rw t (let a : nat_lt (len + 1) (len + 1) ≡ false = grind (arith, nat_tests) in let b : nat_lt n len ≡ false = grind (arith, nat_tests, t) in rw (a, b) refl))
       (λ f. rw f (let a : nat_lt n (len + 1) ≡ true = grind (arith, nat_tests, le) in let b : nat_lt n len ≡ true = grind (arith, nat_tests, f, le) in rw (a, b) refl))
 
-  -- one more, which doesn't pass
+  -- one more, which does not pass
   pub passed_over : (known : List X) (value : X) → test value ≡ false
       → position test (known ++ value ∷ []) ≡ position test known
   passed_over known value f =

@@ -5,7 +5,7 @@ use gearcmd::TaskKind;
 /// What starts a task (IEC 61131-3, 2.7.2).
 #[derive(Clone, Copy)]
 pub enum Activation {
-    /// The clock, every so many milliseconds, 1 or more.
+    /// The clock, once in each interval of milliseconds, 1 or more.
     Cyclic { interval: u32 },
     /// An event, by the global variable of this number, the task's trigger.
     Event { trigger: usize },

@@ -75,8 +75,8 @@ impl Plan {
     ghost use Rattle.ilplan.specs.Plans.{HasStates, IsTaskOf, IsThere, instance_name, variable_name};
     ghost use Rattle.ilplan.specs.Beginnings.{MayBegin, plan_with};
 
-    /// The plan of these tasks and functions, whose names stand in `text`, on so many buses with
-    /// these sources of events and these attempts.
+    /// The plan of these tasks and functions, whose names stand in `text`, on the given number of
+    /// buses with these sources of events and these attempts.
     pub fn new(
         text: Vec<u8>,
         buses: u8,

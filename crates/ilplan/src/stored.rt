@@ -9,7 +9,8 @@ use crate::place::Place;
 use ilsource::{Instruction, Line};
 use std::alloc::{AllocError, Global};
 
-/// For each of so many slots whether a line of the instances stores to it, sets it or resets it.
+/// For each of the given number of slots whether a line of the instances stores to it, sets it or
+/// resets it.
 pub(crate) fn stored_slots(
     alloc: Global,
     slots: usize,

@@ -224,7 +224,7 @@ jump_by code place entry condition target result t k h =
     undefined_with code place entry (words.Jump condition target) (base code entry) result (base_chosen code entry t) k
     (jump_none code c target (nesting_of entry.nesting) (holds condition result) (h c refl))
 
--- a result with which the jump is carried out, or with which it can't be
+-- a result with which the jump is carried out, or with which it cannot be
 unlawful : (code : Listing) (place : ℕ) (entry : Entry) (condition : Condition) (target : ℕ) (known : Option Known)
     → IsTyped code entry → entry.result ≡ known → ¬ IsTrue (is_target code place target)
     → IsUndefined code place entry (words.Jump condition target)

@@ -225,7 +225,7 @@ map_none : {A B : Type 0} (f : A → B) (o : Option A) → option_map f o ≡ No
 map_none f None e = refl
 map_none f (Some x) e = absurd (cc)
 
--- an operand that isn't in its table has no value
+-- an operand that is not in its table has no value
 pub missing : (code : Listing) (entry : Entry) (s : Store) (operand : WordOperand) → IsChosen code entry s
     → known_of code entry operand ≡ None → value_of code s operand ≡ None
 missing code entry s (operands.Slot slot) h e =
@@ -240,7 +240,7 @@ missing code entry s (operands.Port port block) h e =
     let none = map_none known_of_type (type_of_port (shape_of code) block port) e in
     absurd (cc))
 
--- ---- what can't be stored
+-- ---- what cannot be stored
 
 pub not_stored : (code : Listing) (s : Store) (variable : Target) (value : Value)
     → ((type : IlType) → type_of_variable code variable ≡ Some type → ¬ IsOf value type)

@@ -41,7 +41,7 @@ use Rattle.ilranges.proofs.UndefinedStores.{undefined_with}
 use Rattle.ilranges.proofs.UndefinedOperators.{IsChoice, choice, AreAlike}
 use Rattle.ilranges.proofs.UndefinedValues.{operand_of}
 
--- ---- what can't be stored
+-- ---- what cannot be stored
 
 -- a value of no kind that the variable takes
 wrong_store : (code : Listing) (s : Store) (variable : Target) (value : Value)
@@ -50,14 +50,14 @@ wrong_store code s variable value h =
     not_stored code s variable value
     (λ type e of. h (subst (λ (o : Option IlType). MayTake o value) (sym e) (of_kind value type of)))
 
--- what is stored to isn't in its table
+-- what is stored to is not in its table
 no_variable : (code : Listing) (s : Store) (variable : Target) (value : Value)
     → IsNone (type_of_variable code variable) → stored_at code s variable value ≡ None
 no_variable code s variable value h =
     not_stored code s variable value
     (λ type e of. let none = none_of (type_of_variable code variable) h in absurd (cc))
 
--- a number that is known so, and that the variable doesn't take
+-- a number that is known so, and that the variable does not take
 record IsTooFar (known : Option Known) (type : Option IlType) : Type 0 where
   number : ℤ
   range : Range

@@ -61,7 +61,7 @@ IsWrongForSet result type = ¬ MayBe (values.Bool true) result ⊎ ¬ MayTake ty
 
 -- ---- the causes of each word, but for parentheses that stay open
 
--- the operand isn't in its table, or may not be named here
+-- the operand is not in its table, or may not be named here
 abbrev pub IsNotNamed : Option Known → Bool → Type 0
 IsNotNamed operand named = IsNone operand ⊎ ¬ IsTrue named
 
@@ -94,7 +94,7 @@ abbrev pub IsOutOfSlot : Option Known → Option IlType → Range → Range → 
 IsOutOfSlot (Some result) (Some type) found allowed = ArisesAtStore result type (causes.OutOfRange found allowed)
 IsOutOfSlot _ _ found allowed = ⊥
 
--- what is stored to isn't in its table, or may not be written here: an output, or what a body may not name
+-- what is stored to is not in its table, or may not be written here: an output, or what a body may not name
 abbrev pub IsNotWritten : Option IlType → Bool → Type 0
 IsNotWritten type writable = IsNone type ⊎ ¬ IsTrue writable
 

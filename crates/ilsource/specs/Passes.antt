@@ -18,7 +18,7 @@ takes same On label = true
 takes same (To l) label = has_label same l label
 takes same Out label = false
 
--- past the last line: a label that is still looked for isn't there
+-- past the last line: a label that is still looked for is not there
 abbrev pub at_end : {L S : Type 0} → Way L → S → Option S
 at_end On s = Some s
 at_end (To l) s = None

@@ -39,7 +39,7 @@ fn ways()
     ensures anew { AreStuck ((ld 0 ∷ []) ∷ (st 0 ∷ []) ∷ []) (truth false ∷ []) }
 {}
 
-/// S, R and STN, and calls: one that isn't carried out keeps the result, the others leave none.
+/// S, R and STN, and calls: one that is not carried out keeps the result, the others leave none.
 fn stores()
     ensures sets { Ends sets (truth true ∷ truth false ∷ truth true ∷ [])
         (truth false ∷ truth true ∷ truth false ∷ []) }

@@ -99,7 +99,7 @@ impl<N: Drop, L: Drop> Drop for Instruction<N, L> {
     }
 }
 
-/// A line that isn't empty: a label, an instruction, or both.
+/// A line that is not empty: a label, an instruction, or both.
 pub struct Line<N: Drop, L: Drop> {
     /// The place in the text of the instruction's first byte, after its label; of a label alone the
     /// place of the label's first byte.

@@ -7,8 +7,8 @@ use crate::symbol::Symbol;
 use std::marker::Model;
 
 /// `PROGRAM name { VAR .. END_VAR } { line } END_PROGRAM`. No more parentheses are open at once
-/// than [`limits::MOST_NESTING`], each after an operator that may be deferred, and what a line names
-/// may stand there.
+/// than [`limits::MOST_NESTING`], each after an operator that may be deferred, and what a line
+/// names may stand there.
 #[derive(Drop)]
 pub struct Program {
     name: Name,

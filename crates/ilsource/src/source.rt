@@ -67,8 +67,8 @@ impl Source {
         }
     }
 
-    /// The source program with this configuration in place of its own, as where variables begin with
-    /// other values than the text gives them.
+    /// The source program with this configuration in place of its own, as where variables begin
+    /// with other values than the text gives them.
     pub fn with_configuration(self, configuration: Configuration) -> Source
         ensures { result ≡ record self { configuration = Some configuration } }
     {

@@ -15,14 +15,14 @@ unless : (a b : Bool) → b ≡ true → (a ≡ true → b ≡ false) → a ≡ 
 unless false b is other = refl
 unless true b is other = absurd (false≢true (sym (other refl) ∙ is))
 
--- a token that begins what never begins with this word isn't the word
+-- a token that begins what never begins with this word is not the word
 pub no_word : (w : Keyword) (p : Token → Bool)
     → ((f g : ℕ) → p (token_of (kinds.Good (whats.Keyword w)) f g) ≡ false) → (k : TokenKind) (f g : ℕ)
     → p (token_of k f g) ≡ true → (word w).starts (token_of k f g) ≡ false
 no_word w p never k f g e =
     unless ((word w).starts (token_of k f g)) (p (token_of k f g)) e (apart_word w p never k f g)
 
--- a token that begins what never begins with a line end isn't one
+-- a token that begins what never begins with a line end is not one
 pub no_end : (p : Token → Bool)
     → ((f g : ℕ) → p (token_of (kinds.Good (whats.Delimiter delimiters.LineEnd)) f g) ≡ false)
     → (k : TokenKind) (f g : ℕ) → p (token_of k f g) ≡ true → NoEnd (token_of k f g)

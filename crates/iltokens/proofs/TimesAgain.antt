@@ -22,7 +22,7 @@ use Rattle.iltokens.proofs.TimeLaws.{state, part_found, times_capped, some_time,
 
 -- ---- units
 
--- letters of another unit aren't read as those of x
+-- letters of another unit are not read as those of x
 abbrev Apart : Unit → Unit → Type 0
 Apart x y = (word rest : List ℕ) → Reads (forms.letters y) word → after_unit x (word ++ rest) ≡ None
 
@@ -68,7 +68,7 @@ minute_second word rest h =
     none_after _ _ (word_other (codes "ms") (codes "s") word rest h refl)
     (word_other (codes "m") (codes "s") word rest h refl)
 
--- `m` before `s` isn't a minute
+-- `m` before `s` is not a minute
 minute_milli : (word rest : List ℕ) → Reads (codes "ms") word → after_unit units.Minute (word ++ rest) ≡ None
 unfolding after_unit
 minute_milli word rest h = rw (word_again (codes "ms") word rest h) refl
@@ -315,7 +315,7 @@ nothing_left us some w n held total rest h e =
     let k = goes_on us held rest in
     rw (h.0, h.1) (k.0, k.1, λ z. k.2 z ∙ (let f = h.2 in omega arith))
 
--- one unit more, whose part isn't there
+-- one unit more, whose part is not there
 reached_skip : (x : Unit) (us : List Unit) → AllApart x us → Reached us
     → (some : Bool) (w : List ℕ) (n held total : ℕ) (rest : List ℕ)
     → Falling some us w n → held ≡ capped total → Ends (total + n) rest (run (x ∷ us) (state held some (w ++ rest)))
@@ -360,7 +360,7 @@ reached_millis = reached_unit units.Millisecond [] tt own_milli reached_none
 reached_seconds : Reached (below units.Minute)
 reached_seconds = reached_unit units.Second (below units.Second) (second_milli, tt) own_second reached_millis
 
--- what follows a part isn't the letter s, unless it follows all parts
+-- what follows a part is not the letter s, unless it follows all parts
 begins_no_second : (us : List Unit) (w rest : List ℕ) (n : ℕ) → Falling true us w n → BeginsSecond (w ++ rest) → w ≡ []
 begins_no_second [] w rest n h s = h.1
 begins_no_second (x ∷ us) w rest n (inl h) s = begins_no_second us w rest n h s

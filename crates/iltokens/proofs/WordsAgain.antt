@@ -64,7 +64,7 @@ lower_is b k e = go (ltb b 65) refl e
     go true is e = inl e
     go false is e = second (ltb b 91) refl (ltb-false b 65 is) e
 
--- a byte that isn't a letter in lower case is itself
+-- a byte that is not a letter in lower case is itself
 pub lower_mark : (b k : ℕ) → k < 97 → to_ascii_lowercase b ≡ k → b ≡ k
 lower_mark b k lt e = go (lower_is b k e)
   where

@@ -35,7 +35,7 @@ above x y = by (int_le x y) refl
 opposed : (b c outcome : Bool) → c ≡ opposite b → truth b ≡ truth outcome → truth c ≡ truth (opposite outcome)
 opposed b c outcome e h = let k : b ≡ outcome = cc in ap (λ t. truth t) e ∙ ap (λ t. truth (opposite t)) k
 
--- what doesn't compare is no comparison
+-- what does not compare is no comparison
 false_is_not_true : ◌≡◌ {A = Bool} false true → ⊥
 false_is_not_true e = cc
 

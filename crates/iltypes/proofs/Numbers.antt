@@ -77,7 +77,7 @@ checked (Some x) P z h to from = (λ e. some_of (fits z) (values.Int z) (fits_of
 pub sum_checked : (o : Option ℤ) (z : ℤ) → SomeIff o (FitsSigned w64 z) z → IsTrue (is_some o) ↔ IsSome (number z)
 sum_checked o z h = checked o (FitsSigned w64 z) z h (λ p. p) (λ p. p)
 
--- a quotient, by a divisor that isn't 0
+-- a quotient, by a divisor that is not 0
 pub quotient_checked : (o : Option ℤ) (left right : ℤ) → FitsSigned w64 right
     → SomeIff o (CanDivide w64 left right) (int_div left right)
     → IsTrue (is_some o) ↔ IsSome (quotient left right)

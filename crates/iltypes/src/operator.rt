@@ -127,8 +127,8 @@ impl Operator {
     }
 }
 
-/// What DIV leaves of `left`, by a divisor that isn't 0; of the least number by -1 it is 0, though
-/// the quotient doesn't fit.
+/// What DIV leaves of `left`, by a divisor that is not 0; of the least number by -1 it is 0, though
+/// the quotient does not fit.
 #[tactic(auto, using(crate::proofs::Numbers::rest_given))]
 fn rest(left: i64, right: i64) -> i64
     requires { IsSome (modulo left right) }

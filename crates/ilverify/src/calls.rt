@@ -86,7 +86,8 @@ fn begins(code: &Code, chains: &[bool], calls: usize, function: usize) -> bool
     false
 }
 
-/// Whether a chain of so many calls begins in the body of the function, which may be none.
+/// Whether a chain of the given number of calls begins in the body of the function, which may be
+/// none.
 fn goes_on(code: &Code, chains: &[bool], calls: usize, function: usize) -> bool
     requires { AreChains code.now calls chains.now }
     ensures { IsTrue result ↔ HasChain code.now calls function }

@@ -6,9 +6,9 @@
 //! (`IsVerified`, specs/Verdicts.antt, to be read first). The verdict is defined by certificates
 //! (specs/Certificates.antt): an entry for each word, consistent by the rules of `ilranges`; by
 //! where a function may be called (specs/Calls.antt); and by the length of each path and the calls
-//! of request blocks on it (specs/Requests.antt). A `Verified` stands on the code alone: how a machine
-//! keeps values and reads words is not known here. Who prints what was found takes a [`Pass`],
-//! which says what is known before each word (specs/BeforeWords.antt), [`LongestWays`]
+//! of request blocks on it (specs/Requests.antt). A `Verified` stands on the code alone: how a
+//! machine keeps values and reads words is not known here. Who prints what was found takes a
+//! [`Pass`], which says what is known before each word (specs/BeforeWords.antt), [`LongestWays`]
 //! (specs/LongestWays.antt) and [`most_requests`].
 //!
 //! ```text

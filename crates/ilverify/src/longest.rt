@@ -85,8 +85,8 @@ impl<'c> LongestWays<'c> {
         }
     }
 
-    /// The greatest number of words on the ways from a place of a function's body to the body's end,
-    /// or none where no way leads there.
+    /// The greatest number of words on the ways from a place of a function's body to the body's
+    /// end, or none where no way leads there.
     pub fn words_through(&self, body: usize, place: usize) -> Option<u32>
         ensures { (function : ℕ) → body ≡ function + 1 → IsThrough self.now function place result }
     {

@@ -23,7 +23,7 @@ use ilcode::{Code, Word};
 use ilranges::{Change, Changes, Entry, after_word};
 use std::alloc::{AllocError, Global};
 
-/// No place is reached, of so many.
+/// None of the places is reached.
 #[tactic(auto, using(std::proofs::lemmas::List::replicate_more))]
 fn unreached(alloc: Global, count: usize) -> Result<Vec<Option<Entry>>, AllocError>
     ensures { IfOk result (λ pending. pending.items ≡ replicate count None) }

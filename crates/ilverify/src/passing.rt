@@ -53,7 +53,8 @@ impl<'c> Pass<'c> {
         })
     }
 
-    /// The place of the word that comes, counted from 0; that behind the last word where none comes.
+    /// The place of the word that comes, counted from 0; that behind the last word where none
+    /// comes.
     pub fn place(&self) -> usize
         ensures value { result ≡ self.now.place }
         ensures within { result ≤ length self.now.code.instructions }

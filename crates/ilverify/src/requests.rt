@@ -136,8 +136,8 @@ fn pass(
     }
 }
 
-/// A path with so many requests leads to the place, where that is one of the body's, which ends
-/// there.
+/// A path with the given number of requests leads to the place, where that is one of the body's,
+/// which ends there.
 fn raise(most: &mut Vec<Option<u32>>, end: usize, place: usize, requests: u32)
     requires { end ≤ length most.old.items }
     ensures { most.new.items ≡ raised most.old.items end place requests }
@@ -148,7 +148,7 @@ fn raise(most: &mut Vec<Option<u32>>, end: usize, place: usize, requests: u32)
     }
 }
 
-/// A path with so many requests leads to a jump's target, where that is lawful.
+/// A path with the given number of requests leads to a jump's target, where that is lawful.
 fn raise_target(
     code: &Code,
     most: &mut Vec<Option<u32>>,
@@ -165,8 +165,8 @@ fn raise_target(
     }
 }
 
-/// A path with so many requests and those of a function leads to the place behind its call, where
-/// one leads through the function.
+/// A path with the given number of requests and those of a function leads to the place behind its
+/// call, where one leads through the function.
 fn raise_behind(
     most: &mut Vec<Option<u32>>,
     end: usize,
@@ -182,7 +182,7 @@ fn raise_behind(
     }
 }
 
-/// A path with so many requests leads on from the word at the place.
+/// A path with the given number of requests leads on from the word at the place.
 fn raise_after(
     code: &Code,
     through: &[Option<u32>],

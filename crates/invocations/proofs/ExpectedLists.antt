@@ -56,7 +56,7 @@ one_more words i d expected one within are is room =
     } in
     subst (λ (t : List Text). AreExpected t (expected ++ one ∷ [])) (sym (texts_more words i d within)) more
 
--- a list of at most 16 that isn't full has room
+-- a list of at most 16 that is not full has room
 pub few_said : (expected : List ExpectedWord) → false ≡ (length expected == 16) → length expected ≤ 16
     → length expected < 16
 few_said expected not_full few =

@@ -14,10 +14,10 @@ pub const MOST_EXPECTED: usize = 16;
 /// What is expected of values, in the order of the words.
 pub type ExpectedWords<'a> = ArrayVec<ExpectedWord<'a>, MOST_EXPECTED>;
 
-/// The first word that isn't taken as what is expected.
+/// The first word that is not taken as what is expected.
 #[derive(Clone, Copy)]
 pub enum ExpectedFault<'a> {
-    /// This word isn't `NAME=VALUE`.
+    /// This word is not `NAME=VALUE`.
     NoPair(&'a str),
     /// This word is `NAME=VALUE`, and 16 stand before it.
     TooMany(&'a str),
@@ -27,7 +27,7 @@ pub enum ExpectedFault<'a> {
 ///
 /// # Errors
 ///
-/// A word isn't `NAME=VALUE`, or 16 stand before it.
+/// A word is not `NAME=VALUE`, or 16 stand before it.
 pub(crate) fn expected_of<'a>(words: &[&'a str]) -> Result<ExpectedWords<'a>, ExpectedFault<'a>>
     ensures { MatchResult result
         (λ expected. AreExpected (map (λ word. word.now) words.now) expected.items)

@@ -5,9 +5,10 @@
 //! are played, run or looked at, a building with the lines of its buses, a [`Tool`] at one line, a
 //! code file that is written or judged, or frames and events in words. Or it gives the
 //! [`WordFault`]: the first word that names no line, or a second one of a bus or of a path, or that
-//! says nothing that is expected, or is the seventeenth name that is watched. The definitions to read first are
-//! `IsOfCommand` (specs/Invocations.antt), `IsLineWord` (specs/LineWords.antt) and `IsExpectedWord`
-//! (specs/ExpectedWords.antt). Which words are taken stands above, in `commandline`.
+//! says nothing that is expected, or is the seventeenth name that is watched. The definitions to
+//! read first are `IsOfCommand` (specs/Invocations.antt), `IsLineWord` (specs/LineWords.antt) and
+//! `IsExpectedWord` (specs/ExpectedWords.antt). Which words are taken stands above, in
+//! `commandline`.
 //!
 //! ```text
 //! match invocations::invocation_of("check", &found)? {

@@ -34,7 +34,8 @@ pub enum Question<'a> {
     Sizes,
 }
 
-/// The files and the question of what was found under a command's name, where it is the name of one.
+/// The files and the question of what was found under a command's name, where it is the name of
+/// one.
 pub(crate) fn question_of<'a>(
     name: &str,
     found: &ArgMatches<'a>,

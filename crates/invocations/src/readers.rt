@@ -25,7 +25,7 @@ use options::{Beside, Inquiry, LiveFiles, LiveOptions, PlayFiles, RunSize};
 /// # Errors
 ///
 /// A word for a line names none, or a bus or a path that a word before it names; or a word for what
-/// is expected isn't one, or is one too many; or a name that is watched is one too many.
+/// is expected is not one, or is one too many; or a name that is watched is one too many.
 pub fn invocation_of<'a>(
     name: &str,
     found: &ArgMatches<'a>,

@@ -38,7 +38,7 @@ body_of body bytes sum are s =
     let one : s.body ≡ body = append_cancel_right s.body body (sum_line sum) (sym s.are ∙ are) in
     s.is ∙ ap sum_of one
 
--- where one byte before that line is another, the check sum isn't theirs
+-- where one byte before that line is another, the check sum is not theirs
 pub unsealed : (front back : List ℕ) (byte other sum : ℕ) → byte < 256 → other < 256 → byte ≢ other
     → IsSummed (front ++ byte ∷ (back ++ sum_line sum)) sum
     → ¬ IsSummed (front ++ other ∷ (back ++ sum_line sum)) sum

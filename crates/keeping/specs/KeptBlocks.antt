@@ -83,7 +83,7 @@ kept_start kept block kind = Some 0
 abbrev pub block_of : List Value → Bool → ℕ → Block
 block_of ports last start = record { ports = ports; before = last; start = start }
 
--- all that was kept of it; none where a part was not kept, or isn't of its type
+-- all that was kept of it; none where a part was not kept, or is not of its type
 abbrev pub kept_state : List KeptEntry → ℕ → List ℕ → BlockKind → Option Block
 kept_state kept buses block kind =
     option_and_then

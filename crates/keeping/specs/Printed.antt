@@ -42,7 +42,7 @@ printed_file at kept = printed_lines at kept ++ sum_line (sum_of (printed_lines 
 -- ---- what may be printed so
 
 -- no byte of the name is a control character, a blank or one of `!`, `"` and `#` (35): letters, digits, `_` and `.`
--- aren't
+-- are not
 abbrev pub IsPlain : List ℕ → Type 0
 IsPlain name = AllByRecursion (λ byte. 35 < byte) name
 

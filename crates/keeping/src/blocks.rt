@@ -54,7 +54,7 @@ pub(crate) fn block_first(
     }
 }
 
-/// All that was kept of a block instance; none where a part was not kept, or isn't of its type.
+/// All that was kept of a block instance; none where a part was not kept, or is not of its type.
 fn kept_block(
     alloc: Global,
     plan: &Plan,
@@ -67,8 +67,8 @@ fn kept_block(
     kept_state(alloc, kept, plan.buses(), &name, block.kind)
 }
 
-/// All that was kept of an instance of this name and kind, on so many buses; none where a part was
-/// not kept, or isn't of its type.
+/// All that was kept of an instance of this name and kind, on the given number of buses; none where
+/// a part was not kept, or is not of its type.
 fn kept_state(
     alloc: Global,
     kept: &Kept,

@@ -16,9 +16,9 @@ use std::alloc::{AllocError, Global};
 use std::fmt;
 use std::marker::Model;
 
-/// A kept value with which nothing begins: no variable and no part of a block instance has its name,
-/// the variable that has it is a trigger, the value isn't one of its type, or another part of the
-/// instance was not kept.
+/// A kept value with which nothing begins: no variable and no part of a block instance has its
+/// name, the variable that has it is a trigger, the value is not one of its type, or another part
+/// of the instance was not kept.
 #[derive(Drop)]
 pub struct LeftOut {
     kept: KeptValue,

@@ -28,7 +28,7 @@ pub(crate) enum KeptLine<'a> {
 /// The greatest number of a line, without its sign.
 const MOST_NUMBER: u64 = 9_223_372_036_854_775_807;
 
-/// What a line says that isn't skipped.
+/// What a line says that is not skipped.
 pub(crate) fn line_of(line: &[u8]) -> Option<KeptLine<'_>>
     ensures { view result ≡ said (words line.now) }
 {

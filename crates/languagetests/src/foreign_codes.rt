@@ -539,8 +539,8 @@ fn is_old(word: Word) -> bool
     !matches!(word, Word::Give { .. } | Word::Invoke(_))
 }
 
-/// The code of the words, of which the second program begins at a place; all stand on line 1. It has
-/// no functions.
+/// The code of the words, of which the second program begins at a place; all stand on line 1. It
+/// has no functions.
 #[tactic(auto, using(crate::proofs::Ones::ones_small, crate::proofs::Functions::none))]
 fn code(alloc: Global, start: usize, words: &[Word]) -> Result<Option<Code>, AllocError> {
     if start > words.len() || words.len() > 65_536 || !may_pack(words) {
@@ -624,7 +624,7 @@ fn jumps_under_a_condition(rt: HostRuntime) -> Result<(), Fail> {
     judge_rows(rt.alloc(), CONDITIONS)
 }
 
-/// `LD 10`, then `ADD( 10` so many times, and then `)` as often.
+/// `LD 10`, then `ADD( 10` the given number of times, and then `)` as often.
 fn nested(alloc: Global, depth: usize) -> Result<Vec<Word>, AllocError> {
     let mut words = vec![in alloc; LD_TEN]?;
     for _ in 0..depth {

@@ -115,8 +115,8 @@ impl<R: Read + Drop, W: Write + Drop> LineBus<R, W> {
         self.is_mended = true;
     }
 
-    /// Gives the two ends of the line away, where there is a line. What was sent and heard stays what
-    /// it was.
+    /// Gives the two ends of the line away, where there is a line. What was sent and heard stays
+    /// what it was.
     pub fn let_go(&mut self) -> Option<(R, W)>
         ensures ends { IfSome result (λ pair. (R.remaining pair.0 ≡ self.old.unread)
             × (W.contents pair.1 ≡ self.old.written)) }

@@ -42,9 +42,9 @@ pub struct Ungreeted<R, W> {
 }
 
 impl<R: Read + Drop, W: Write + Drop> Greeted<R, W> {
-    /// Greets the interface at the other end by a number that no earlier greeting had: what it still
-    /// says to earlier requests is passed over. Where it does not know such a greeting, it is greeted
-    /// in version 1.
+    /// Greets the interface at the other end by a number that no earlier greeting had: what it
+    /// still says to earlier requests is passed over. Where it does not know such a greeting, it is
+    /// greeted in version 1.
     ///
     /// # Errors
     ///

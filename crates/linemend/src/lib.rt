@@ -4,7 +4,8 @@
 //! it ([`Teller`]) go in, and a [`Bus`](buslink::Bus) comes out, at first one that is not there. A
 //! thread of the line opens it, greets it and hands it over, and where it fails tries again, two
 //! seconds after the try before. So nothing that may wait for ever is done by whoever has the bus:
-//! its `mend` only looks whether the line was handed over. What was sent and heard stays what it was.
+//! its `mend` only looks whether the line was handed over. What was sent and heard stays what it
+//! was.
 //!
 //! ```text
 //! let starter = LineStarter::start(alloc, rt.clone()?)?;

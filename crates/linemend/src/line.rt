@@ -84,9 +84,9 @@ impl<R: Wait + Clock + Drop, W: Write + Drop, T: Teller, O> Model for MendedLine
 }
 
 impl<R: Wait + Clock + Drop, W: Write + Drop, T: Teller, O: Drop> MendedLine<R, W, T, O> {
-    /// A bus whose line is not open yet: a thread of its own, which the starter starts, begins to open
-    /// it. Each call fails, and says nothing, until the line has greeted. The interface has so many
-    /// milliseconds for an answer.
+    /// A bus whose line is not open yet: a thread of its own, which the starter starts, begins to
+    /// open it. Each call fails, and says nothing, until the line has greeted. The interface has so
+    /// many milliseconds for an answer.
     ///
     /// # Errors
     ///
@@ -188,8 +188,8 @@ impl<R: Wait + Clock + Drop, W: Write + Drop, T: Teller, O: Drop> MendedLine<R, 
         self.is_tried = self.jobs.try_send(&self.rt, ends).is_ok();
     }
 
-    /// Looks what became of the last try, and has the next one begin where that failed. A line that is
-    /// out of step is let go of: the thread greets it again while it is read.
+    /// Looks what became of the last try, and has the next one begin where that failed. A line that
+    /// is out of step is let go of: the thread greets it again while it is read.
     fn look(&mut self)
         ensures log { after_mend false self.new.log ≡ after_mend false self.old.log }
         ensures heard { self.new.heard_last ≡ self.old.heard_last }
@@ -213,9 +213,9 @@ impl<R: Wait + Clock + Drop, W: Write + Drop, T: Teller, O: Drop> MendedLine<R, 
         }
     }
 
-    /// Lets go of a line on which as many frames were heard since the building's end was asked for as
-    /// an interface keeps: the next call fails. Else a building would not end on a line that always
-    /// has an event.
+    /// Lets go of a line on which as many frames were heard since the building's end was asked for
+    /// as an interface keeps: the next call fails. Else a building would not end on a line that
+    /// always has an event.
     fn end_where_heard(&mut self)
         ensures log { self.new.log ≡ self.old.log }
         ensures heard { self.new.heard_last ≡ self.old.heard_last }

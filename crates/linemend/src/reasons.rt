@@ -9,13 +9,13 @@ use std::io::ErrorKind;
 pub enum Reason {
     /// It is not open yet.
     NotYet,
-    /// It can't be opened.
+    /// It cannot be opened.
     Unopened(ErrorKind),
     /// A regular file is at its path, on which nothing answers.
     RegularFile,
     /// Its interface does not answer the greeting.
     Ungreeted,
-    /// The interface said nothing for so many milliseconds.
+    /// The interface said nothing for this number of milliseconds.
     Silent(u64),
     /// The building's end was asked for, and it still has events, more than it is to keep.
     SpeaksOn,
@@ -71,7 +71,7 @@ impl fmt::Display for Reason {
     }
 }
 
-/// Why a line can't be opened.
+/// Why a line cannot be opened.
 fn why_unopened(kind: ErrorKind) -> &'static str {
     match kind {
         ErrorKind::NotFound => "no such file",

@@ -23,7 +23,7 @@ pub(crate) struct Order<R: Wait + Clock + Drop, W: Write + Drop, O: Drop> {
 }
 
 /// A thread that starts the threads of lines. It is started where all is known of the machine's
-/// types: a method of a trait can't send to a thread what rests on the bounds of its block.
+/// types: a method of a trait cannot send to a thread what rests on the bounds of its block.
 #[derive(Drop)]
 pub struct LineStarter<R: Wait + Clock + Drop, W: Write + Drop, O: Drop> {
     orders: Sender<Order<R, W, O>>,

@@ -21,12 +21,12 @@ const GREETING: u64 = 500;
 pub trait Opener<W>: Drop {
     type From: Read + Drop;
 
-    /// The reader and the writer of the line, opened anew. It may wait for ever, as where a FIFO has
-    /// no other end.
+    /// The reader and the writer of the line, opened anew. It may wait for ever, as where a FIFO
+    /// has no other end.
     ///
     /// # Errors
     ///
-    /// The line can't be opened. Nothing was written.
+    /// The line cannot be opened. Nothing was written.
     fn open(&mut self) -> Result<(Self::From, W), Reason>;
 }
 
@@ -95,7 +95,7 @@ where
     ///
     /// # Errors
     ///
-    /// The line can't be opened, or its interface does not greet.
+    /// The line cannot be opened, or its interface does not greet.
     fn attempt(&mut self) -> Outcome<R, W> {
         let (from, to) = self.ends_to_greet()?;
         from.set_patience(self.patience.min(GREETING));

@@ -14,8 +14,8 @@ use std::marker::Model;
 use std::num::NonZeroU64;
 use std::time::{Clock as Timer, Instant};
 
-/// A clock of milliseconds, which begins at a moment and goes on from there while time passes. What it
-/// gave has no bytes.
+/// A clock of milliseconds, which begins at a moment and goes on from there while time passes. What
+/// it gave has no bytes.
 #[derive(Drop)]
 pub struct LiveClock<T: Timer, S: StopCondition> {
     timer: T,
@@ -58,8 +58,8 @@ impl<T: Timer, S: StopCondition> Model for LiveClock<T, S> {
 }
 
 impl<T: Timer + Drop, S: StopCondition> LiveClock<T, S> {
-    /// A clock at which it is `begins` now. It gives a moment in each period, the first at once, and
-    /// none after `until`.
+    /// A clock at which it is `begins` now. It gives a moment in each period, the first at once,
+    /// and none after `until`.
     ///
     /// # Errors
     ///

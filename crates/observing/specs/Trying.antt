@@ -1,4 +1,4 @@
--- When the files beside a building are tried, and that one that couldn't be written is tried again (profile).
+-- When the files beside a building are tried, and that one that could not be written is tried again (profile).
 use Rattle.std.specs.Prelude.{◌≡◌, ℕ, ◌/◌, ◌⊎◌, ⊤, Bool, true, false, ◌&&◌, List}
 use Rattle.std.specs.Prelude.{Option, Some, None, IsSomeAnd, is_some, is_none, option_map}
 use Rattle.observing.specs.declared.page.Pace.{Pace}
@@ -13,7 +13,7 @@ period_of EachSecond = 1000
 period_of EachTenSeconds = 10000
 period_of EachMinute = 60000
 
--- A file is due at a moment in whose period it wasn't tried yet. Moments are those of ticks, which never fall, and no
+-- A file is due at a moment in whose period it was not tried yet. Moments are those of ticks, which never fall, and no
 -- dates.
 abbrev pub IsDue : ℕ → Page → Type 0
 IsDue moment page = ¬ (page.tried ≡ Some (moment / period_of page.pace))
@@ -27,7 +27,7 @@ abbrev pub bytes_in : Page → Option (List ℕ)
 bytes_in page = option_map (λ bytes. bytes.items) page.has
 
 -- What a try for these bytes comes to, where there is memory for them: the file has them, since it had them before or
--- took them now; or it isn't written, and nothing is known of what it has.
+-- took them now; or it is not written, and nothing is known of what it has.
 abbrev pub CameTo : (List ℕ → List ℕ → Type 0) → (List ℕ → Type 0) → Page → Option (List ℕ) → Option (List ℕ)
     → Type 0
 CameTo replaced unwritten page (Some wanted) (Some has) =
@@ -59,7 +59,7 @@ IsServed replaced unwritten at_once moment old new =
     ((bytes : Option (List ℕ)) × AreTried replaced unwritten moment bytes old new)
     ⊎ ((new ≡ old) × ¬ (IsSomeAnd old (IsWanted at_once moment)))
 
--- A file fails that was tried, and wasn't written by the last try.
+-- A file fails that was tried, and was not written by the last try.
 abbrev pub is_failing : Page → Bool
 is_failing page = is_some page.tried && is_none page.has
 

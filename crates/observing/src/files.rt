@@ -57,8 +57,8 @@ impl<'a> Files<'a> {
         })
     }
 
-    /// Tries each file that is due at the building's moment, or each at all. A record is tried too once
-    /// it has ended, and it is told why.
+    /// Tries each file that is due at the building's moment, or each at all. A record is tried too
+    /// once it has ended, and it is told why.
     pub(crate) fn serve<S: Storage>(&mut self, storage: &S, at_once: bool, history: &History)
         ensures { AreServed (S.replaced storage.now) (S.unwritten storage.now) at_once
             history.now.moment self.old self.new }
@@ -215,7 +215,7 @@ fn status_bytes<S: Storage>(
 ///
 /// # Errors
 ///
-/// It can't be done, or the allocator is out of memory.
+/// It cannot be done, or the allocator is out of memory.
 fn record_bytes<S: Storage>(
     alloc: Global,
     storage: &S,
@@ -240,7 +240,7 @@ fn ended_since(end: RecordEnd) -> &'static str {
     }
 }
 
-/// The date of so many seconds since 1970.
+/// The date of the given number of seconds since 1970.
 pub(crate) fn date_at(seconds: u64) -> Timestamp {
     let seconds = i64::try_from(seconds).unwrap_or(0);
     Timestamp::from_second(seconds).unwrap_or_default()

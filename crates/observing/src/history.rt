@@ -64,8 +64,8 @@ impl History {
         })
     }
 
-    /// Follows what was told, as far as it is in order, and writes its lines. Answers whether none was
-    /// missed.
+    /// Follows what was told, as far as it is in order, and writes its lines. Answers whether none
+    /// was missed.
     pub(crate) fn follow_all(
         &mut self,
         told: Vec<Told>,
@@ -97,7 +97,7 @@ impl History {
     ///
     /// # Errors
     ///
-    /// The allocator is out of memory, or the plant doesn't take the event as the building's did.
+    /// The allocator is out of memory, or the plant does not take the event as the building's did.
     fn follow(&mut self, event: &Told, date: Timestamp, lines: &mut Vec<u8>) -> io::Result<()> {
         if !self.follower.follow(self.alloc, &event.happened) {
             return Err(io::Error::from(io::ErrorKind::OutOfMemory));

@@ -4,8 +4,8 @@ use ilplan::{Location, Plan};
 use plantevents::Origin;
 use std::alloc::{AllocError, Global};
 
-/// The level that was handed out last for each global variable that is located at one; of the others
-/// there is none.
+/// The level that was handed out last for each global variable that is located at one; of the
+/// others there is none.
 #[derive(Drop)]
 pub(crate) struct Levels {
     handed: Vec<Option<u8>>,

@@ -6,7 +6,7 @@
 //! until all before it was told too. At each tick the clock's worker takes what is in order: it
 //! repeats it on a plant of its own, whose variables, queues and counts the lines show, and writes.
 //! So no scan and no frame waits for a file. [`Storage`] is where files go. Nothing that an
-//! observer does reaches the plant or a bus; a file that can't be written is told once and tried
+//! observer does reaches the plant or a bus; a file that cannot be written is told once and tried
 //! again each time that it is due, and the building goes on. The definition to read first is
 //! `IsServed` (specs/Trying.antt), when a file is tried.
 //!

@@ -5,10 +5,11 @@ use crate::storage::Storage;
 use std::alloc::Global;
 use std::io;
 
-/// How many files of a log are kept beside the one that is written: FILE.1, the last one, to FILE.9.
+/// How many files of a log are kept beside the one that is written: FILE.1, the last one, to
+/// FILE.9.
 const MOST_OLD: u32 = 9;
 
-/// How many bytes of lines wait at most for a file that can't be written.
+/// How many bytes of lines wait at most for a file that cannot be written.
 const MOST_OWED: usize = 1_000_000;
 
 /// A log, in a file or on standard error, whose path is `-`.
@@ -30,7 +31,7 @@ pub(crate) struct Log<'a> {
 }
 
 impl<'a> Log<'a> {
-    /// The log at this path, which goes on behind what it has, and wasn't tried yet.
+    /// The log at this path, which goes on behind what it has, and was not tried yet.
     pub(crate) fn new(alloc: Global, path: &'a str, most: u64) -> Log<'a> {
         Log {
             path,
@@ -71,7 +72,7 @@ impl<'a> Log<'a> {
     ///
     /// # Errors
     ///
-    /// It can't be written.
+    /// It cannot be written.
     fn put<S: Storage>(&mut self, alloc: Global, storage: &S) -> io::Result<()> {
         if !self.is_at_line {
             self.size = storage.end_line(self.path)?;
@@ -100,7 +101,7 @@ impl<'a> Log<'a> {
                 1 => String::from_str(alloc, self.path)?,
                 _ => format!(in alloc; "{}.{}", self.path, number - 1)?,
             };
-            // A name that isn't there yet is no fault.
+            // A name that is not there yet is no fault.
             let _renamed = storage.rename(&from, &to);
         }
         Ok(())

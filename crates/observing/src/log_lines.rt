@@ -97,7 +97,7 @@ fn write_report<W: fmt::Write>(f: &mut fmt::Formatter<W>, bus: u8, report: &Repo
     write!(f, "done bus {bus}: {}", OutcomeWords(report))
 }
 
-/// Whether a frame was lost, an answer was damaged, or a transaction wasn't sent.
+/// Whether a frame was lost, an answer was damaged, or a transaction was not sent.
 fn is_trouble(report: &Report) -> bool {
     match report.outcome() {
         Outcome::Done(Reply::Damaged | Reply::Lost) | Outcome::GaveUp | Outcome::Failed => true,

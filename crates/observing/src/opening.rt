@@ -6,7 +6,7 @@ use std::alloc::{AllocError, Global};
 use std::io;
 use std::io::ErrorKind;
 
-/// A record that wasn't written yet.
+/// A record that was not written yet.
 #[derive(Drop)]
 pub(crate) struct Opening<'a> {
     path: &'a str,
@@ -15,8 +15,8 @@ pub(crate) struct Opening<'a> {
 }
 
 impl<'a> Opening<'a> {
-    /// The record at this path, of a building that begins with the values of this file, where there is
-    /// one.
+    /// The record at this path, of a building that begins with the values of this file, where there
+    /// is one.
     ///
     /// # Errors
     ///
@@ -38,7 +38,7 @@ impl<'a> Opening<'a> {
     ///
     /// # Errors
     ///
-    /// A file can't be renamed or written, or the allocator is out of memory.
+    /// A file cannot be renamed or written, or the allocator is out of memory.
     pub(crate) fn serve<S: Storage>(&self, alloc: Global, storage: &S) -> io::Result<()> {
         put_aside(alloc, storage, self.path)?;
         match &self.kept {
@@ -62,12 +62,12 @@ fn copy_of(alloc: Global, bytes: &[u8]) -> Result<Vec<u8>, AllocError> {
     Ok(copy)
 }
 
-/// Gives the file at a path the name FILE.old, unless it is a record of no event. The kept values with
-/// which it begins go with it.
+/// Gives the file at a path the name FILE.old, unless it is a record of no event. The kept values
+/// with which it begins go with it.
 ///
 /// # Errors
 ///
-/// It can't be renamed, or the allocator is out of memory.
+/// It cannot be renamed, or the allocator is out of memory.
 fn put_aside<S: Storage>(alloc: Global, storage: &S, path: &str) -> io::Result<()> {
     match storage.read(alloc, path) {
         Ok(bytes) if is_uneventful(&bytes) => return Ok(()),
@@ -79,11 +79,12 @@ fn put_aside<S: Storage>(alloc: Global, storage: &S, path: &str) -> io::Result<(
     storage.rename(path, &old)
 }
 
-/// Gives the kept values beside a record the name that they have beside FILE.old, where there are any.
+/// Gives the kept values beside a record the name that they have beside FILE.old, where there are
+/// any.
 ///
 /// # Errors
 ///
-/// They can't be renamed, or the allocator is out of memory.
+/// They cannot be renamed, or the allocator is out of memory.
 fn put_kept_aside<S: Storage>(alloc: Global, storage: &S, path: &str) -> io::Result<()> {
     let beside = format!(in alloc; "{path}.keep")?;
     let old = format!(in alloc; "{path}.old.keep")?;

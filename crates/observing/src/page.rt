@@ -61,7 +61,7 @@ pub(crate) struct Page<'a> {
 }
 
 impl<'a> Page<'a> {
-    /// A file that wasn't tried yet.
+    /// A file that was not tried yet.
     pub(crate) fn new(path: &'a str, pace: Pace, care: Care) -> Page<'a> {
         Page {
             path,
@@ -72,22 +72,22 @@ impl<'a> Page<'a> {
         }
     }
 
-    /// Whether it wasn't tried in the period of this moment, in milliseconds.
+    /// Whether it was not tried in the period of this moment, in milliseconds.
     fn is_due(&self, moment: u64) -> bool
         ensures { IsTrue result ↔ IsDue moment self.now }
     {
         self.tried != Some(self.pace.period_at(moment))
     }
 
-    /// Whether it was tried, and wasn't written by the last try.
+    /// Whether it was tried, and was not written by the last try.
     fn is_failing(&self) -> bool
         ensures { result ≡ is_failing self.now }
     {
         self.tried.is_some() && self.has.is_none()
     }
 
-    /// Tries to write these bytes, unless the file has them. Without memory for them there are none.
-    /// Answers whether it began to fail, or is mended.
+    /// Tries to write these bytes, unless the file has them. Without memory for them there are
+    /// none. Answers whether it began to fail, or is mended.
     pub(crate) fn write<S: Storage>(
         &mut self,
         alloc: Global,
@@ -109,7 +109,7 @@ impl<'a> Page<'a> {
         turn_of(failed, self.is_failing())
     }
 
-    /// The bytes, once the file has them; none where it can't be written.
+    /// The bytes, once the file has them; none where it cannot be written.
     fn put<S: Storage>(&self, alloc: Global, storage: &S, bytes: Vec<u8>) -> Option<Vec<u8>>
         ensures { CameTo (S.replaced storage.now) (S.unwritten storage.now) self.now
             (Some bytes.items) (option_map (λ has. has.items) result) }

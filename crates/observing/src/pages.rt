@@ -53,8 +53,8 @@ impl<'a> Pages<'a> {
         })
     }
 
-    /// Writes all that is in order of what was told, and tries the files that are due. `is_whole` says
-    /// whether each event was told so far.
+    /// Writes all that is in order of what was told, and tries the files that are due. `is_whole`
+    /// says whether each event was told so far.
     pub(crate) fn take<S: Storage>(&mut self, storage: &S, told: Vec<Told>, is_whole: bool)
         ensures { self.new.follows ≡ true → AreServed (S.replaced storage.now)
             (S.unwritten storage.now) false self.new.history.moment self.old.files self.new.files }
@@ -88,8 +88,8 @@ impl<'a> Pages<'a> {
     }
 }
 
-/// Writes these lines to the log, where there is one, and tells where it begins to fail and where it
-/// is mended.
+/// Writes these lines to the log, where there is one, and tells where it begins to fail and where
+/// it is mended.
 fn write_log<S: Storage>(alloc: Global, storage: &S, log: &mut Option<Log>, lines: &[u8]) {
     let Some(log) = log else {
         return;

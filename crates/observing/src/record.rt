@@ -10,7 +10,8 @@ use std::io::Write;
 use transact::{Mark, Outcome, Reply, Report};
 use turns::Happened;
 
-/// The first line of a record that begins with kept values. FILE is the record, whichever name it has.
+/// The first line of a record that begins with kept values. FILE is the record, whichever name it
+/// has.
 pub(crate) const KEPT_LINE: &str = "# this FILE begins with the values that FILE.keep keeps: \
     dalictl play TEXT BIND FILE --keep FILE.keep";
 
@@ -43,19 +44,20 @@ pub(crate) struct Record {
     head: Vec<u8>,
     body: Vec<u8>,
     buses: Vec<BusRecord>,
-    /// The last tick, where it doesn't stand in the record.
+    /// The last tick, where it does not stand in the record.
     tick: Option<u64>,
     /// The moment of the last tick, 0 before the first.
     moment: u64,
-    /// Whether a bus failed as it was heard, and no tick stands behind that at which a play hears it.
+    /// Whether a bus failed as it was heard, and no tick stands behind that at which a play hears
+    /// it.
     owes_tick: bool,
     /// Why nothing is added, once it has ended.
     end: Option<RecordEnd>,
 }
 
 impl Record {
-    /// The record of a building to which nothing has come: whether it begins with kept values, and the
-    /// gear of its levels.
+    /// The record of a building to which nothing has come: whether it begins with kept values, and
+    /// the gear of its levels.
     ///
     /// # Errors
     ///
@@ -176,7 +178,7 @@ impl Record {
         self.end.is_none()
     }
 
-    /// Writes the last tick, where it isn't written.
+    /// Writes the last tick, where it is not written.
     fn write_tick(&mut self) -> io::Result<()> {
         let Some(moment) = self.tick else {
             return Ok(());
@@ -189,7 +191,7 @@ impl Record {
         Ok(())
     }
 
-    /// Notes the gear of a short address, where it isn't noted.
+    /// Notes the gear of a short address, where it is not noted.
     fn note_gear(&mut self, bus: u8, short: u8) -> io::Result<()> {
         if short >= 64 || !self.has_room() {
             return Ok(());

@@ -34,35 +34,36 @@ pub trait Storage {
     // The file at a path took these bytes behind those that it had.
     ghost appended: { Self → List ℕ → List ℕ → Type 0 };
 
-    // The file at a path wasn't written.
+    // The file at a path was not written.
     ghost unwritten: { Self → List ℕ → Type 0 };
 
-    /// Writes these bytes behind those of the file at this path, which is made where it isn't there.
-    /// Answers how many bytes it has then.
+    /// Writes these bytes behind those of the file at this path, which is made where it is not
+    /// there. Answers how many bytes it has then.
     ///
     /// # Errors
     ///
-    /// They can't be written. The file has what it had, where the machine takes back what it began.
+    /// They cannot be written. The file has what it had, where the machine takes back what it
+    /// began.
     fn append(&self, path: &str, bytes: &[u8]) -> io::Result<u64>
         ensures { MatchResult result (λ _. appended self.now path.now bytes.now)
             (λ _. unwritten self.now path.now) };
 
-    /// Ends the last line of the file at this path, which is made where it isn't there. Answers how
-    /// many bytes it has then.
+    /// Ends the last line of the file at this path, which is made where it is not there. Answers
+    /// how many bytes it has then.
     ///
     /// # Errors
     ///
-    /// It can't be written.
+    /// It cannot be written.
     fn end_line(&self, path: &str) -> io::Result<u64>
         ensures { MatchResult result (λ _. ⊤) (λ _. unwritten self.now path.now) };
 
-    /// Puts a file with these bytes at this path. It is written beside it, as a new file, and renamed,
-    /// so that whoever reads the path finds the old bytes or the new ones; after a loss of power too,
-    /// where it is to last.
+    /// Puts a file with these bytes at this path. It is written beside it, as a new file, and
+    /// renamed, so that whoever reads the path finds the old bytes or the new ones; after a loss of
+    /// power too, where it is to last.
     ///
     /// # Errors
     ///
-    /// It can't be written. What was there stays.
+    /// It cannot be written. What was there stays.
     fn replace(&self, alloc: Global, path: &str, bytes: &[u8], care: Care) -> io::Result<()>
         ensures { MatchResult result (λ _. replaced self.now path.now bytes.now)
             (λ _. unwritten self.now path.now) };
@@ -71,24 +72,24 @@ pub trait Storage {
     ///
     /// # Errors
     ///
-    /// There is none (`NotFound`), or it can't be read.
+    /// There is none (`NotFound`), or it cannot be read.
     fn read(&self, alloc: Global, path: &str) -> io::Result<Vec<u8>>;
 
     /// Gives a file another path, in place of a file that is there.
     ///
     /// # Errors
     ///
-    /// It can't be renamed.
+    /// It cannot be renamed.
     fn rename(&self, from: &str, to: &str) -> io::Result<()>;
 
     /// Writes this text to standard error.
     ///
     /// # Errors
     ///
-    /// It can't be written.
+    /// It cannot be written.
     fn tell(&self, text: &str) -> io::Result<()>;
 
-    /// The seconds since the beginning of 1970, UTC; 0 where the clock can't be read.
+    /// The seconds since the beginning of 1970, UTC; 0 where the clock cannot be read.
     fn seconds(&self) -> u64;
 
     /// The memory that the program holds, in KiB, where it is known.

@@ -34,8 +34,8 @@ pub(crate) fn tell_turn<S: Storage>(
     }
 }
 
-/// Tries a file, where there is one, with these bytes, and tells where it begins to fail and where it
-/// is mended.
+/// Tries a file, where there is one, with these bytes, and tells where it begins to fail and where
+/// it is mended.
 pub(crate) fn try_page<S: Storage>(
     alloc: Global,
     storage: &S,

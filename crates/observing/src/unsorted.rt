@@ -10,15 +10,15 @@ pub(crate) struct Told {
     pub(crate) happened: Happened,
 }
 
-/// How many events may wait to be written. Thousands come in a second at most, and they are taken at
-/// each tick.
+/// How many events may wait to be written. Thousands come in a second at most, and they are taken
+/// at each tick.
 const MOST_TOLD: usize = 1_000_000;
 
-/// Events that were told and weren't taken yet.
+/// Events that were told and were not taken yet.
 #[derive(Drop)]
 pub(crate) struct Unsorted {
     told: Vec<Told>,
-    /// Whether an event wasn't held, so that nothing after it can be told either.
+    /// Whether an event was not held, so that nothing after it can be told either.
     has_gap: bool,
 }
 

@@ -3,9 +3,9 @@
 /// What is expected of a value, as a word names it: `NAME=VALUE`.
 #[derive(Clone, Copy)]
 pub struct ExpectedWord<'a> {
-    /// The value's name, which isn't empty and has no `=`.
+    /// The value's name, which is not empty and has no `=`.
     pub name: &'a str,
-    /// What it is to be, which isn't empty.
+    /// What it is to be, which is not empty.
     pub value: &'a str,
 }
 

@@ -37,7 +37,7 @@ impl Page {
         }
     }
 
-    /// Adds a text so many times.
+    /// Adds a text the given number of times.
     pub fn repeat(&mut self, text: &str, times: usize) {
         for _ in 0..times {
             self.text(text);

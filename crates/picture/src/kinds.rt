@@ -12,7 +12,7 @@ const KINDS: [Kind; 5] = [
     Kind::Bus,
 ];
 
-/// The fewest rows without a mark that are folded: a line names them, and they aren't drawn.
+/// The fewest rows without a mark that are folded: a line names them, and they are not drawn.
 const FEWEST: usize = 2;
 
 /// What stands above the rows of a kind, and what is said of those without a mark.
@@ -47,7 +47,7 @@ impl Block {
     }
 
     /// Says of the rows that are folded what they are, in lines of this width at most, where a name
-    /// isn't wider.
+    /// is not wider.
     fn fold(&mut self, alloc: Global, rows: &[Row], width: usize) -> Result<(), AllocError> {
         let (_, silence) = words_of(self.kind);
         let mut line = format!(in alloc; "{} {silence}:", self.silent)?;

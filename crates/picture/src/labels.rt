@@ -42,7 +42,8 @@ pub(crate) fn labels_of(
     Ok(labels)
 }
 
-/// The least distance of round moments that has room: one of those above, or so many days.
+/// The least distance of round moments that has room: one of those above, or the given number of
+/// days.
 fn distance_of(scale: &Scale) -> u64 {
     for distance in DISTANCES {
         if scale.width_of(distance) >= LEAST_DISTANCE {
@@ -89,7 +90,7 @@ fn add_round(
     Ok(())
 }
 
-/// The least multiple of a distance that isn't before a moment.
+/// The least multiple of a distance that is not before a moment.
 fn round_up(moment: u64, distance: u64) -> u64 {
     let rest = moment.checked_rem(distance).unwrap_or(0);
     if rest == 0 {

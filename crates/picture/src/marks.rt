@@ -14,7 +14,7 @@ pub(crate) struct Mark {
     pub x: usize,
     /// Where the next mark stands, or the axis ends.
     pub next: usize,
-    /// Whether it happened here, and doesn't last from before the axis.
+    /// Whether it happened here, and does not last from before the axis.
     pub is_new: bool,
 }
 

@@ -46,7 +46,8 @@ pub(crate) struct Size {
     pub is_low: bool,
 }
 
-/// Places the rows of each kind on a sheet of this width with so many notes. How large it is.
+/// Places the rows of each kind on a sheet of this width with the given number of notes. How large
+/// it is.
 pub(crate) fn place_blocks(blocks: &mut [Block], width: usize, notes: usize) -> Size {
     let mut rows: usize = 0;
     for block in blocks.iter() {

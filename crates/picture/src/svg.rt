@@ -30,7 +30,7 @@ const BREAK: &str = "<rect class=\"g\" x=\"{}\" y=\"{}\" width=\"20\" height=\"{
 /// What begins the title of a column: its place, its width and its height.
 const TITLE: &str = "<rect class=\"c\" x=\"{}\" y=\"{}\" width=\"{}\" height=\"{}\"><title>";
 
-/// What is said of an axis that isn't true to time.
+/// What is said of an axis that is not true to time.
 const EVEN: &str = "columns in their order: the axis is not true to time";
 
 /// The looks of what is drawn, by classes.
@@ -137,7 +137,7 @@ fn write_breaks(page: &mut Page, axis: &Axis, bottom: usize) {
 }
 
 /// Draws a line for each moment, and writes its name below where there is room; and that the axis
-/// isn't true to time, where it isn't.
+/// is not true to time, where it is not.
 fn write_moments(page: &mut Page, axis: &Axis, bottom: usize) {
     let mut free: usize = 0;
     let end = bottom.saturating_add(4);

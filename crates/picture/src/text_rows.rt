@@ -35,7 +35,7 @@ fn write_padded(page: &mut Page, text: &str, width: usize) {
     page.repeat(" ", gap.saturating_add(2));
 }
 
-/// Draws a level up to the next mark, behind its number where it isn't TRUE or FALSE. Where that
+/// Draws a level up to the next mark, behind its number where it is not TRUE or FALSE. Where that
 /// ends; what stands before ends at `end`.
 fn write_level(page: &mut Page, level: u8, mark: &Mark, end: usize) -> usize {
     if mark.x >= mark.next {

@@ -70,7 +70,7 @@ const WIDEST: u64 = 30_000;
 const SIGN: u64 = 8_000;
 /// The most units of time.
 const MOST_UNITS: u64 = 1_000_000_000_000;
-/// The longest gap that isn't left out is the whole time by this.
+/// The longest gap that is not left out is the whole time by this.
 const PARTS: u64 = 8;
 
 impl Scale {
@@ -98,7 +98,7 @@ impl Scale {
         gap > self.longest
     }
 
-    /// What a time gets that isn't left out.
+    /// What a time gets that is not left out.
     pub fn width_of(&self, time: u64) -> u64 {
         let units = time.checked_div(self.unit).unwrap_or(0);
         units

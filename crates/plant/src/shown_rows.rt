@@ -26,8 +26,8 @@ fn clock_back()
     ensures again { first_refusal (tick_cases (grown quiet (Tick 9)) 9) ≡ None }
 {}
 
-/// A bus that is down may come up, which keeps a place for its next Down. The place of a report that
-/// never comes stays kept beside that of the next transaction.
+/// A bus that is down may come up, which keeps a place for its next Down. The place of a report
+/// that never comes stays kept beside that of the next transaction.
 fn bus_comes_back()
     ensures up { first_refusal (up_cases (grown quiet (Down 0)) 0) ≡ None }
     ensures not_down { first_refusal (up_cases quiet 0) ≡ Some NothingReady }

@@ -1,15 +1,15 @@
-//! Why a plant doesn't start on its buses.
+//! Why a plant does not start on its buses.
 
 use crate::open_fault::OpenFault;
 use std::alloc::AllocError;
 use std::fmt;
 
-/// Why a plant doesn't start on its buses.
+/// Why a plant does not start on its buses.
 #[derive(Clone, Copy)]
 pub enum StartFault {
     /// The allocator had no memory for the buses.
     Memory,
-    /// The plant wasn't opened.
+    /// The plant was not opened.
     Plant(OpenFault),
 }
 

@@ -66,7 +66,7 @@ fn no_levels(alloc: Global) -> Result<BusOutputs, AllocError>
     Ok(BusOutputs { levels })
 }
 
-/// The levels of so many buses at which nothing is located.
+/// The levels of the given number of buses at which nothing is located.
 fn no_outputs(alloc: Global, buses: u8) -> Result<Vec<BusOutputs>, AllocError>
     ensures { IfOk result (λ outputs. AreAllFree buses outputs.items) }
 {

@@ -5,7 +5,7 @@ use dalievent::EventSource;
 /// What activates a task (IEC 61131-3, 2.7.2).
 #[derive(Clone, Copy)]
 pub enum Activator {
-    /// The clock, every so many milliseconds, 1 or more.
+    /// The clock, once in each interval of milliseconds, 1 or more.
     Interval {
         milliseconds: u32,
     },

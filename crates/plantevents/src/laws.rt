@@ -161,8 +161,8 @@ pub fn what_is_owed()
         → (slice_get (owed p b c h) 0 ≡ Some o) ↔ IsFirstOwed p b c h o }
 {}
 
-/// A bus that comes up again owes exactly each level whose value isn't 255. The other buses owe what
-/// they owed, and nothing else that a history says of variables, tasks and requests differs.
+/// A bus that comes up again owes exactly each level whose value is not 255. The other buses owe
+/// what they owed, and nothing else that a history says of variables, tasks and requests differs.
 pub fn what_coming_up_changes()
     ensures owed { (p : Plant) (b c : ℕ) (h : List Event) (o : OwedLevel)
         → Has (owed p b c (Up b ∷ h)) o ↔ IsOwedAnew p b c h o }

@@ -53,7 +53,7 @@ asked_at past more Limit ended why is =
 asked_at past more NoMemory ended why is = absurd (cc (why, is))
 asked_at past more NoThread ended why is = absurd (cc (why, is))
 
--- one that isn't full is followed by no other
+-- one that is not full is followed by no other
 pub as_it_ended : (past more : ℕ) (ended : Ended) → ended ≢ Limit → IsEnd past more ended ended
 as_it_ended past more Asked other = refl
 as_it_ended past more Limit other = absurd (other refl)

@@ -41,8 +41,8 @@ fn end_of(fault: OpenFault) -> Ended
     }
 }
 
-/// Goes on by so many events from what a run left, then from what that one left, while the history
-/// is full and may have more, and there is memory.
+/// Goes on by the given number of events from what a run left, then from what that one left, while
+/// the history is full and may have more, and there is memory.
 fn go_on_while_full<B: Bus + Send, C: Clock + Send, G: Gate, R: Threads + Wait + Timer + Sync>(
     rt: &R,
     alloc: Global,
@@ -74,11 +74,11 @@ fn go_on_while_full<B: Bus + Send, C: Clock + Send, G: Gate, R: Threads + Wait +
     unreachable!()
 }
 
-/// Runs a plant over its buses and its clock as `workers::run` does, with so many events as the
-/// limit says, and goes on by as many whenever the history is full: until the clock gives no moment
-/// more, memory or a thread is refused, or the history has the most events that it may have, 2^59.
-/// Plant, buses and clock are the same in all runs, and so is the history: what goes over a link in
-/// any run stands in it.
+/// Runs a plant over its buses and its clock as `workers::run` does, with the given number of
+/// events as the limit says, and goes on by as many whenever the history is full: until the clock
+/// gives no moment more, memory or a thread is refused, or the history has the most events that it
+/// may have, 2^59. Plant, buses and clock are the same in all runs, and so is the history: what
+/// goes over a link in any run stands in it.
 ///
 /// # Errors
 ///

@@ -19,8 +19,8 @@ fn lesser(least: Option<u64>, interval: u32) -> u64
     least.unwrap_or(MOST_PERIOD).min(u64::from(interval))
 }
 
-/// The period of a clock that suits a text, 1 to 1000 milliseconds: the least interval of its cyclic
-/// tasks, but not above 1000; and 100 where it has no cyclic task.
+/// The period of a clock that suits a text, 1 to 1000 milliseconds: the least interval of its
+/// cyclic tasks, but not above 1000; and 100 where it has no cyclic task.
 pub fn period_of(plan: &Plan) -> u64
     ensures value { IsPeriod plan.now result }
     ensures range { (1 ≤ result) × (result ≤ most_period) }

@@ -90,7 +90,7 @@ certified_before plan n codes h k t lt e =
     let front = in_front plan.tasks n k t lt e in
     (zipped_with (IsCodeOf plan) (take n plan.tasks) (accepted_of codes) k t h front).1.certified
 
--- why a plan isn't loaded: the first task whose code is refused
+-- why a plan is not loaded: the first task whose code is refused
 pub code_fault : (plan made : Planned) (k : ℕ) (codes : List (Arc Accepted Global)) (error : VerifyError)
     (fault : LoadFault) → made ≡ plan → k < length plan.tasks → AreFirst plan k codes
     → IfSome (slice_get made.tasks k) (λ t. IsError (listing_for made t) error) → fault ≡ of_error made k error

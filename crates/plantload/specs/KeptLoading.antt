@@ -1,5 +1,5 @@
 -- What a text is loaded as where its variables begin with kept values: as ever, but that the variables of its plan begin
--- with these (profile). What is wrong with a text doesn't hang on them.
+-- with these (profile). What is wrong with a text does not hang on them.
 use Rattle.std.specs.Prelude.{◌≡◌, ℕ, List, Result, Ok, Err}
 use Rattle.wordlines.specs.Wirings.{Wiring}
 use Rattle.ilplan.specs.Plans.{Planned}

@@ -56,7 +56,7 @@ abbrev pub IsCodeFault : Planned → LoadFault → Type 0
 IsCodeFault plan (Code refused) = (refused.plan ≡ plan) × IsFirstRefused plan refused.task refused.refusal
 IsCodeFault plan _ = ⊥
 
--- why the bytes aren't loaded
+-- why the bytes are not loaded
 abbrev pub IsLoadFault : Wiring → List ℕ → LoadFault → Type 0
 IsLoadFault wiring bytes (Code refused) =
     IsPlanOfText wiring bytes refused.plan × IsFirstRefused refused.plan refused.task refused.refusal

@@ -1,4 +1,4 @@
-//! Why a text isn't loaded.
+//! Why a text is not loaded.
 
 use ilplan::Plan;
 use ilsyms::NameFault;
@@ -97,7 +97,7 @@ impl fmt::Debug for RefusedTask {
     }
 }
 
-/// Why a text isn't loaded: the first of these, in the order in which they are reported.
+/// Why a text is not loaded: the first of these, in the order in which they are reported.
 #[derive(Debug, Drop)]
 pub enum LoadFault {
     /// The allocator is out of memory.

@@ -2,16 +2,17 @@
 //! one thing that is wrong.
 //!
 //! What crosses the boundary: [`load`], which answers an `ilcompile::Setup` or a [`LoadFault`]; and
-//! its two steps, [`plan_of`] and [`setup_of`], for a caller that has a question to the plan between
-//! them; [`source_and_plan`] for one that asks the source program too.
-//! What a text's setup is, and which fault stands against it, is `IsLoaded` (specs/Loading.antt),
-//! the definition to read first: a text has at most one such answer.
+//! its two steps, [`plan_of`] and [`setup_of`], for a caller that has a question to the plan
+//! between them; [`source_and_plan`] for one that asks the source program too. What a text's setup
+//! is, and which fault stands against it, is `IsLoaded` (specs/Loading.antt), the definition to
+//! read first: a text has at most one such answer.
 //!
 //! Two laws say what a setup does, by its source program: [`runs_are_as_meant`] of the runs of its
 //! codes, and [`scans_are_as_meant`] of the scans of every plant of it.
 //!
 //! [`load_kept`] loads a text whose variables begin with values that were kept (`IsKeptSetup`,
-//! specs/KeptLoading.antt), and [`begin_kept`] lets a setup begin so; the laws are [`kept_runs_are_as_meant`] and [`kept_scans_are_as_meant`].
+//! specs/KeptLoading.antt), and [`begin_kept`] lets a setup begin so; the laws are
+//! [`kept_runs_are_as_meant`] and [`kept_scans_are_as_meant`].
 //!
 //! ```text
 //! let setup = load(alloc, text, &binding)?;

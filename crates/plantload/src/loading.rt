@@ -107,7 +107,7 @@ pub fn setup_of(alloc: Global, plan: Plan) -> Result<Setup, LoadFault>
     Ok(Setup::new(plan, codes))
 }
 
-/// Why a plan isn't loaded of which the task of this number has no code.
+/// Why a plan is not loaded of which the task of this number has no code.
 fn fault_of(plan: Plan, task: usize, error: VerifyError) -> LoadFault
     requires { task < length plan.tasks }
     ensures { result ≡ of_error plan task error }

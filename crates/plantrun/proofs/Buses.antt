@@ -1,4 +1,4 @@
--- One bus more of a scenario, and why a run on its buses doesn't start.
+-- One bus more of a scenario, and why a run on its buses does not start.
 use Rattle.std.proofs.Common.{◌≡◌, ◌∙◌, ap, ℕ, zero, suc, ◌+◌, List, [], ◌∷◌, ◌++◌, length, length-append}
 use Rattle.std.proofs.Common.{◌≤◌, add-one, arith, refl}
 use Rattle.wordlines.specs.declared.statements.Statement.{Statement}
@@ -27,7 +27,7 @@ pub as_many : (scenario : List Statement) (buses count : ℕ) (items : List Simu
     → items ≡ buses_of scenario buses → count ≡ length items → count ≡ buses
 as_many scenario buses count items are counted = counted ∙ (ap length are ∙ count_of scenario buses)
 
--- with a bus for each of the plan a run doesn't start for what the plant isn't opened for
+-- with a bus for each of the plan a run does not start for what the plant is not opened for
 pub not_opened : (setup : Loaded) (workers buses limit : ℕ) (fault : OpenFault) → buses ≡ setup.plan.buses
     → IsStartFault setup workers buses limit fault → IsOpenFault setup.plan.buses workers limit fault
 not_opened setup workers buses limit BadCount same is = λ count. is (count, same)

@@ -33,7 +33,7 @@ pub record FollowsScenario (scenario : List Statement) (count : ℕ) (h : List E
   pub ticks : ticks scenario ≡ given_in h ++ later
   pub buses : (b : ℕ) → b < count → IsBusFollowing scenario h b
 
--- it has all ticks of the scenario, and all events on each bus that isn't down
+-- it has all ticks of the scenario, and all events on each bus that is not down
 pub record HasWholeScenario (scenario : List Statement) (count : ℕ) (h : List Event) : Type 0 where
   pub ticks : given_in h ≡ ticks scenario
   pub heard : (b : ℕ) → b < count → is_down b h ≡ false → heard_in b h ≡ events_on b scenario

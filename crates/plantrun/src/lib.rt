@@ -2,8 +2,9 @@
 //!
 //! What crosses the boundary: the setup of a text, a scenario, a limit of events and a number of
 //! scan workers go in. [`run`] has `workers` run the plant and hands out what is left, and
-//! [`write_run`] writes the lines of it. Threads are the runtime's. The definitions to read first are `IsRun` (specs/Runs.antt), what a run leaves, and
-//! `FollowsScenario` (specs/Scenes.antt), what its history says of the scenario.
+//! [`write_run`] writes the lines of it. Threads are the runtime's. The definitions to read first
+//! are `IsRun` (specs/Runs.antt), what a run leaves, and `FollowsScenario` (specs/Scenes.antt),
+//! what its history says of the scenario.
 //!
 //! ```text
 //! let left = run(rt, alloc, setup, &scenario, limit, workers)?;

@@ -17,8 +17,8 @@ use std::time::Clock as Timer;
 use workers::{Closed, OpenGate, Opening};
 
 /// Runs the plant of a setup on the simulated buses of a scenario, until the scenario's clock gives
-/// no moment more and nothing is left to do, or it can't go on. All that a bus is to hear waits for
-/// it from the start, since a thread has it.
+/// no moment more and nothing is left to do, or it cannot go on. All that a bus is to hear waits
+/// for it from the start, since a thread has it.
 ///
 /// # Errors
 ///

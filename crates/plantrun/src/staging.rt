@@ -21,7 +21,7 @@ pub(crate) struct Cast<S: Scene> {
     pub room: Vec<SimBus>,
 }
 
-/// The first simulated buses of a scenario, so many, to which all has come.
+/// The first simulated buses of a scenario, of the given number, to which all has come.
 ///
 /// # Errors
 ///
@@ -43,7 +43,7 @@ pub(crate) fn cast_of<S: Scene>(
     })
 }
 
-/// The first simulated buses of a scenario, so many, to which all has come.
+/// The first simulated buses of a scenario, of the given number, to which all has come.
 fn buses_of<S: Scene>(
     alloc: Global,
     buses: u8,

@@ -91,8 +91,8 @@ use Answer::{Handed, Noted, Refused, Taken};
 use Call::{Commit, Done, Down, Hand, Push, Take, Tick, Turn};
 use CallRefusal::{BusDown, Busy, ClockBack, Full, NothingReady, Stranger};
 
-/// A text that is driven: how many workers and places there are, and each step so many times, with
-/// its answer.
+/// A text that is driven: how many workers and places there are, and each step the given number of
+/// times, with its answer.
 #[derive(Clone, Copy)]
 struct Row {
     name: &'static str,
@@ -328,7 +328,7 @@ fn step_of(alloc: Global, call: Call) -> Result<Step, Fail> {
     })
 }
 
-/// Adds a step so many times.
+/// Adds a step the given number of times.
 fn add(alloc: Global, steps: &mut Vec<Step>, times: u32, call: Call) -> Result<(), Fail> {
     for _ in 0..times {
         steps.push(step_of(alloc, call)?)?;
@@ -339,7 +339,7 @@ fn add(alloc: Global, steps: &mut Vec<Step>, times: u32, call: Call) -> Result<(
     Ok(())
 }
 
-/// Adds an answer so many times.
+/// Adds an answer the given number of times.
 fn expect(wanted: &mut Vec<Answer>, times: u32, call: Call, answer: Answer) -> Result<(), Fail> {
     for _ in 0..times {
         wanted.push(answer)?;

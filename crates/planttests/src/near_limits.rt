@@ -140,7 +140,7 @@ fn places_are_kept_back(rt: HostRuntime) -> Result<(), Fail> {
     Ok(())
 }
 
-/// Adds a line so many times.
+/// Adds a line the given number of times.
 fn add(lines: &mut String, times: u32, line: &str) -> Result<(), AllocError> {
     for _ in 0..times {
         lines.push_str(line)?;
@@ -148,7 +148,7 @@ fn add(lines: &mut String, times: u32, line: &str) -> Result<(), AllocError> {
     Ok(())
 }
 
-/// One line so many times, then another 32 times, then a last one.
+/// One line the given number of times, then another 32 times, then a last one.
 fn lines_of(
     alloc: Global,
     times: u32,

@@ -36,7 +36,7 @@ fn next_tally<T: Tally>(thread_tallies: &mut Vec<T>) -> T
     thread_tallies.remove(0)
 }
 
-/// Passes over the tallies of so many seats, which have no role.
+/// Passes over the tallies of the given number of seats, which have no role.
 fn skip_tallies<T: Tally>(thread_tallies: &mut Vec<T>, seats: usize)
     requires { (n : ℕ) × (n + seats ≤ most_seats)
         × AreUnused T.seat T.amount n thread_tallies.old.items }

@@ -161,7 +161,8 @@ pub fn short_text_is_no_greeting<R: Read + Drop, W: Write + Drop>(
 }
 
 /// `version_1_is_not_asked_for`: an interface that knows no numbered greeting was not greeted in
-/// version 1. A text of 16 bytes can say `fault` and then that greeting, and has no room for the other.
+/// version 1. A text of 16 bytes can say `fault` and then that greeting, and has no room for the
+/// other.
 pub fn refused_greeting_is_said_plainly<R: Read + Drop, W: Write + Drop>(
     from: R,
     to: W,

@@ -24,7 +24,8 @@ pub fn frame_before_the_end_is_not_counted<
     line.hear()
 }
 
-/// `no_frame_counts`: a frame that was heard after the building's end was asked for was not counted.
+/// `no_frame_counts`: a frame that was heard after the building's end was asked for was not
+/// counted.
 pub fn frame_after_the_end_is_counted<R: Wait + Clock + Drop, W: Write + Drop, T: Teller, O: Drop>(
     line: &mut MendedLine<R, W, T, O>,
 ) -> Result<Option<Frame24>, Fault>

@@ -39,8 +39,8 @@ pub fn request_that_is_done_has_not_failed<B: Bus, W: Write>(
     serve_ask(bus, command, to)
 }
 
-/// `the_query_to_all_tried_once`, `a_level_in_place_of_the_query_to_all`: the query to all was given
-/// up after one loss, or another frame was sent.
+/// `the_query_to_all_tried_once`, `a_level_in_place_of_the_query_to_all`: the query to all was
+/// given up after one loss, or another frame was sent.
 pub fn lost_query_to_all_is_sent_three_times<B: Bus>(bus: &mut B) -> Result<Outcome, AskFault>
     requires { (B.log bus.old).sent ≡ [] }
     ensures { IfOk result (λ outcome. outcome ≡ Outcome.GaveUp → (B.log bus.new).sent
@@ -64,8 +64,8 @@ pub fn silent_bus_is_asked_128_questions<B: Bus, W: Write, P: Write>(
     make_survey(alloc, bus, table, progress)
 }
 
-/// `a_stray_command_where_a_survey_fails`: behind the question at which the interface failed another
-/// command was sent, at which it could fail again.
+/// `a_stray_command_where_a_survey_fails`: behind the question at which the interface failed
+/// another command was sent, at which it could fail again.
 pub fn survey_fails_once<B: Bus, W: Write, P: Write>(
     alloc: Global,
     bus: &mut B,

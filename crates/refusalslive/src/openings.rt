@@ -13,8 +13,8 @@ use options::{LineWord, LiveOptions};
 use plant::{OpenFault, StartFault};
 use std::alloc::Global;
 
-/// `each_bus_has_the_line_of_bus_0`, `two_lines_are_exchanged`, `the_patience_is_doubled`: bus 1 had
-/// the line of another bus, or another patience.
+/// `each_bus_has_the_line_of_bus_0`, `two_lines_are_exchanged`, `the_patience_is_doubled`: bus 1
+/// had the line of another bus, or another patience.
 pub fn bus_1_has_the_line_that_names_it<'a, S: Site>(
     alloc: Global,
     site: &S,
@@ -46,8 +46,8 @@ pub fn second_bus_has_number_1<'a, S: Site>(
 }
 
 /// `the_period_is_three_times_as_long`, `the_clock_has_another_period`, `it_runs_twice_as_long`,
-/// `the_stop_file_is_not_looked_for`, `its_clock_begins_at_zero_again`: the clock had another period,
-/// beginning or end, or no path.
+/// `the_stop_file_is_not_looked_for`, `its_clock_begins_at_zero_again`: the clock had another
+/// period, beginning or end, or no path.
 pub fn clock_has_the_period_and_the_end_that_are_asked_for<'a, S: Site>(
     alloc: Global,
     site: &S,
@@ -64,8 +64,8 @@ pub fn clock_has_the_period_and_the_end_that_are_asked_for<'a, S: Site>(
     open(alloc, site, setup, lines, options, 3000)
 }
 
-/// `it_ends_where_a_bus_goes_down_though_that_is_not_asked`: a building ended where a bus went down,
-/// though it was to stay.
+/// `it_ends_where_a_bus_goes_down_though_that_is_not_asked`: a building ended where a bus went
+/// down, though it was to stay.
 pub fn building_stays_where_no_end_is_asked_for<'a, S: Site>(
     alloc: Global,
     site: &S,
@@ -111,8 +111,8 @@ pub fn bus_without_a_line_is_refused<'a, S: Site>(
     open(alloc, site, setup, lines, options, 0)
 }
 
-/// `few_events_for_many_buses_are_let_through`: of a limit that is too low for so many buses it was
-/// said that their number is not the plan's.
+/// `few_events_for_many_buses_are_let_through`: of a limit that is too low for the given number of
+/// buses it was said that their number is not the plan's.
 pub fn low_limit_is_no_bad_count<'a, S: Site>(
     alloc: Global,
     site: &S,

@@ -22,8 +22,8 @@ pub fn input_is_not_written_over<'a>(
     read(alloc, words)
 }
 
-/// `a_scenario_is_looked_at_without_its_binding`: `look` was taken with one word behind the text and
-/// no `--bind`.
+/// `a_scenario_is_looked_at_without_its_binding`: `look` was taken with one word behind the text
+/// and no `--bind`.
 pub fn scenario_is_looked_at_with_its_binding<'a>(
     alloc: Global,
     words: &'a [String],

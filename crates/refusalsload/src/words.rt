@@ -60,8 +60,8 @@ pub fn scenario_stands_behind_the_text<'a>(found: &ArgMatches<'a>) -> Option<Pla
     }
 }
 
-/// `the_kept_values_of_a_play_are_dropped`: of a play with a file of kept values another file was read,
-/// or none.
+/// `the_kept_values_of_a_play_are_dropped`: of a play with a file of kept values another file was
+/// read, or none.
 pub fn kept_values_of_a_play_are_named<'a>(found: &ArgMatches<'a>) -> Option<PlayFiles<'a>>
     requires { first_of (codes "keep") (rows_of (found_of found.now)) ≡ Some (codes "kept") }
     ensures { IfSome result (λ files.

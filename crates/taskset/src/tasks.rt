@@ -51,8 +51,8 @@ impl Model for Tasks {
 
 impl Tasks {
     /// The tasks of a plant to which nothing has happened, in declared order, with the memory of
-    /// all that may be pending. An interval has 1 millisecond or more. There are at most 16, as in a
-    /// plan.
+    /// all that may be pending. An interval has 1 millisecond or more. There are at most 16, as in
+    /// a plan.
     pub fn new(alloc: Global, setups: &[TaskSetup]) -> Result<Tasks, AllocError>
         requires few { length setups.now ≤ most_tasks }
         requires intervals { All (λ s. HasInterval s.activator) setups.now }

@@ -87,7 +87,7 @@ fn power_of(digits: &[u8]) -> Option<usize> {
     usize::try_from(with_digits(0, digits)?).ok()
 }
 
-/// How far a power goes up and down, of a number with so many digits behind its dot.
+/// How far a power goes up and down, of a number with the given number of digits behind its dot.
 fn around(power: usize, places: usize) -> (usize, usize) {
     (power.saturating_sub(places), places.saturating_sub(power))
 }

@@ -97,7 +97,7 @@ impl Said {
         }
     }
 
-    /// A text with what stands in its slots, in a line that begins with so many blanks.
+    /// A text with what stands in its slots, in a line that begins with the given number of blanks.
     fn fill(
         &self,
         alloc: Global,
@@ -176,7 +176,7 @@ fn push_number(alloc: Global, bytes: &mut Vec<u8>, number: u64) -> Result<(), Al
     bytes.extend_from_slice(format!(in alloc; "{number}")?.as_bytes())
 }
 
-/// Adds some bytes so many times.
+/// Adds some bytes the given number of times.
 fn push_times(bytes: &mut Vec<u8>, times: usize, with: &[u8]) -> Result<(), AllocError> {
     for _ in 0..times {
         bytes.extend_from_slice(with)?;

@@ -1,7 +1,7 @@
 //! What is said of the faults of a text: what could stand there, and a line that was tried.
 //!
-//! What crosses the boundary: [`answer_text`], of a cause at a place. What people write who come from
-//! other languages has a row each (src/habit_rows.rt). What is printed is fixed by worked rows
+//! What crosses the boundary: [`answer_text`], of a cause at a place. What people write who come
+//! from other languages has a row each (src/habit_rows.rt). What is printed is fixed by worked rows
 //! (crates/rows); of the code it is proved that it is safe and ends.
 //!
 //! ```text

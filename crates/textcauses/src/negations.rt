@@ -66,8 +66,8 @@ fn nested(said: Said, spot: &Spot, (from, to): Place) -> Said {
     said.put((spot.at, to), "{1}\nNOT")
 }
 
-/// `CAL t(IN := NOT b, ..)` as `LDN b`, `ST t.IN` and the call without this input: what is open, and
-/// where `:=` stands.
+/// `CAL t(IN := NOT b, ..)` as `LDN b`, `ST t.IN` and the call without this input: what is open,
+/// and where `:=` stands.
 fn before_call(said: Said, spot: &Spot, (open, given): Place, (_, to): Place) -> Said {
     let name = Surroundings::of(spot.text, open).before;
     let call = Surroundings::of(spot.text, name.0).before;

@@ -95,8 +95,8 @@ fn missing_end(opened: OpenConstruct) -> Advice {
     }
 }
 
-/// The parentheses that close what operators opened, before a word that stands only outside, each on
-/// a line of its own.
+/// The parentheses that close what operators opened, before a word that stands only outside, each
+/// on a line of its own.
 fn close(standing: &Standing) -> Option<Said> {
     let around = &standing.around;
     let spot = &standing.spot;

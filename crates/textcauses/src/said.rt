@@ -35,7 +35,7 @@ pub(crate) struct Said {
     pub parts: [Place; 5],
     /// `{w}` and `{v}`.
     pub words: (&'static str, &'static str),
-    /// `{n}` and `{d}`; `{)}` is `)` on so many lines as the second says.
+    /// `{n}` and `{d}`; `{)}` is `)` on as many lines as the second says.
     pub numbers: (u64, u64),
     pub change: Option<Change>,
     pub trial: Trial,

@@ -1,7 +1,7 @@
 //! Buses send at once, and send again after they were idle; tasks are scanned at once; frames are
 //! heard and sent and scans are made while the clock still gives moments; an end is seen while it
-//! does; what is left at the clock's end is done; a run goes on where the clock does; and runs follow
-//! one another.
+//! does; what is left at the clock's end is done; a run goes on where the clock does; and runs
+//! follow one another.
 
 use crate::house::House;
 use crate::links::{PausedClock, WaitingClock, WatchedBus};
@@ -30,7 +30,7 @@ struct Row {
     buses_wait: bool,
     /// What each answer of the clock waits for.
     waits: &'static [Until],
-    /// The clock comes to its end once after so many answers.
+    /// The clock comes to its end once after the given number of answers.
     pause: u64,
     ended: Ended,
     /// The scans of each task.
@@ -363,7 +363,8 @@ fn goes_on<R: Threads + Wait + Timer + Sync>(
     Ok(is_left(&more, &watch, row.ended, row.scans.saturating_add(1)))
 }
 
-/// Whether a plant is run to its clock's end, one run after another, and its history is that of all.
+/// Whether a plant is run to its clock's end, one run after another, and its history is that of
+/// all.
 fn lives<R: Threads + Wait + Timer + Sync>(rt: &R, alloc: Global, row: &Row) -> Result<bool, Fail> {
     let watch = Watch::new(rt, alloc, row.rules())?;
     let Linked {

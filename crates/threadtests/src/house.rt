@@ -18,7 +18,7 @@ pub struct House {
     pub has_events: bool,
     /// The level of each lamp at first. 255 is not sent.
     pub level: u8,
-    /// The clock has so many moments, 100 ms apart.
+    /// The clock has the given number of moments, 100 ms apart.
     pub moments: u16,
 }
 

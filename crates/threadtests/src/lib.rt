@@ -3,9 +3,10 @@
 //!
 //! Nothing crosses the boundary. The tests (`at_once`) stand on public items of the crates alone,
 //! over texts that `house` writes. The buses and the clock are in `links`; what holds scans, frames
-//! and the clock back, and how long at most, is in `watch`. Runs that go on once there is memory are
-//! in `memory`, what is written beside a run in `observed`, how often that is tried where a disk is
-//! away in `tried`, and the files of the machine to which it goes in `storage`. `rt test` runs them.
+//! and the clock back, and how long at most, is in `watch`. Runs that go on once there is memory
+//! are in `memory`, what is written beside a run in `observed`, how often that is tried where a
+//! disk is away in `tried`, and the files of the machine to which it goes in `storage`. `rt test`
+//! runs them.
 #![tactic(auto)]
 
 #[cfg(test)]

@@ -94,7 +94,7 @@ impl<'w, 'r, R: Timer> Bus for WatchedBus<'w, 'r, R> {
 #[derive(Drop)]
 pub struct PausedClock {
     clock: ScriptedClock,
-    /// It gives no moment after so many answers.
+    /// It gives no moment after the given number of answers.
     pause: u64,
     asks: u64,
     gave_none: bool,

@@ -1,5 +1,5 @@
 //! Out of memory: with each request for memory refused in turn (`benches/hostile --memory`), a run
-//! that doesn't start or doesn't go on gives back what it had, one that ends so says so, and what
+//! that does not start or does not go on gives back what it had, one that ends so says so, and what
 //! it left goes on to the same end.
 
 use daliframe::BusNumber;
@@ -105,7 +105,7 @@ fn begun<R: Threads + Wait + Timer + Sync>(rt: &R, alloc: Global) -> Result<Left
     }
 }
 
-/// What is to stay where a run doesn't go on.
+/// What is to stay where a run does not go on.
 #[derive(Clone, Copy, PartialEq, Eq)]
 struct Counts {
     events: u64,

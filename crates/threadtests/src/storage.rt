@@ -44,7 +44,8 @@ fn has<R: Files + AllocGlobal>(rt: &R, path: &str, bytes: &[u8]) -> io::Result<b
     Ok(fs::read(rt, path)?.as_slice() == bytes)
 }
 
-/// Whether bytes that are appended stand behind the others, and the file is as long as was answered.
+/// Whether bytes that are appended stand behind the others, and the file is as long as was
+/// answered.
 fn are_appended<R: Files + AllocGlobal + Timer + Eprint>(
     rt: &R,
     paths: &Paths,
@@ -57,8 +58,8 @@ fn are_appended<R: Files + AllocGlobal + Timer + Eprint>(
     Ok(all && (none, first, second) == (0, 4, 12))
 }
 
-/// Whether bytes that replace a file stand alone in it, whether they are to last or not, and nothing
-/// is left beside it.
+/// Whether bytes that replace a file stand alone in it, whether they are to last or not, and
+/// nothing is left beside it.
 fn are_replaced<R: Files + AllocGlobal + Timer + Eprint>(
     rt: &R,
     paths: &Paths,
@@ -91,8 +92,8 @@ fn is_ended<R: Files + AllocGlobal + Timer + Eprint>(rt: &R, paths: &Paths) -> i
     Ok(ended && (none, first, second) == (0, 5, 5))
 }
 
-/// Whether a file is written beside its path as a new one, which only its owner may read, where a link
-/// to another file was.
+/// Whether a file is written beside its path as a new one, which only its owner may read, where a
+/// link to another file was.
 fn is_made_anew<R: Files + AllocGlobal + Timer + Eprint>(
     rt: &R,
     paths: &Paths,

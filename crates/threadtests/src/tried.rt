@@ -1,5 +1,5 @@
-//! What is written beside a building over 300 ticks, 30 seconds, by a storage that is away for some of
-//! them, and whose date may be set back: how often each file is tried, and what it took.
+//! What is written beside a building over 300 ticks, 30 seconds, by a storage that is away for some
+//! of them, and whose date may be set back: how often each file is tried, and what it took.
 
 use crate::house::House;
 use observing::{BuildingObserver, Care, Storage};
@@ -49,7 +49,7 @@ struct Outcome {
     lines: u32,
     /// How many files were given another name.
     renamed: u32,
-    /// How many lines on standard error say that a file can't be written.
+    /// How many lines on standard error say that a file cannot be written.
     failing: u32,
     /// How many say that one is written again.
     mended: u32,
@@ -73,7 +73,7 @@ struct Row {
     name: &'static str,
     /// The first tick at which it is away.
     from: u64,
-    /// The first tick at which it is there again; above 300 it isn't so at the end.
+    /// The first tick at which it is there again; above 300 it is not so at the end.
     until: u64,
     /// Whether each date is ten seconds before the last.
     falls: bool,

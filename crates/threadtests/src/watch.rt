@@ -64,7 +64,7 @@ impl Counts {
 /// What is waited for: that each did so much.
 #[derive(Clone, Copy)]
 pub struct Until {
-    /// Each bus heard so many frames,
+    /// Each bus heard the given number of frames,
     pub heard: u64,
     /// and sent so many;
     pub sent: u64,
@@ -151,7 +151,7 @@ impl<'r, R: Timer> Watch<'r, R> {
         self.given_up.load(Ordering::SeqCst) == 0
     }
 
-    /// Sleeps for so many turns.
+    /// Sleeps for the given number of turns.
     pub fn rest(&self, turns: u64) {
         thread::sleep(self.rt, Duration::from_micros(turns.saturating_mul(TURN)));
     }

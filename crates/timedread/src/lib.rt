@@ -2,9 +2,9 @@
 //!
 //! What crosses the boundary: a file goes in, and [`TimedReader::over`] starts a thread that reads
 //! it for as long as it lives. A [`Read`](std::io::Read) comes out: a read of it gives what came,
-//! or the error `TimedOut` where the end of the line did not come in the given time. The thread ends
-//! where the file gives nothing more ([`TimedReader::has_ended`]), or where nobody takes what it
-//! reads; while the file is silent it waits, and no other thread may read the same device
+//! or the error `TimedOut` where the end of the line did not come in the given time. The thread
+//! ends where the file gives nothing more ([`TimedReader::has_ended`]), or where nobody takes what
+//! it reads; while the file is silent it waits, and no other thread may read the same device
 //! meanwhile.
 //!
 //! ```text

@@ -16,8 +16,9 @@ const MOST_BYTES: usize = 32;
 /// The most pieces that wait to be taken. Whoever says more waits.
 const MOST_PIECES: usize = 64;
 
-/// A read that gives nothing, and took so many milliseconds, has only waited: a serial device may be
-/// set to give nothing after a while. One that gives nothing at once has come to the end.
+/// A read that gives nothing, and took this number of milliseconds, has only waited: a serial
+/// device may be set to give nothing after a while. One that gives nothing at once has come to the
+/// end.
 const LEAST_WAIT: u64 = 50;
 
 /// Some bytes that were read.
@@ -46,7 +47,7 @@ enum Came {
     End,
 }
 
-/// Whether a read that began then has waited. It has not where the clock can't be read.
+/// Whether a read that began then has waited. It has not where the clock cannot be read.
 fn has_waited<R: Clock>(rt: &R, began: io::Result<Instant>) -> bool {
     match began {
         Ok(began) => match began.elapsed(rt) {
@@ -94,7 +95,8 @@ fn read_all<F: Read, R: Wait + Clock>(rt: &R, from: &mut F, to: &Sender<Piece>) 
 }
 
 impl<R: Wait + Clock + Drop> TimedReader<R> {
-    /// Starts the thread that reads this. A line of it takes so many milliseconds at most.
+    /// Starts the thread that reads this. A line of it takes the given number of milliseconds at
+    /// most.
     ///
     /// # Errors
     ///
@@ -135,7 +137,7 @@ impl<R: Wait + Clock + Drop> TimedReader<R> {
         self.has_ended.load(Ordering::SeqCst)
     }
 
-    /// From the next line on, a line takes so many milliseconds at most.
+    /// From the next line on, a line takes the given number of milliseconds at most.
     pub fn set_patience(&self, patience: u64) {
         self.patience.store(patience, Ordering::SeqCst);
     }
@@ -144,7 +146,7 @@ impl<R: Wait + Clock + Drop> TimedReader<R> {
     ///
     /// # Errors
     ///
-    /// The clock can't be read.
+    /// The clock cannot be read.
     fn time_left(&mut self) -> io::Result<Duration> {
         let now = Instant::now(&self.rt)?;
         if let Some(deadline) = self.deadline {
@@ -159,7 +161,7 @@ impl<R: Wait + Clock + Drop> TimedReader<R> {
     ///
     /// # Errors
     ///
-    /// None came in time, or the clock can't be read.
+    /// None came in time, or the clock cannot be read.
     fn next_byte(&mut self) -> io::Result<Option<u8>> {
         if let Some(byte) = self.came.pop_at(0) {
             return Ok(Some(byte));

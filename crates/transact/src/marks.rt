@@ -45,8 +45,8 @@ impl Mark {
         }
     }
 
-    /// Whether another attempt follows one with this last mark, where so many retries are left
-    /// (profile).
+    /// Whether another attempt follows one with this last mark, where the given number of retries
+    /// are left (profile).
     pub fn is_retried(self, retries: u8) -> bool
         ensures { IsTrue result ↔ ((self ≡ Mark.Lost) × (0 < retries)) }
     {

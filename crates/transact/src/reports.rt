@@ -77,8 +77,8 @@ impl Clone for Report {
 }
 
 impl Report {
-    /// The report of a transaction whose frames got these marks, in order, on a bus that has `tries`
-    /// attempts, 1 to 5, where the marks spell one.
+    /// The report of a transaction whose frames got these marks, in order, on a bus that has
+    /// `tries` attempts, 1 to 5, where the marks spell one.
     pub fn of(transaction: &Transaction, tries: u8, marks: &[Mark]) -> Option<Self>
         requires { AreTries tries }
         ensures report { MatchOption result (SpellsNone transaction.now tries marks.now)

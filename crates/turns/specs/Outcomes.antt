@@ -22,7 +22,7 @@ use Rattle.turns.specs.declared.turn.Turn.TheVariants as turns
 
 -- ---- where the plant refuses
 
--- where nothing is ready the turn is idle, and where the bus is down it says so; else the worker can't go on
+-- where nothing is ready the turn is idle, and where the bus is down it says so; else the worker cannot go on
 abbrev pub turn_where_refused : Halt → Result Turn Halt
 turn_where_refused (Refused NothingReady) = Ok turns.Idle
 turn_where_refused (Refused BusDown) = Ok turns.Down
@@ -57,7 +57,7 @@ pub record IsUnsent (s t : ShareParts) (log after : BusLog) : Type 0 where
   pub line : after ≡ with_spare after.spare log
 
 -- A transaction was sent, and the bus did not fail; or the plant had nothing to send on it; or the bus is down, by the
--- plant or since it failed; or the worker can't go on.
+-- plant or since it failed; or the worker cannot go on.
 abbrev pub SendsTurn : Shown → ℕ → ShareParts → ShareParts → BusLog → BusLog → Result Turn Halt → Type 0
 SendsTurn start bus s t log after (Ok turns.Busy) =
     (report : ReportParts) × HasSentOnce bus s t log after report × (report.outcome ≢ outcome.Failed)
@@ -84,7 +84,7 @@ pub record HasScannedOnce (worker : ℕ) (s t : ShareParts) : Type 0 where
   pub scan : Scan
   pub receipts : whole t ≡ placed place (Commit worker number scan) ∷ placed number (Take worker task snapshot) ∷ whole s
 
--- A scan was made; or the plant had no task ready; or the worker can't go on.
+-- A scan was made; or the plant had no task ready; or the worker cannot go on.
 abbrev pub ScansTurn : Shown → ℕ → ShareParts → ShareParts → Result Turn Halt → Type 0
 ScansTurn start worker s t (Ok turns.Busy) = HasScannedOnce worker s t
 ScansTurn start worker s t (Ok turns.Idle) =

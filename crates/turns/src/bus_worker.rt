@@ -253,8 +253,8 @@ pub fn hear_turn<
     }
 }
 
-/// Asks a bus that is down whether its interface answers again, outside the lock. Where it does, the
-/// bus comes up under the lock, and is taken up. It never waits for the interface.
+/// Asks a bus that is down whether its interface answers again, outside the lock. Where it does,
+/// the bus comes up under the lock, and is taken up. It never waits for the interface.
 ///
 /// # Errors
 ///

@@ -18,12 +18,12 @@ pub struct ClockWithShare<'a, C: Clock, J: LockStart, T: Tally> {
 }
 
 /// Keeps a place back under the lock, asks the clock outside the lock, and notes the moment under
-/// the lock. Answers whether the clock gave one; if not, it was asked here and came to its end. What
-/// it gave stays what the Share has receipts for.
+/// the lock. Answers whether the clock gave one; if not, it was asked here and came to its end.
+/// What it gave stays what the Share has receipts for.
 ///
 /// # Errors
 ///
-/// The history is full: the clock wasn't asked. Or an observer failed, once the moment was noted.
+/// The history is full: the clock was not asked. Or an observer failed, once the moment was noted.
 #[tactic(auto, using(driving::proofs::Counts::grown_by_one))]
 pub fn tick_once<
     'a,

@@ -34,8 +34,8 @@ impl Gate for OpenGate {
     fn after(&self, _place: u64, _happened: Happened) {}
 }
 
-/// Whoever lets each scan and each transaction that it is told of pass a gate, and tells the gate of
-/// each event.
+/// Whoever lets each scan and each transaction that it is told of pass a gate, and tells the gate
+/// of each event.
 #[derive(Drop)]
 pub struct Passing<'g, G: Gate> {
     pub gate: &'g G,

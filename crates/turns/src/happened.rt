@@ -21,7 +21,7 @@ pub enum Happened {
         worker: usize,
         task: usize,
     },
-    /// A scan worker committed the scan of a task, which took so many steps.
+    /// A scan worker committed the scan of a task, which took these steps.
     Committed {
         worker: usize,
         task: usize,

@@ -2,7 +2,8 @@
 
 use std::marker::Brand;
 
-/// The logs of the buses, by their numbers, and of the clock, before the first event of the history.
+/// The logs of the buses, by their numbers, and of the clock, before the first event of the
+/// history.
 pub trait Links {
     ghost use Rattle.std.specs.Prelude.{List};
     ghost use Rattle.buslink.specs.BusLog.{BusLog};

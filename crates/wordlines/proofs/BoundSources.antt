@@ -14,7 +14,7 @@ use Rattle.wordlines.specs.Wirings.{Wiring, IsAt, IsBoundAt, IsFree, IsInRange, 
 abbrev DifferInPlace : BoundSource → BoundSource → Type 0
 DifferInPlace earlier later = ¬ IsAt later.bus later.number earlier
 
--- of two that are bound at one place, the first doesn't stand before the second
+-- of two that are bound at one place, the first does not stand before the second
 not_before : (xs : List BoundSource) → AllPairs DifferInPlace xs → (x y : BoundSource) (i j : ℕ) → j < length xs
     → get_or xs i x ≡ x → get_or xs j y ≡ y → x.bus ≡ y.bus → x.number ≡ y.number → ¬ (i < j)
 not_before xs once x y i j within at_i at_j bus number less =
@@ -54,7 +54,7 @@ none_bound wiring bus number free source = (
       (record { bus = bus; number = number; source = source }) free b (refl, refl)),
 )
 
--- what wasn't found is free
+-- what was not found is free
 pub free_of : (r : Option (Bor BoundSource)) (P : Type 0) (Q : Bor BoundSource → Type 0) → is_some r ≡ false
     → MatchOption r P Q → P
 free_of None P Q none m = m

@@ -4,7 +4,7 @@ use Rattle.std.specs.Prelude.{codes, bytes_eq, option_map, slice_set}
 use Rattle.wordlines.specs.WordLines.{after_word, number_in, number_upto}
 use Rattle.wordlines.specs.Saying.{groups_from, scenes_from}
 
--- a word was taken, or it wasn't the first
+-- a word was taken, or it was not the first
 taken : (test : Bool) (words rest : List (List ℕ)) → cond test (Some words) None ≡ Some rest
     → (test ≡ true) × (words ≡ rest)
 taken true words rest is = (refl, cc)

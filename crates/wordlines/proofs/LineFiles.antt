@@ -7,7 +7,7 @@ use Rattle.wordlines.specs.declared.fault.LineFault.{LineFault}
 use Rattle.wordlines.specs.declared.fault.LineFault.TheVariants.{Memory, At}
 
 module _ {Value Of : Type 0} (Says : Value → Type 0) (IsBad : ℕ → Type 0) (NeedsMemory : Type 0) (bytes : List ℕ) where
-  -- what bytes say that aren't too long is reported, where they say it alone and none of their lines is bad
+  -- what bytes say that are not too long is reported, where they say it alone and none of their lines is bad
   pub said_is_reported : (r : Result Value (LineFault Of)) → IsReport Says IsBad NeedsMemory bytes r → (value : Value)
       → ((other : Value) → Says other → other ≡ value) → ((line : ℕ) → ¬ IsBad line) → length bytes ≤ most_bytes
       → GivesIfRoom r (Ok value)
@@ -16,7 +16,7 @@ module _ {Value Of : Type 0} (Says : Value → Type 0) (IsBad : ℕ → Type 0) 
   said_is_reported (Err (At line BadLine)) is value one none short = absurd (none line is)
   said_is_reported (Err (At line TooLong)) is value one none short = absurd (omega (arith, is.long, short))
 
-  -- a bad line of bytes that aren't too long is reported, where it alone is bad and they say nothing
+  -- a bad line of bytes that are not too long is reported, where it alone is bad and they say nothing
   pub bad_is_reported : (r : Result Value (LineFault Of)) → IsReport Says IsBad NeedsMemory bytes r → (line : ℕ)
       → ((other : ℕ) → IsBad other → other ≡ line) → ((value : Value) → ¬ Says value) → length bytes ≤ most_bytes
       → GivesIfRoom r (Err (At line BadLine))

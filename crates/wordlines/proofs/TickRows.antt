@@ -38,7 +38,7 @@ counted count = omega arith
 first_moment : (row : TickRow) → moment_at row 0 ≡ row.from
 first_moment row = omega arith
 
--- those of a row follow where the first one isn't before the clock
+-- those of a row follow where the first one is not before the clock
 row_follows : (row : TickRow) (before : List Statement)
     → IfSome (clock before) (λ last. last ≤ row.from) ↔ FollowOneAnother before (statements_of (Ticks row))
 row_follows row before = (
@@ -50,7 +50,7 @@ row_follows row before = (
       subst (λ (moment : ℕ). IfSome (clock before) (λ last. last ≤ moment)) (first_moment row) first.0.in_time,
 )
 
--- they may stand where the first one isn't before the clock, and there is room
+-- they may stand where the first one is not before the clock, and there is room
 pub row_stands : (row : TickRow) (before : List Statement) (now : Option ℕ) (entry : ScenarioEntry) (moment : ℕ)
     (upto room : Bool) → entry ≡ Ticks row → moment ≡ row.from → now ≡ clock before → upto ≡ true
     → IsTrue upto ↔ IfSome now (λ last. last ≤ moment)

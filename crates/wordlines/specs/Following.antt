@@ -1,5 +1,5 @@
 -- Which statement may stand after which (profile): a gear, a device or an instance is declared before it is named, and
--- once; what is on the buses stands before the first tick or event, and ticks don't fall.
+-- once; what is on the buses stands before the first tick or event, and ticks do not fall.
 use Rattle.std.specs.Prelude.{◌≡◌, ℕ, ◌+◌, ◌/◌, ◌≤◌, ◌==◌, Bool, true, false, ◌&&◌, List, [], ◌∷◌, ◌++◌, length}
 use Rattle.std.specs.Prelude.{Option, Some, None, IfSome, unwrap_or, ⊤}
 use Rattle.std.specs.List.{list_any, fold}
@@ -50,7 +50,7 @@ clock_after now _ = now
 abbrev pub clock : List Statement → Option ℕ
 clock statements = fold clock_after None statements
 
--- a tick isn't before the clock, events and faults of hearing stand anywhere, and all else where the clock stands
+-- a tick is not before the clock, events and faults of hearing stand anywhere, and all else where the clock stands
 -- nowhere
 abbrev pub IsInTime : Option ℕ → Statement → Type 0
 IsInTime now (Tick moment) = IfSome now (λ last. last ≤ moment)

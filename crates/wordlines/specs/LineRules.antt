@@ -13,7 +13,7 @@ pub record LineRules (Entry State : Type 0) : Type 1 where
   -- the state after it
   pub after : State → Entry → State
 
--- the line isn't skipped, says this entry, and may stand where the lines before it left this state
+-- the line is not skipped, says this entry, and may stand where the lines before it left this state
 pub record Adds {Entry State : Type 0} (rules : LineRules Entry State) (state : State) (line : List ℕ)
     (entry : Entry) : Type 0 where
   pub read : ¬ IsSkipped line

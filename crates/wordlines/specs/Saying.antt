@@ -56,7 +56,7 @@ abbrev pub scheme_in : List (List ℕ) → Option (EventScheme × List (List ℕ
 scheme_in words =
     option_and_then (λ taken. option_map (λ named. (named, taken.1)) (scheme_with taken.0)) (number_in 255 words)
 
--- `level l`: the level at which gear begins. Where it isn't said, that is 0, which is off
+-- `level l`: the level at which gear begins. Where it is not said, that is 0, which is off
 abbrev pub level_behind : Option (List (List ℕ)) → List (List ℕ) → Option (ℕ × List (List ℕ))
 level_behind None words = Some (0, words)
 level_behind (Some rest) words = number_in 254 rest

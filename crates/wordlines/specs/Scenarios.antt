@@ -1,4 +1,5 @@
--- Which bytes are a scenario, with its statements in order, and which line is at fault where they aren't one (profile).
+-- Which bytes are a scenario, with its statements in order, and which line is at fault where they are not one
+-- (profile).
 use Rattle.std.specs.Prelude.{◌≡◌, ℕ, List, [], ◌++◌, Some, Result, ⊤}
 use Rattle.std.specs.Str.Lines.{lines}
 use Rattle.wordlines.specs.LineFiles.{LeadTo, AreBadAt, KeepSome, IsReport}

@@ -30,7 +30,7 @@ pub(crate) enum BindingLine {
     Tries(BusTries),
 }
 
-/// What a line says that isn't skipped.
+/// What a line says that is not skipped.
 pub(crate) fn line_of(line: &[u8]) -> Option<BindingLine>
     ensures { MatchOption result
         ((said : BindingLine) → ¬ Says (words line.now) said) (Says (words line.now)) }

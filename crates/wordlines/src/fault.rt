@@ -19,8 +19,8 @@ pub trait FileKind {
 /// What is wrong with a line of a file.
 #[derive(Clone, Copy, PartialEq, Eq, Debug)]
 pub enum LineCause {
-    /// It is no line of its kind of file, or can't stand after those before it, or the file lacks a
-    /// line.
+    /// It is no line of its kind of file, or cannot stand after those before it, or the file lacks
+    /// a line.
     BadLine,
     /// There are more than [`limits::MOST_BYTES`] bytes.
     TooLong,
@@ -30,7 +30,7 @@ impl LineCause {
     ghost use Rattle.std.specs.Prelude.{◌≡◌};
     ghost use Rattle.wordlines.specs.LineFaults.{cause_number};
 
-    /// The number of the cause. It isn't printed.
+    /// The number of the cause. It is not printed.
     pub fn number(self) -> u8
         ensures { result ≡ cause_number self }
     {
@@ -116,7 +116,7 @@ impl<Of> LineFault<Of> {
         }
     }
 
-    /// The number of the fault: 1 where memory was refused, else that of the cause. It isn't
+    /// The number of the fault: 1 where memory was refused, else that of the cause. It is not
     /// printed.
     pub fn number(&self) -> u8
         ensures { result ≡ fault_number self.now }

@@ -20,7 +20,7 @@ pub trait LineState<Of>: Sized + Drop {
 
     ghost IsKept: { Entry → Type 0 };
 
-    /// What a line that isn't skipped leads to, where it may stand there.
+    /// What a line that is not skipped leads to, where it may stand there.
     ///
     /// # Errors
     ///

@@ -59,7 +59,7 @@ fn is_in_time(now: Option<u64>, statement: &Statement) -> bool
     }
 }
 
-/// Whether the clock isn't past a moment.
+/// Whether the clock is not past a moment.
 fn is_upto(now: Option<u64>, moment: u64) -> bool
     ensures { IsTrue result ↔ IfSome now (λ last. last ≤ moment) }
 {

@@ -18,7 +18,7 @@ use daliframe::{
     BusNumber, EventScheme, Frame24, InstanceNumber, InstanceType, Number, ShortAddress,
 };
 
-/// What a line says that isn't skipped.
+/// What a line says that is not skipped.
 pub(crate) fn entry_of(line: &[u8]) -> Option<ScenarioEntry>
     ensures { result ≡ said (words line.now) }
 {

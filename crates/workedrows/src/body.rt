@@ -46,7 +46,7 @@ impl Body {
         Ok(())
     }
 
-    /// Adds so many lines of a pattern.
+    /// Adds the given number of lines of a pattern.
     pub fn add_times(&mut self, many: u32, pattern: &str) -> Result<(), AllocError> {
         self.keep_blanks()?;
         for number in 0..many {

@@ -26,7 +26,7 @@ impl CommandLine {
     }
 }
 
-/// The bytes of a word; `{255}` stands for a word that isn't text.
+/// The bytes of a word; `{255}` stands for a word that is not text.
 fn bytes_of(alloc: Global, word: &str) -> Result<Vec<u8>, AllocError> {
     match word {
         "{255}" => Vec::from_slice(alloc, b"\xff"),

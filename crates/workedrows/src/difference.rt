@@ -3,7 +3,7 @@
 use std::alloc::AllocError;
 use std::{fmt, io};
 
-/// What a row's command did that it shouldn't, or why its line isn't one of a row.
+/// What a row's command did that it shouldn't, or why its line is not one of a row.
 #[derive(Drop)]
 pub enum Difference {
     /// The line is none of a row.
@@ -47,12 +47,12 @@ impl fmt::Display for Difference {
     }
 }
 
-/// Why the rows aren't judged to their end.
+/// Why the rows are not judged to their end.
 pub enum RowsStop {
     Memory,
-    /// A file of rows isn't read.
+    /// A file of rows is not read.
     File(io::Error),
-    /// The first row that doesn't hold, the line of it where that shows, and why.
+    /// The first row that does not hold, the line of it where that shows, and why.
     Row {
         row: String,
         line: String,

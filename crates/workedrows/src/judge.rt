@@ -9,7 +9,7 @@ use std::alloc::{AllocError, Global};
 use std::cell::RefCell;
 use std::{io, mem};
 
-/// The line in place of what isn't shown.
+/// The line in place of what is not shown.
 const MORE: &[u8] = b"..\n";
 
 /// What the lines that come are the body of.
@@ -106,7 +106,7 @@ impl Judge {
     ///
     /// # Errors
     ///
-    /// The row doesn't hold, or the line is none of a row.
+    /// The row does not hold, or the line is none of a row.
     pub fn take_line(&mut self, line: &str) -> Result<Option<CommandLine>, RowsStop> {
         if let Some(name) = line.strip_prefix("== ") {
             self.begin_row(name)?;
@@ -160,7 +160,7 @@ impl Judge {
     ///
     /// # Errors
     ///
-    /// The row before it doesn't hold.
+    /// The row before it does not hold.
     pub fn begin_row(&mut self, name: &str) -> Result<(), RowsStop> {
         self.end_part()?;
         self.rows = self.rows.saturating_add(1);
@@ -200,7 +200,7 @@ impl Judge {
         }
     }
 
-    /// Takes a line that isn't one of a body alone.
+    /// Takes a line that is not one of a body alone.
     fn take_heading(&mut self, heading: &str) -> Result<Option<CommandLine>, RowsStop> {
         let (kind, rest) = first_word(heading);
         if kind == "times" {
@@ -345,7 +345,8 @@ impl Judge {
         self.judge_printed(found, found.as_slice() == wanted)
     }
 
-    /// Compares all that a terminal shows: what was printed on standard error, and on standard output.
+    /// Compares all that a terminal shows: what was printed on standard error, and on standard
+    /// output.
     fn compare_shown(&self, wanted: &[u8]) -> Result<(), RowsStop> {
         let found = self.shown()?;
         self.judge_printed(&found, found.as_slice() == wanted)
@@ -427,7 +428,7 @@ impl Judge {
         Err(self.difference(Difference::Wrote(shown)))
     }
 
-    /// That this row doesn't hold, or that there is no memory to say so.
+    /// That this row does not hold, or that there is no memory to say so.
     pub fn difference(&self, why: Difference) -> RowsStop {
         match self.row_stop(why) {
             Ok(stop) => stop,
@@ -435,7 +436,7 @@ impl Judge {
         }
     }
 
-    /// That this row doesn't hold.
+    /// That this row does not hold.
     fn row_stop(&self, why: Difference) -> Result<RowsStop, AllocError> {
         Ok(RowsStop::Row {
             row: self.row.clone()?,

@@ -18,7 +18,7 @@ pub struct StoredFile {
     pub bytes: Vec<u8>,
 }
 
-/// Why the outputs take nothing, where they don't.
+/// Why the outputs take nothing, where they do not.
 #[derive(Clone, Copy)]
 pub struct Terminal {
     pub output_fails: Option<io::ErrorKind>,
@@ -33,7 +33,7 @@ impl Terminal {
     };
 }
 
-/// A machine with a command line, files and a terminal. Its file `torn` can't be read to its end,
+/// A machine with a command line, files and a terminal. Its file `torn` cannot be read to its end,
 /// its file `starved` is neither read nor written for lack of memory, and its file `full` takes
 /// nothing, since the disk is full.
 #[derive(Drop)]
@@ -285,7 +285,7 @@ impl Eprint for Machine<'_> {
     }
 }
 
-/// What this machine doesn't do.
+/// What this machine does not do.
 fn unsupported<T>() -> io::Result<T> {
     Err(io::Error::from(io::ErrorKind::Unsupported))
 }

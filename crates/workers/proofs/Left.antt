@@ -140,7 +140,7 @@ quiet_from_start p logs first bus_log clock_log old q after count same closed qu
           (no_less_at logs bus_log old.buses.items closed.hears b inside) (quiet.heard b known);
     }
 
--- where it can't go on, and ends since the history is full, it is full
+-- where it cannot go on, and ends since the history is full, it is full
 pub is_full_at : (q : Shown) (halt : Halt) → CannotGoOn q halt → ended_of halt ≡ Limit → is_full q ≡ true
 is_full_at q Memory stops is = absurd (cc)
 is_full_at q (Unwritten error) stops is = absurd (cc)

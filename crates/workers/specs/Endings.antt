@@ -1,4 +1,4 @@
--- Why a run ends where a worker can't go on, and what is said of it.
+-- Why a run ends where a worker cannot go on, and what is said of it.
 use Rattle.std.specs.Prelude.{Bool, if◌then◌else◌}
 use Rattle.driving.specs.declared.halt.Halt.{Halt}
 use Rattle.driving.specs.declared.halt.Halt.TheVariants as halts

@@ -10,7 +10,7 @@ use Rattle.plant.specs.Shown.{IsWorkerCount, IsLimitOf}
 abbrev pub AreCounts : Loaded → ℕ → ℕ → Type 0
 AreCounts setup workers buses = IsWorkerCount workers × (buses ≡ setup.plan.buses)
 
--- why a run doesn't start: the counts before the limit; else the allocator may be out of memory
+-- why a run does not start: the counts before the limit; else the allocator may be out of memory
 abbrev pub IsStartFault : Loaded → ℕ → ℕ → ℕ → OpenFault → Type 0
 IsStartFault setup workers buses limit BadCount = ¬ AreCounts setup workers buses
 IsStartFault setup workers buses limit Limit = AreCounts setup workers buses × (¬ IsLimitOf setup.plan.buses limit)
@@ -20,7 +20,7 @@ IsStartFault setup workers buses limit Memory = AreCounts setup workers buses ×
 abbrev pub IsNextLimit : ℕ → ℕ → Type 0
 IsNextLimit before limit = (before ≤ limit) × (limit ≤ most_events)
 
--- why a run doesn't go on: the limit; else the allocator may be out of memory. The counts are those of before
+-- why a run does not go on: the limit; else the allocator may be out of memory. The counts are those of before
 abbrev pub IsAgainFault : ℕ → ℕ → OpenFault → Type 0
 IsAgainFault before limit BadCount = ⊥
 IsAgainFault before limit Limit = ¬ IsNextLimit before limit
@@ -31,7 +31,7 @@ IsAgainFault before limit Memory = IsNextLimit before limit
 abbrev pub IsMore : ℕ → ℕ → Type 0
 IsMore past more = (least_events ≤ more) × (more ≤ most_events) × (past + more ≤ most_total)
 
--- why it doesn't go on so: the events more; else the allocator may be out of memory
+-- why it does not go on so: the events more; else the allocator may be out of memory
 abbrev pub IsMoreFault : ℕ → ℕ → OpenFault → Type 0
 IsMoreFault past more BadCount = ⊥
 IsMoreFault past more Limit = ¬ IsMore past more

@@ -15,9 +15,9 @@ use std::thread::Threads;
 use std::time::Clock as Timer;
 use turns::Gate;
 
-/// Goes on from what a run left, with the same plant, buses and clock and as many scan workers, until
-/// the clock gives no moment more, the history is full, or memory or threads are wanting. The old
-/// history is a front of the new one. All else is as `run` says it.
+/// Goes on from what a run left, with the same plant, buses and clock and as many scan workers,
+/// until the clock gives no moment more, the history is full, or memory or threads are wanting. The
+/// old history is a front of the new one. All else is as `run` says it.
 ///
 /// # Errors
 ///
@@ -41,7 +41,8 @@ pub fn run_again<B: Bus + Send, C: Clock + Send, G: Gate, R: Threads + Wait + Ti
     run_under(rt, alloc, closed, limit, gate)
 }
 
-/// The limit of a history for so many events more, where so many of its places are used.
+/// The limit of a history for the given number of events more, where so many of its places are
+/// used.
 fn limit_for(past: u64, more: u64) -> Option<u64>
     ensures { MatchOption result (¬ IsMore past more)
         (λ limit. (limit ≡ past + more) × IsMore past more) }
@@ -53,9 +54,9 @@ fn limit_for(past: u64, more: u64) -> Option<u64>
     (limit <= MOST_TOTAL).then_some(limit)
 }
 
-/// Goes on from what a run left as `run_again` does, by so many events more: its limit is as much
-/// above the places of the history that are used. Its cells are those of the new events alone, so
-/// that a plant may go on for as long as a building wants it.
+/// Goes on from what a run left as `run_again` does, by the given number of events more: its limit
+/// is as much above the places of the history that are used. Its cells are those of the new events
+/// alone, so that a plant may go on for as long as a building wants it.
 ///
 /// # Errors
 ///

@@ -31,7 +31,7 @@ pub(crate) struct RunParts<'a, B: Bus, C: Clock, J: LockStart + Links, N: Ledger
     pub thread_lists: ThreadLists<'a, B, J, ThreadTally<N>>,
 }
 
-/// What didn't begin, as it was.
+/// What did not begin, as it was.
 #[derive(Drop)]
 pub(crate) struct NotBegun<B: Bus, C: Clock> {
     pub plant: Plant,
@@ -39,7 +39,7 @@ pub(crate) struct NotBegun<B: Bus, C: Clock> {
     pub clock: C,
 }
 
-/// An empty list with room for so many.
+/// An empty list with room for the given number of items.
 fn room_for<X: Drop>(alloc: Global, count: usize) -> Result<Vec<X>, AllocError>
     ensures { IfOk result (λ v. (v.items ≡ []) × (count ≤ vec_capacity v)) }
 {
@@ -58,7 +58,7 @@ struct Allocations<'a, B: Bus, J: LockStart + Links, N: LedgerNames> {
     thread_tallies: Vec<ThreadTally<N>>,
 }
 
-/// Makes what is made before the lock, for so many buses and scan workers.
+/// Makes what is made before the lock, for the given number of buses and scan workers.
 fn allocate<'a, B: Bus, J: LockStart + Links, N: LedgerNames>(
     alloc: Global,
     new_tallies: NewTallies,

@@ -82,14 +82,14 @@ impl<B: Bus, C: Clock> Closed<B, C> {
     }
 }
 
-/// Why a run didn't go on, and what was left before, unchanged. Nothing was sent, heard or asked.
+/// Why a run did not go on, and what was left before, unchanged. Nothing was sent, heard or asked.
 #[derive(Drop)]
 pub struct NotGoneOn<B: Bus, C: Clock> {
     pub fault: OpenFault,
     pub closed: Closed<B, C>,
 }
 
-/// Why a run didn't start. Nothing was sent, heard or asked.
+/// Why a run did not start. Nothing was sent, heard or asked.
 #[derive(Drop)]
 pub struct NotStarted<B: Bus, C: Clock> {
     pub fault: OpenFault,

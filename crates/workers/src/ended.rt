@@ -67,7 +67,7 @@ impl End {
         self.told.witness()
     }
 
-    /// Why it ended, if the end was told and isn't that of the clock.
+    /// Why it ended, if the end was told and is not that of the clock.
     pub fn cut_short(&self) -> Option<Ended>
         ensures { IfSome result (λ ended. ¬ (ended ≡ Asked)) }
     {

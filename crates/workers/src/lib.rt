@@ -1,11 +1,11 @@
 //! A run: scan workers, a worker for each bus, and the clock, over the plant under its lock.
 //!
-//! What crosses the boundary: [`run`] opens a plant on buses and a clock, lets a thread work for each
-//! scan worker and each bus until the end is told, and opens the lock for good. A [`Closed`] is what
-//! it leaves: the plant with its history, in which nothing is open, the buses, the clock, and why the
-//! run ended. [`run_again`] goes on from it, and [`go_on`] by so many events more, as often as a
-//! building wants it. The definitions to read first are `HasRun` and `GoesOn` (specs/Runs.antt), and
-//! `IsClosed` (specs/Closings.antt).
+//! What crosses the boundary: [`run`] opens a plant on buses and a clock, lets a thread work for
+//! each scan worker and each bus until the end is told, and opens the lock for good. A [`Closed`]
+//! is what it leaves: the plant with its history, in which nothing is open, the buses, the clock,
+//! and why the run ended. [`run_again`] goes on from it, and [`go_on`] by the given number of
+//! events more, as often as a building wants it. The definitions to read first are `HasRun` and
+//! `GoesOn` (specs/Runs.antt), and `IsClosed` (specs/Closings.antt).
 //!
 //! ```text
 //! let left = run(rt, alloc, Opening { setup, limit }, buses, clock, 2, &OpenGate)?;

@@ -112,7 +112,7 @@ pub(crate) fn run_named<
     Ok(Closed { parts })
 }
 
-/// A run that doesn't start for want of memory.
+/// A run that does not start for want of memory.
 fn not_started<B: Bus, C: Clock>(refused: NotBegun<B, C>) -> NotStarted<B, C>
     ensures fault { result.fault ≡ Memory }
     ensures links { (result.buses ≡ refused.lines) × (result.clock ≡ refused.clock) }
@@ -129,9 +129,9 @@ fn not_started<B: Bus, C: Clock>(refused: NotBegun<B, C>) -> NotStarted<B, C>
 /// the clock gives no moment more, the history is full, or memory or a thread is refused. Then
 /// nothing is open: the history is legal, and what went over each link since the start is what the
 /// history says. After the clock's end, what is left to be done is done here. Where the run ended
-/// so, the clock was asked in it, and each bus that isn't down was asked to hear. Where the history
-/// is full, its length and the places that are kept leave none for an event and the one that it
-/// keeps.
+/// so, the clock was asked in it, and each bus that is not down was asked to hear. Where the
+/// history is full, its length and the places that are kept leave none for an event and the one
+/// that it keeps.
 ///
 /// # Errors
 ///

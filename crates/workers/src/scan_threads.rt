@@ -64,8 +64,8 @@ fn scan_task<'s, 'a, J: LockStart, T: Tally, K: Tallies<T>, G: Gate, R: Wait + T
     share
 }
 
-/// Starts a scan worker in a thread of its own. Where none can be made the end is told, and it works
-/// here.
+/// Starts a scan worker in a thread of its own. Where none can be made the end is told, and it
+/// works here.
 pub(crate) fn start_scans<
     't,
     's,

@@ -20,7 +20,7 @@ use turns::{
     send_turn, tick_once,
 };
 
-/// What a turn did. Where its worker can't go on, it tells the end, and shows that it is told.
+/// What a turn did. Where its worker cannot go on, it tells the end, and shows that it is told.
 fn or_told<'e, R: Wait>(rt: &R, end: &'e End, turn: Result<Turn, Halt>) -> Result<Turn, ToldEnd<'e>>
     ensures turn { IfOk result (λ done. turn ≡ Ok done) }
     ensures told { IfErr result (λ told. told.of ≡ end.now.told.id) }
@@ -31,10 +31,10 @@ fn or_told<'e, R: Wait>(rt: &R, end: &'e End, turn: Result<Turn, Halt>) -> Resul
     }
 }
 
-/// Sends what is to be sent next on a bus, and hears what came, where the end wasn't told meanwhile.
-/// A bus that is down is asked whether its interface answers again. Each transaction but one is
-/// followed by a call that hears, or by the bus's going down; and that one only where the end was
-/// told.
+/// Sends what is to be sent next on a bus, and hears what came, where the end was not told
+/// meanwhile. A bus that is down is asked whether its interface answers again. Each transaction but
+/// one is followed by a call that hears, or by the bus's going down; and that one only where the
+/// end was told.
 fn serve_once<
     'e,
     'a,
@@ -76,8 +76,8 @@ fn serve_once<
     }
 }
 
-/// Serves a bus until the end is told, and shows that it is. While the bus is down, its worker rests
-/// between the questions whether its interface answers again.
+/// Serves a bus until the end is told, and shows that it is. While the bus is down, its worker
+/// rests between the questions whether its interface answers again.
 pub(crate) fn serve_bus<
     'e,
     'a,
@@ -153,9 +153,9 @@ pub(crate) fn serve_tasks<'e, 'a, J: LockStart, T: Tally, K: Tallies<T>, G: Gate
     unreachable!()
 }
 
-/// Asks the clock once. Answers why it ended, where it gave no moment or no event more may be noted;
-/// then it tells the end. Where it answers `Asked`, the clock was asked here and came to its end.
-/// The gate is told of the moment.
+/// Asks the clock once. Answers why it ended, where it gave no moment or no event more may be
+/// noted; then it tells the end. Where it answers `Asked`, the clock was asked here and came to its
+/// end. The gate is told of the moment.
 fn tick_turn<'a, C: Clock, J: LockStart + Links, T: Tally, K: Tallies<T>, G: Gate, R: Wait>(
     rt: &R,
     gate: &G,
@@ -238,10 +238,10 @@ pub(crate) fn serve_on<
     }
 }
 
-/// Asks the clock until it gives no moment more, tells the end and answers why. Where another worker
-/// told an end, that is why. Where it answers `Asked`, the clock was asked here and came to its end.
-/// It is never idle, since each answer is a moment or the end: it sleeps the shortest time after
-/// each moment. The gate is told of each moment.
+/// Asks the clock until it gives no moment more, tells the end and answers why. Where another
+/// worker told an end, that is why. Where it answers `Asked`, the clock was asked here and came to
+/// its end. It is never idle, since each answer is a moment or the end: it sleeps the shortest time
+/// after each moment. The gate is told of each moment.
 fn serve_clock<
     'a,
     C: Clock,

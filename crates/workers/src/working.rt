@@ -59,7 +59,7 @@ pub(crate) struct WorkResult<'a, B: Bus, C: Clock, J: LockStart, T: Tally> {
 }
 
 impl<'a, B: Bus, J: LockStart + Links, T: Tally> ThreadLists<'a, B, J, T> {
-    /// Room for so many threads.
+    /// Room for the given number of threads.
     ///
     /// # Errors
     ///
@@ -83,8 +83,8 @@ impl<'a, B: Bus, J: LockStart + Links, T: Tally> ThreadLists<'a, B, J, T> {
 }
 
 /// Starts all threads, asks the clock until it comes to its end, and waits for all threads. Where
-/// nothing happened yet, the clock is asked once before the scan workers begin: so no task is scanned
-/// before the first moment, and what a timer kept is not measured from 0.
+/// nothing happened yet, the clock is asked once before the scan workers begin: so no task is
+/// scanned before the first moment, and what a timer kept is not measured from 0.
 fn work_in<
     't,
     's,

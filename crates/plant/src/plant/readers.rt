@@ -71,7 +71,8 @@ impl Plant {
         self.length
     }
 
-    /// How many places of the history are used: by its events, and by what is kept for events to come.
+    /// How many places of the history are used: by its events, and by what is kept for events to
+    /// come.
     pub fn used_places(&self) -> u64
         ensures value { result ≡ used self.now }
     {
@@ -129,8 +130,8 @@ impl Plant {
         self.image.value(global)
     }
 
-    /// What lasts of a task: the value of the variable in each of its slots, which was written to it
-    /// last, else its initial value; and what each of its block instances keeps.
+    /// What lasts of a task: the value of the variable in each of its slots, which was written to
+    /// it last, else its initial value; and what each of its block instances keeps.
     ///
     /// # Errors
     ///
