@@ -60,8 +60,9 @@ impl Edit {
         })
     }
 
-    /// Whether the text reads with the change up to the end of its last line, and of that of a place,
-    /// and where `with_next` the line behind it too; all that stands before `start` may be left out.
+    /// Whether the text reads with the change up to the end of its last line, and of that of a
+    /// place, and where `with_next` the line behind it too; all that stands before `start` may be
+    /// left out.
     pub fn is_read(
         &self,
         alloc: Global,

@@ -3,8 +3,8 @@
 use crate::words::{INSTRUCTIONS, SPELLED};
 use iltokens::keyword_of;
 
-/// Whether two words differ by one letter that was added, left out or changed, or by two beside each
-/// other that were exchanged; letter case aside. Words of one letter are near to none.
+/// Whether two words differ by one letter that was added, left out or changed, or by two beside
+/// each other that were exchanged; letter case aside. Words of one letter are near to none.
 pub fn is_near(one: &[u8], other: &[u8]) -> bool {
     if one.len().min(other.len()) < 2 || one.eq_ignore_ascii_case(other) {
         return false;
@@ -78,8 +78,8 @@ fn near_among(
     None
 }
 
-/// Whether an instruction and another word begin with the same letter, and both have an N at the end,
-/// or as many letters C and N. In a conversion, which has a `_`, these change nothing.
+/// Whether an instruction and another word begin with the same letter, and both have an N at the
+/// end, or as many letters C and N. In a conversion, which has a `_`, these change nothing.
 fn is_alike(instruction: &[u8], other: &[u8]) -> bool {
     let is_begun = common(instruction, other) > 0;
     let is_turned = |word: &[u8]| matches!(word, [.., b'n' | b'N']);

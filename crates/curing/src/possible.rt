@@ -82,8 +82,8 @@ impl Possible {
         Ok(told)
     }
 
-    /// Adds what is told of a group of so many words; instructions in parentheses are told by all
-    /// instructions.
+    /// Adds what is told of a group of the given number of words; instructions in parentheses are
+    /// told by all instructions.
     fn push_told(
         &self,
         told: &mut Vec<&'static str>,

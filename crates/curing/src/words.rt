@@ -34,33 +34,39 @@ pub const ASKED: &[(Group, &[&str])] = &[
     (Group::Number, &["1"]),
     (Group::Time, &["T#1s"]),
     (Group::Address, &["%QB0.0"]),
-    (Group::Truth, &["TRUE", "FALSE"]),
+    (Group::Truth, TRUTHS),
     (Group::Operator, OPERATORS),
     (Group::Outer, OUTER),
-    (Group::OtherType, &["BOOL", "TIME"]),
+    (Group::OtherType, OTHER_TYPES),
     (Group::Integer, INTEGERS),
     (Group::Block, BLOCKS),
     (Group::Word, WORDS),
     (Group::Sign, &[",", ":", ";", ":=", ".", "..", "(", ")"]), // `&` is another word for AND
 ];
 
+/// Truth values.
+const TRUTHS: &[&str] = words!["TRUE" "FALSE"];
+
 /// Instructions that may stand in parentheses; one conversion stands for all.
-pub const OPERATORS: &[&str] = words!["LD" "LDN" "AND" "ANDN" "OR" "ORN" "XOR" "XORN" "NOT" "ADD"
+const OPERATORS: &[&str] = words!["LD" "LDN" "AND" "ANDN" "OR" "ORN" "XOR" "XORN" "NOT" "ADD"
     "SUB" "MUL" "DIV" "MOD" "GT" "GE" "EQ" "NE" "LE" "LT" "MIN" "MAX" "LIMIT" "ABS" "INT_TO_DINT"];
 
 /// The other instructions.
-pub const OUTER: &[&str] = words!["ST" "STN" "S" "R" "JMP" "JMPC" "JMPCN" "CAL" "CALC" "CALCN"
+const OUTER: &[&str] = words!["ST" "STN" "S" "R" "JMP" "JMPC" "JMPCN" "CAL" "CALC" "CALCN"
     "RET" "RETC" "RETCN"];
+
+/// Other types.
+const OTHER_TYPES: &[&str] = words!["BOOL" "TIME"];
 
 /// Types of whole numbers.
 pub const INTEGERS: &[&str] = words!["SINT" "INT" "DINT" "USINT" "UINT" "UDINT"];
 
 /// Function blocks.
-pub const BLOCKS: &[&str] = words!["R_TRIG" "CTU" "TON" "GEAR_LEVEL" "GEAR_DO" "GEAR_SET"
+const BLOCKS: &[&str] = words!["R_TRIG" "CTU" "TON" "GEAR_LEVEL" "GEAR_DO" "GEAR_SET"
     "GEAR_PAIR" "GEAR_ASK" "GEAR_READ" "DEV_DO" "DEV_SCHEME" "DEV_ASK"];
 
 /// Words of declarations and configurations.
-pub const WORDS: &[&str] = words!["TYPE" "END_TYPE" "FUNCTION" "END_FUNCTION" "PROGRAM"
+const WORDS: &[&str] = words!["TYPE" "END_TYPE" "FUNCTION" "END_FUNCTION" "PROGRAM"
     "END_PROGRAM" "VAR" "END_VAR" "VAR_INPUT" "VAR_EXTERNAL" "VAR_GLOBAL" "CONFIGURATION"
     "END_CONFIGURATION" "RESOURCE" "END_RESOURCE" "ON" "AT" "TASK" "SINGLE" "INTERVAL" "PRIORITY"
     "WITH"];
@@ -69,7 +75,7 @@ pub const WORDS: &[&str] = words!["TYPE" "END_TYPE" "FUNCTION" "END_FUNCTION" "P
 pub const INSTRUCTIONS: &[&[&str]] = &[OUTER, OPERATORS];
 
 /// Lists of other words that it may be meant for.
-pub const SPELLED: &[&[&str]] = &[&["BOOL", "TIME", "TRUE", "FALSE"], INTEGERS, BLOCKS, WORDS];
+pub const SPELLED: &[&[&str]] = &[OTHER_TYPES, TRUTHS, INTEGERS, BLOCKS, WORDS];
 
 /// Whether a word is one of some, in any letter case.
 pub fn is_one_of(word: &[u8], words: &[&str]) -> bool {

@@ -16,8 +16,8 @@ use ilblocks::BlockKind;
 use ilcode::{Code, Word};
 use ilranges::Cause;
 use iltypes::Range;
+use ilverify::Refusal;
 use listing::{TaskNames, line_at};
-use plantload::RefusedTask;
 use std::alloc::{AllocError, Global};
 
 /// A refused word with what it is asked about.
@@ -34,14 +34,13 @@ pub(crate) struct Refused<'q, 'n> {
 }
 
 impl<'q, 'n> Refused<'q, 'n> {
-    /// A task that is refused, with what its words name.
+    /// The refusal of a task, with what its words name.
     pub(crate) fn of(
         alloc: Global,
         asked: &'q AskedText<'q>,
         names: &'n TaskNames<'n>,
-        refused: &RefusedTask,
+        refusal: Refusal,
     ) -> Result<Refused<'q, 'n>, AllocError> {
-        let refusal = refused.refusal();
         let mismatch = match refusal.cause {
             Cause::WrongType => mismatch_at(alloc, names.code, refusal.word)?,
             _ => None,
@@ -49,7 +48,7 @@ impl<'q, 'n> Refused<'q, 'n> {
         Ok(Refused {
             asked,
             names,
-            task: refused.task(),
+            task: names.task,
             word: refusal.word,
             line: refusal.line,
             cause: refusal.cause,
@@ -275,7 +274,7 @@ fn inserted(alloc: Global, refused: &Refused, lines: &str) -> Result<Edit, Alloc
     Edit::new(alloc, spot.line_from, spot.line_from, &with)
 }
 
-/// Whether the word is accepted with so many words more before it.
+/// Whether the word is accepted with the given number of words more before it.
 pub(crate) fn is_cure(
     alloc: Global,
     refused: &Refused,

@@ -1,18 +1,19 @@
 //! Files with their faults.
 
 use crate::code_answers::{Refused, answer_code};
+use crate::further::Further;
 use crate::requests::print_requests;
 use crate::ways::print_way;
 use badlines::{LineFile, bad_line};
 use curing::{
-    AskedText, FaultAnswer, first_column, place_of, write_answer, write_found, write_line,
+    AskedText, Example, FaultAnswer, first_column, place_of, write_answer, write_found, write_line,
     write_place,
 };
 use ilcompile::compile;
 use ilranges::Cause;
 use ilscope::NameFault;
 use iltext::TextFault;
-use listing::{TaskNames, functions_in, write_deepest_calls, write_longest_calls};
+use listing::{TaskNames, functions_in, print_deepest_calls, print_longest_calls};
 use namecauses::{OtherFaults, answer_name};
 use page::Page;
 use plantload::{LoadFault, RefusedTask};
@@ -22,7 +23,7 @@ use std::io::Write;
 use textcauses::answer_text;
 use wordlines::{BindFault, LineFault, ScenarioFault};
 
-/// Explains why a text isn't loaded.
+/// Explains why a text is not loaded.
 ///
 /// # Errors
 ///
@@ -39,7 +40,8 @@ pub fn explain_load<W: Write>(
             let answer = answer_text(alloc, asked, at, *cause)?;
             let (number, what) = (cause.number(), answer.what.as_str());
             let title = format!(in alloc; "text fault {number}: {what}")?;
-            write_at(out, asked, (*line, *col), &title, &answer)
+            write_at(out, asked, (*line, *col), &title, &answer)?;
+            write_behind(alloc, out, asked, &answer)
         }
         LoadFault::Name(NameFault::At { line, col, cause }) => {
             let at = place_of(asked.text, *line, *col);
@@ -53,6 +55,21 @@ pub fn explain_load<W: Write>(
         LoadFault::Code(refused) => explain_code(alloc, out, asked, refused),
         _ => write_memory(out),
     }
+}
+
+/// Writes the faults of a text behind one of which this is said, where lines were tried that cure
+/// it.
+fn write_behind<W: Write>(
+    alloc: Global,
+    out: &mut W,
+    asked: &AskedText,
+    answer: &FaultAnswer,
+) -> io::Result<()> {
+    let mut further = Further::of(alloc, asked);
+    if let Example::TriedLines(tried) = &answer.example {
+        further.add_behind(tried)?;
+    }
+    further.write_to(out)
 }
 
 /// Writes that memory ran out.
@@ -98,15 +115,18 @@ fn write_others<W: Write>(out: &mut W, asked: &AskedText, others: &OtherFaults) 
         let cause = fault.cause.number();
         writeln!(out, "name fault {cause}: {}", fault.what.as_str())?;
     }
-    match others.more {
-        0 => Ok(()),
-        1 => writeln!(out, "1 more fault of names"),
-        more => writeln!(out, "{more} more faults of names"),
+    let faults = if others.more == 1 { "fault" } else { "faults" };
+    match (others.more, others.is_cut) {
+        (0, false) => Ok(()),
+        (0, true) => writeln!(out, "there may be more faults of names"),
+        (more, false) => writeln!(out, "{more} more {faults} of names"),
+        (more, true) => writeln!(out, "at least {more} more {faults} of names"),
     }
 }
 
 /// Explains a task whose code is refused: with a way to the word, and where what is wrong is the
-/// number of words or requests, or the depth of calls, with the calls that make it.
+/// number of words or requests, or the depth of calls, with the calls that make it. Of each task
+/// behind it the first refused word is named.
 fn explain_code<'q, W: Write>(
     alloc: Global,
     out: &mut W,
@@ -121,9 +141,12 @@ fn explain_code<'q, W: Write>(
         code: &code,
         functions: &functions,
     };
-    let word = Refused::of(alloc, asked, &names, refused)?;
+    let word = Refused::of(alloc, asked, &names, refused.refusal())?;
     write_refused(alloc, out, &word, refused.task_name())?;
-    write_calls(alloc, out, &word)
+    write_calls(alloc, out, &word)?;
+    let mut further = Further::of(alloc, asked);
+    further.add_tasks(refused.plan(), refused.task().saturating_add(1))?;
+    further.write_to(out)
 }
 
 /// Writes what is wrong with a refused word, with a mark at its operand where that is wrong, and
@@ -153,22 +176,12 @@ fn write_refused<W: Write>(
 /// Writes the calls or the way that lead to a refused word.
 fn write_calls<W: Write>(alloc: Global, out: &mut W, refused: &Refused) -> io::Result<()> {
     let Refused { names, word, .. } = *refused;
-    match refused.cause {
-        Cause::TooLong => {
-            writeln!(out, "the calls that make it:")?;
-            return write_longest_calls(alloc, out, names);
-        }
-        Cause::BadCall => {
-            writeln!(out, "the chain of calls:")?;
-            return write_deepest_calls(alloc, out, names, word);
-        }
-        _ => {}
-    }
     let mut page = Page::new(alloc);
-    if matches!(refused.cause, Cause::TooManyRequests) {
-        print_requests(alloc, &mut page, names, word)?;
-    } else {
-        print_way(alloc, &mut page, names, refused.asked.text, word)?;
+    match refused.cause {
+        Cause::TooLong => print_longest_calls(alloc, &mut page, names)?,
+        Cause::BadCall => print_deepest_calls(alloc, &mut page, names, word)?,
+        Cause::TooManyRequests => print_requests(alloc, &mut page, names, word)?,
+        _ => print_way(alloc, &mut page, names, refused.asked.text, word)?,
     }
     page.write_to(out)
 }

@@ -15,7 +15,9 @@
 mod block_commands;
 mod code_answers;
 mod code_causes;
+mod cured;
 mod files;
+mod further;
 mod guards;
 mod mismatch;
 mod requests;

@@ -4,7 +4,7 @@ use Rattle.std.proofs.Common.{arith, ◌⊎◌, inl, inr}
 use Rattle.std.specs.Prelude.{Option, Some, None, nat_lt, ◌==◌}
 use Rattle.std.proofs.lemmas.Grind.{common_steps}
 use Rattle.ildeclared.specs.Causes.{name_fault_number}
-use Rattle.ildeclared.specs.Faults.{IsNotAfter, IsLeastOf}
+use Rattle.ildeclared.specs.Faults.{Beyond, IsLeastOf, IsNextOf, IsNotAfter}
 use Rattle.ildeclared.specs.Order.{comes_before}
 use Rattle.ildeclared.specs.declared.fault.NameCause.{NameCause}
 use Rattle.ildeclared.specs.declared.found.Found.{Found}
@@ -36,7 +36,7 @@ before_false a b x y false true false e f g h = inr (sym (eq_true a b f), lt_fal
 before_false a b x y false false w e f g h = let l : b ≤ a = lt_false a b e in let n : a ≢ b =
     eq_false a b f in inl (omega arith)
 
--- the first is reported before the second, and the second isn't reported after the first
+-- the first is reported before the second, and the second is not reported after the first
 pub is_before : (f g : Found) → comes_before f g ≡ true → IsNotAfter f.at f.cause g.at g.cause
 is_before f g e = before_true f.at g.at (name_fault_number f.cause) (name_fault_number g.cause) _ _ _ refl refl refl e
 
@@ -57,6 +57,18 @@ pub best_same : (P Q : ℕ → NameCause → Type 0) (o : Option Found)
 best_same P Q None to from l = λ place cause q. l place cause (from place cause q)
 best_same P Q (Some f) to from l =
     record { is = to f.at f.cause l.is; least = λ place cause q. l.least place cause (from place cause q) }
+
+-- the same of those that come after another
+pub next_same : (after : Option Found) (P Q : ℕ → NameCause → Type 0) (o : Option Found)
+    → ((place : ℕ) (cause : NameCause) → P place cause → Q place cause) →
+    ((place : ℕ) (cause : NameCause) → Q place cause → P place cause) → IsNextOf after P o → IsNextOf after Q o
+next_same after P Q o to from h =
+    best_same (Beyond after P) (Beyond after Q) o (λ place cause p. (to place cause p.0, p.1))
+    (λ place cause q. (from place cause q.0, q.1)) h
+
+-- after none each comes, so that the next is the least
+pub first_next : (P : ℕ → NameCause → Type 0) (o : Option Found) → IsNextOf None P o → IsLeastOf P o
+first_next P o h = best_same (Beyond None P) P o (λ place cause p. p.0) (λ place cause p. (p, tt)) h
 
 pub or_else : {A B C : Type 0} → (A → C) → (B → C) → A ⊎ B → C
 or_else f g (inl a) = f a

@@ -6,11 +6,11 @@ use Rattle.std.proofs.Math.Seq.{take-suc}
 use Rattle.std.proofs.lemmas.List.{get_or_default}
 use Rattle.std.specs.Prelude.{Option, Some, None, slice_get, if◌then◌else◌}
 use Rattle.ildeclared.specs.Causes.{name_fault_number}
-use Rattle.ildeclared.specs.Faults.{IsLeastOf, OfCause, SomeOf}
+use Rattle.ildeclared.specs.Faults.{Beyond, IsLeastOf, IsNextOf, OfCause, SomeOf}
 use Rattle.ildeclared.specs.Order.{comes_before, lesser_of_two}
 use Rattle.ildeclared.specs.declared.fault.NameCause.{NameCause}
 use Rattle.ildeclared.specs.declared.found.Found.{Found}
-use Rattle.ildeclared.proofs.FoundOrder.{best_same, or_else, later, is_before, is_not_before}
+use Rattle.ildeclared.proofs.FoundOrder.{best_same, next_same, or_else, later, is_before, is_not_before}
 
 -- the lesser of the least of two parts is the least of both
 pub both_least : (P Q : ℕ → NameCause → Type 0) (a b : Option Found) → IsLeastOf P a → IsLeastOf Q b →
@@ -45,15 +45,24 @@ both_least P Q (Some g) (Some f) h k = two (comes_before f g) refl
               (is_not_before f g e) (k.least place cause y)) q;
         }
 
--- the same of two parts with one cause
-pub either_least : (its : NameCause) (P Q : ℕ → Type 0) (a b : Option Found) →
-    IsLeastOf (OfCause its P) a → IsLeastOf (OfCause its Q) b →
-    IsLeastOf (OfCause its (λ place. P place ⊎ Q place)) (lesser_of_two a b)
-either_least its P Q a b h k =
+-- the same of those that come after another
+pub both_next : (after : Option Found) (P Q : ℕ → NameCause → Type 0) (a b : Option Found) → IsNextOf after P a →
+    IsNextOf after Q b → IsNextOf after (λ place cause. P place cause ⊎ Q place cause) (lesser_of_two a b)
+both_next after P Q a b h k =
     best_same _ _ (lesser_of_two a b)
+    (λ place cause s. or_else (λ p. (inl p.0, p.1)) (λ q. (inr q.0, q.1)) s)
+    (λ place cause s. or_else (λ p. inl (p, s.1)) (λ q. inr (q, s.1)) s.0)
+    (both_least (Beyond after P) (Beyond after Q) a b h k)
+
+-- and of two parts with one cause
+pub either_next : (after : Option Found) (its : NameCause) (P Q : ℕ → Type 0) (a b : Option Found) →
+    IsNextOf after (OfCause its P) a → IsNextOf after (OfCause its Q) b →
+    IsNextOf after (OfCause its (λ place. P place ⊎ Q place)) (lesser_of_two a b)
+either_next after its P Q a b h k =
+    next_same after _ _ (lesser_of_two a b)
     (λ place cause s. or_else (λ p. (p.0, inl p.1)) (λ q. (q.0, inr q.1)) s)
     (λ place cause s. or_else (λ p. inl (s.0, p)) (λ q. inr (s.0, q)) s.1)
-    (both_least (OfCause its P) (OfCause its Q) a b h k)
+    (both_next after (OfCause its P) (OfCause its Q) a b h k)
 
 pub some_front : {X : Type 0} (P : X → Type 0) (xs : List X) (x : X) → SomeOf P xs → SomeOf P (xs ++ x ∷ [])
 some_front P [] x s = absurd s
@@ -74,19 +83,20 @@ pub take_more : {X : Type 0} (xs : List X) (i : ℕ) (x : X) → i < length xs �
     → take (i + 1) xs ≡ take i xs ++ x ∷ []
 take_more xs i x below e = rw add-one (take-suc xs i x below ∙ ap (λ y. take i xs ++ y ∷ []) (sym e))
 
--- the least of the faults of what was read so far, with those of the next
-pub least_of_more : {X : Type 0} (P : X → ℕ → NameCause → Type 0) (xs : List X) (i : ℕ) (x : X) (a b : Option Found)
+-- the next of the faults of what was read so far, with those of the next
+pub next_of_more : {X : Type 0} (after : Option Found) (P : X → ℕ → NameCause → Type 0) (xs : List X) (i : ℕ) (x : X)
+    (a b : Option Found)
     → i < length xs → x ≡ get_or xs i x →
-    IsLeastOf (λ place cause. SomeOf (λ y. P y place cause) (take i xs)) a → IsLeastOf (P x) b →
-    IsLeastOf (λ place cause. SomeOf (λ y. P y place cause) (take (i + 1) xs)) (lesser_of_two a b)
-least_of_more {X} P xs i x a b below e h k =
-    subst (λ (ys : List X). IsLeastOf (λ place cause. SomeOf (λ y. P y place cause) ys) (lesser_of_two a b))
+    IsNextOf after (λ place cause. SomeOf (λ y. P y place cause) (take i xs)) a → IsNextOf after (P x) b →
+    IsNextOf after (λ place cause. SomeOf (λ y. P y place cause) (take (i + 1) xs)) (lesser_of_two a b)
+next_of_more {X} after P xs i x a b below e h k =
+    subst (λ (ys : List X). IsNextOf after (λ place cause. SomeOf (λ y. P y place cause) ys) (lesser_of_two a b))
     (sym (take_more xs i x below e))
-    (best_same _ _ (lesser_of_two a b)
+    (next_same after _ _ (lesser_of_two a b)
     (λ place cause q. or_else (λ s. some_front (λ y. P y place cause) (take i xs) x s)
     (λ p. some_last (λ y. P y place cause) (take i xs) x p) q)
     (λ place cause s. some_append (λ y. P y place cause) (take i xs) x s)
-    (both_least (λ place cause. SomeOf (λ y. P y place cause) (take i xs)) (P x) a b h k))
+    (both_next after (λ place cause. SomeOf (λ y. P y place cause) (take i xs)) (P x) a b h k))
 
 -- the least of one fault
 pub one_found : (P : ℕ → NameCause → Type 0) (f : Found) → P f.at f.cause
@@ -99,11 +109,12 @@ one_found P f p one = record {
 }
 
 -- faults of one cause, at some element of a list
-pub of_one_cause : {X : Type 0} (its : NameCause) (Q : X → ℕ → Type 0) (xs : List X) (o : Option Found) →
-    IsLeastOf (λ place cause. SomeOf (λ y. OfCause its (Q y) place cause) xs) o
-    → IsLeastOf (OfCause its (λ place. SomeOf (λ y. Q y place) xs)) o
-of_one_cause {X} its Q xs o h =
-    best_same _ _ o (λ place cause s. outside xs place cause s) (λ place cause s. inside xs place cause s.0 s.1) h
+pub of_one_cause : {X : Type 0} (after : Option Found) (its : NameCause) (Q : X → ℕ → Type 0) (xs : List X)
+    (o : Option Found) →
+    IsNextOf after (λ place cause. SomeOf (λ y. OfCause its (Q y) place cause) xs) o
+    → IsNextOf after (OfCause its (λ place. SomeOf (λ y. Q y place) xs)) o
+of_one_cause {X} after its Q xs o h =
+    next_same after _ _ o (λ place cause s. outside xs place cause s) (λ place cause s. inside xs place cause s.0 s.1) h
   where
     outside : (ys : List X) (place : ℕ) (cause : NameCause) → SomeOf (λ y. OfCause its (Q y) place cause) ys
         → OfCause its (λ at. SomeOf (λ y. Q y at) ys) place cause
@@ -128,9 +139,10 @@ got_below [] i x e = absurd cc
 got_below (y ∷ ys) zero x e = omega arith
 got_below (y ∷ ys) (suc i) x e = omega (arith, got_below ys i x e)
 
-pub least_of_more_at : {X : Type 0} (P : X → ℕ → NameCause → Type 0) (xs : List X) (i : ℕ) (d : X) (a b : Option Found)
+pub next_of_more_at : {X : Type 0} (after : Option Found) (P : X → ℕ → NameCause → Type 0) (xs : List X) (i : ℕ)
+    (d : X) (a b : Option Found)
     → i < length xs →
-    IsLeastOf (λ place cause. SomeOf (λ y. P y place cause) (take i xs)) a → IsLeastOf (P (get_or xs i d)) b →
-    IsLeastOf (λ place cause. SomeOf (λ y. P y place cause) (take (i + 1) xs)) (lesser_of_two a b)
-least_of_more_at P xs i d a b below h k =
-    least_of_more P xs i (get_or xs i d) a b below (get_or_default xs i d (get_or xs i d) below) h k
+    IsNextOf after (λ place cause. SomeOf (λ y. P y place cause) (take i xs)) a → IsNextOf after (P (get_or xs i d)) b →
+    IsNextOf after (λ place cause. SomeOf (λ y. P y place cause) (take (i + 1) xs)) (lesser_of_two a b)
+next_of_more_at after P xs i d a b below h k =
+    next_of_more after P xs i (get_or xs i d) a b below (get_or_default xs i d (get_or xs i d) below) h k

@@ -3,18 +3,18 @@ use Rattle.std.proofs.Common.{◌≡◌, ℕ, ◌+◌, ◌<◌, List, [], ◌∷
 use Rattle.std.proofs.Common.{subst, sym, refl, ◌⊎◌, inl, inr}
 use Rattle.std.proofs.lemmas.List.{get_or_default, take_all}
 use Rattle.std.specs.Prelude.{◌↔◌, ◌≤◌, IsTrue, Option}
-use Rattle.ildeclared.specs.Faults.{IsLeastOf, OfCause, SomeOf}
+use Rattle.ildeclared.specs.Faults.{IsNextOf, OfCause, SomeOf}
 use Rattle.ildeclared.specs.Order.{lesser_of_two}
 use Rattle.ildeclared.specs.declared.fault.NameCause.{NameCause}
 use Rattle.ildeclared.specs.declared.found.Found.{Found}
-use Rattle.ildeclared.proofs.FoundOrder.{best_same, or_else}
-use Rattle.ildeclared.proofs.Least.{least_of_more_at, of_one_cause, some_append, some_front, some_last, take_more}
+use Rattle.ildeclared.proofs.FoundOrder.{next_same, or_else}
+use Rattle.ildeclared.proofs.Least.{next_of_more_at, of_one_cause, some_append, some_front, some_last, take_more}
 
 take_one : {X : Type 0} (xs : List X) (i : ℕ) (d : X) → i < length xs
     → take (i + 1) xs ≡ take i xs ++ get_or xs i d ∷ []
 take_one xs i d below = take_more xs i (get_or xs i d) below (get_or_default xs i d (get_or xs i d) below)
 
-module _ {X : Type 0} (its : NameCause) (Q : X → ℕ → Type 0) where
+module _ {X : Type 0} (after : Option Found) (its : NameCause) (Q : X → ℕ → Type 0) where
   abbrev One : List X → ℕ → NameCause → Type 0
   One xs = OfCause its (λ place. SomeOf (λ x. Q x place) xs)
 
@@ -32,34 +32,35 @@ module _ {X : Type 0} (its : NameCause) (Q : X → ℕ → Type 0) where
   inside (x ∷ xs) place cause e (inl p) = inl (e, p)
   inside (x ∷ xs) place cause e (inr s) = inr (inside xs place cause e s)
 
-  of_each : (xs : List X) (o : Option Found) → IsLeastOf (One xs) o → IsLeastOf (Each xs) o
+  of_each : (xs : List X) (o : Option Found) → IsNextOf after (One xs) o → IsNextOf after (Each xs) o
   of_each xs o h =
-      best_same (One xs) (Each xs) o (λ place cause s. inside xs place cause s.0 s.1)
+      next_same after (One xs) (Each xs) o (λ place cause s. inside xs place cause s.0 s.1)
       (λ place cause s. outside xs place cause s) h
 
   pub more_of_cause : (xs : List X) (i : ℕ) (d : X) (a b : Option Found) → i < length xs
-      → IsLeastOf (One (take i xs)) a → IsLeastOf (OfCause its (Q (get_or xs i d))) b
-      → IsLeastOf (One (take (i + 1) xs)) (lesser_of_two a b)
+      → IsNextOf after (One (take i xs)) a → IsNextOf after (OfCause its (Q (get_or xs i d))) b
+      → IsNextOf after (One (take (i + 1) xs)) (lesser_of_two a b)
   more_of_cause xs i d a b below h k =
-      of_one_cause its Q (take (i + 1) xs) (lesser_of_two a b)
-      (least_of_more_at (λ x. OfCause its (Q x)) xs i d a b below (of_each (take i xs) a h) k)
+      of_one_cause after its Q (take (i + 1) xs) (lesser_of_two a b)
+      (next_of_more_at after (λ x. OfCause its (Q x)) xs i d a b below (of_each (take i xs) a h) k)
 
   -- where the element that is read is named
   pub item_of_cause : (xs : List X) (i : ℕ) (d x : X) (a b : Option Found) → i < length xs → x ≡ get_or xs i d
-      → IsLeastOf (One (take i xs)) a → IsLeastOf (OfCause its (Q x)) b
-      → IsLeastOf (One (take (i + 1) xs)) (lesser_of_two a b)
+      → IsNextOf after (One (take i xs)) a → IsNextOf after (OfCause its (Q x)) b
+      → IsNextOf after (One (take (i + 1) xs)) (lesser_of_two a b)
   item_of_cause xs i d x a b below e h k =
-      more_of_cause xs i d a b below h (subst (λ (y : X). IsLeastOf (OfCause its (Q y)) b) e k)
+      more_of_cause xs i d a b below h (subst (λ (y : X). IsNextOf after (OfCause its (Q y)) b) e k)
 
-  pub whole_of_cause : (xs : List X) (i : ℕ) (a : Option Found) → length xs ≤ i → IsLeastOf (One (take i xs)) a
-      → IsLeastOf (One xs) a
-  whole_of_cause xs i a end h = subst (λ (ys : List X). IsLeastOf (One ys) a) (take_all i xs end) h
+  pub whole_of_cause : (xs : List X) (i : ℕ) (a : Option Found) → length xs ≤ i → IsNextOf after (One (take i xs)) a
+      → IsNextOf after (One xs) a
+  whole_of_cause xs i a end h = subst (λ (ys : List X). IsNextOf after (One ys) a) (take_all i xs end) h
 
 -- the fault of a test that says whether there is one
-pub found_same : (its : NameCause) (P Q : ℕ → Type 0) (o : Option Found) → ((place : ℕ) → P place ↔ Q place)
-    → IsLeastOf (OfCause its P) o → IsLeastOf (OfCause its Q) o
-found_same its P Q o same h =
-    best_same (OfCause its P) (OfCause its Q) o (λ place cause p. (p.0, (same place).0 p.1))
+pub found_same : (after : Option Found) (its : NameCause) (P Q : ℕ → Type 0) (o : Option Found) →
+    ((place : ℕ) → P place ↔ Q place)
+    → IsNextOf after (OfCause its P) o → IsNextOf after (OfCause its Q) o
+found_same after its P Q o same h =
+    next_same after (OfCause its P) (OfCause its Q) o (λ place cause p. (p.0, (same place).0 p.1))
     (λ place cause q. (q.0, (same place).1 q.1)) h
 
 -- some element has a property, where a list is read from front to back

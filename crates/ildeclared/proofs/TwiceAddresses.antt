@@ -12,7 +12,7 @@ use Rattle.iltokens.specs.declared.lexed.AddressKind.{AddressKind}
 use Rattle.iltokens.specs.declared.lexed.AddressKind.TheVariants.{OutputByte, InputWord, InputBit}
 use Rattle.ilsource.specs.declared.address.DirectAddress.{DirectAddress}
 use Rattle.ildeclared.specs.AddressSteps.{key_of, letter_of, same_key}
-use Rattle.ildeclared.specs.Faults.{IsAddressTwice, IsLeastOf, OfCause, SameAddress, SomeOf}
+use Rattle.ildeclared.specs.Faults.{IsAddressTwice, IsNextOf, OfCause, SameAddress, SomeOf}
 use Rattle.ildeclared.specs.Order.{lesser_of_two}
 use Rattle.ildeclared.specs.declared.fault.NameCause.TheVariants.{Twice}
 use Rattle.ildeclared.specs.declared.found.Found.{Found}
@@ -85,14 +85,16 @@ module _ (xs : List DirectAddress) (i : ℕ) (d : DirectAddress) (below : i < le
       ∙ sym (list_any-append (λ a. same_key (key_of a) q) (take i xs) (get_or xs i d ∷ []))
       ∙ ap (λ (ys : List DirectAddress). seen_in ys q) (sym next)
 
-  pub twice_more : (is_new : Bool) (key : ℕ × ℕ × ℕ) (a b : Option Found) → key ≡ key_of (get_or xs i d)
+  pub twice_more : (after : Option Found) (is_new : Bool) (key : ℕ × ℕ × ℕ) (a b : Option Found) → key ≡ key_of
+      (get_or xs i d)
       → is_new ≡ not (seen_in (take i xs) key)
-      → IsLeastOf (OfCause Twice (IsAddressTwice (take i xs))) a
-      → IsLeastOf (OfCause Twice (λ place. IsTrue (not is_new) × (place ≡ (get_or xs i d).at))) b
-      → IsLeastOf (OfCause Twice (IsAddressTwice (take (i + 1) xs))) (lesser_of_two a b)
-  twice_more is_new key a b is new h k =
-      subst (λ (ys : List DirectAddress). IsLeastOf (OfCause Twice (IsAddressTwice ys)) (lesser_of_two a b)) (sym next)
-      (twice_last SameAddress (λ x. x.at) (take i xs) (get_or xs i d) (IsTrue (not is_new)) a b
+      → IsNextOf after (OfCause Twice (IsAddressTwice (take i xs))) a
+      → IsNextOf after (OfCause Twice (λ place. IsTrue (not is_new) × (place ≡ (get_or xs i d).at))) b
+      → IsNextOf after (OfCause Twice (IsAddressTwice (take (i + 1) xs))) (lesser_of_two a b)
+  twice_more after is_new key a b is new h k =
+      subst (λ (ys : List DirectAddress). IsNextOf after (OfCause Twice (IsAddressTwice ys)) (lesser_of_two a b))
+      (sym next)
+      (twice_last after SameAddress (λ x. x.at) (take i xs) (get_or xs i d) (IsTrue (not is_new)) a b
       (λ t. seen_some (take i xs) (get_or xs i d) (known is_new (seen_in (take i xs) (key_of (get_or xs i d)))
       new_here t))
       (λ s. again is_new (seen_in (take i xs) (key_of (get_or xs i d))) new_here

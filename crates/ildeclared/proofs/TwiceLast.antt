@@ -1,12 +1,12 @@
 -- What is given again, where a list is read from front to back.
 use Rattle.std.proofs.Common.{◌≡◌, ℕ, List, [], ◌∷◌, ◌++◌, ◌⊎◌, inl, inr}
 use Rattle.std.specs.Prelude.{Option}
-use Rattle.ildeclared.specs.Faults.{IsLeastOf, OfCause, SomeLater, SomeOf}
+use Rattle.ildeclared.specs.Faults.{IsNextOf, OfCause, SomeLater, SomeOf}
 use Rattle.ildeclared.specs.Order.{lesser_of_two}
 use Rattle.ildeclared.specs.declared.fault.NameCause.TheVariants.{Twice}
 use Rattle.ildeclared.specs.declared.found.Found.{Found}
-use Rattle.ildeclared.proofs.FoundOrder.{best_same, or_else}
-use Rattle.ildeclared.proofs.Least.{both_least, some_append, some_front}
+use Rattle.ildeclared.proofs.FoundOrder.{next_same, or_else}
+use Rattle.ildeclared.proofs.Least.{both_next, some_append, some_front}
 
 -- one element more, and a pair of an earlier and a later one
 module _ {X : Type 0} (R : X → X → Type 0) where
@@ -41,22 +41,23 @@ with_any P (x ∷ xs) q (inl p) = inl (p, q)
 with_any P (x ∷ xs) q (inr s) = inr (with_any P xs q s)
 
 -- what is given again, with one element more: it is known where one before it is the same
-module _ {X : Type 0} (Same : X → X → Type 0) (place_of : X → ℕ) where
+module _ {X : Type 0} (after : Option Found) (Same : X → X → Type 0) (place_of : X → ℕ) where
   abbrev Again : X → X → ℕ → Type 0
   Again earlier later place = Same earlier later × (place ≡ place_of later)
 
   pub twice_last : (front : List X) (x : X) (Known : Type 0) (a b : Option Found)
       → (Known → SomeOf (λ m. Same m x) front) → (SomeOf (λ m. Same m x) front → Known)
-      → IsLeastOf (OfCause Twice (λ place. SomeLater (λ e l. Again e l place) front)) a
-      → IsLeastOf (OfCause Twice (λ place. Known × (place ≡ place_of x))) b
-      → IsLeastOf (OfCause Twice (λ place. SomeLater (λ e l. Again e l place) (front ++ x ∷ []))) (lesser_of_two a b)
+      → IsNextOf after (OfCause Twice (λ place. SomeLater (λ e l. Again e l place) front)) a
+      → IsNextOf after (OfCause Twice (λ place. Known × (place ≡ place_of x))) b
+      → IsNextOf after (OfCause Twice (λ place. SomeLater (λ e l. Again e l place) (front ++ x ∷ [])))
+      (lesser_of_two a b)
   twice_last front x Known a b to from h k =
-      best_same _ _ (lesser_of_two a b)
+      next_same after _ _ (lesser_of_two a b)
       (λ place cause q.
       or_else (λ s. (s.0, later_front (λ e l. Again e l place) front x s.1))
       (λ s. (s.0, later_at (λ e l. Again e l place) front x [] (with_any (λ m. Same m x) front s.1.1 (to s.1.0)))) q)
       (λ place cause s.
       or_else (λ r. inl (s.0, r)) (λ r. let u = some_any (λ m. Same m x) front r in inr (s.0, (from u.0, u.1)))
       (later_append (λ e l. Again e l place) front x s.1))
-      (both_least (OfCause Twice (λ place. SomeLater (λ e l. Again e l place) front))
+      (both_next after (OfCause Twice (λ place. SomeLater (λ e l. Again e l place) front))
       (OfCause Twice (λ place. Known × (place ≡ place_of x))) a b h k)

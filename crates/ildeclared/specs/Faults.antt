@@ -1,6 +1,7 @@
 -- What stands against one declaration, and against addresses: each fault stands at a place of the text, a byte's
 -- offset, and has a cause (IEC 61131-3, 2.3.3.1 and 2.4.3: a type is declared above its use, and an initial value is of
--- the type; addresses and what stands at them by the profile). Which of some faults is the least one.
+-- the type; addresses and what stands at them by the profile). Which of some faults is the least one, and which
+-- the next after another.
 use Rattle.std.specs.Prelude.{◌≡◌, ◌⊎◌, ⊤, ℕ, ◌+◌, ◌<◌, ◌≤◌, ℤ, pos, ◌<ℤ◌, List, [], ◌∷◌, slice_get}
 use Rattle.std.specs.Prelude.{Option, Some, None, IsSome, IsSomeAnd, nat_lt, if◌then◌else◌}
 use Rattle.wordlines.specs.Wirings.{Wiring, IsAt}
@@ -41,7 +42,7 @@ SomeLater R (x ∷ xs) = SomeOf (R x) xs ⊎ SomeLater R xs
 abbrev pub OfCause : NameCause → (ℕ → Type 0) → ℕ → NameCause → Type 0
 OfCause its At place cause = (cause ≡ its) × At place
 
--- the first place and cause aren't after the second
+-- the first place and cause are not after the second
 abbrev pub IsNotAfter : ℕ → NameCause → ℕ → NameCause → Type 0
 IsNotAfter place cause other its = (place < other) ⊎
     ((place ≡ other) × (name_fault_number cause ≤ name_fault_number its))
@@ -55,6 +56,23 @@ pub record IsLeast (Faults : ℕ → NameCause → Type 0) (place : ℕ) (cause 
 abbrev pub IsLeastOf : (ℕ → NameCause → Type 0) → Option Found → Type 0
 IsLeastOf Faults None = (place : ℕ) (cause : NameCause) → ¬ Faults place cause
 IsLeastOf Faults (Some found) = IsLeast Faults found.at found.cause
+
+-- ---- one fault after the other
+
+-- a fault comes after the last one that was found: at a greater place, or there with a greater cause; after none each
+-- comes
+abbrev pub IsAfter : Option Found → ℕ → NameCause → Type 0
+IsAfter None place cause = ⊤
+IsAfter (Some last) place cause =
+    (last.at < place) ⊎ ((last.at ≡ place) × (name_fault_number last.cause < name_fault_number cause))
+
+-- those of some faults that come after it
+abbrev pub Beyond : Option Found → (ℕ → NameCause → Type 0) → ℕ → NameCause → Type 0
+Beyond after Faults place cause = Faults place cause × IsAfter after place cause
+
+-- what was found is the least of these
+abbrev pub IsNextOf : Option Found → (ℕ → NameCause → Type 0) → Option Found → Type 0
+IsNextOf after Faults = IsLeastOf (Beyond after Faults)
 
 -- ---- one declaration
 

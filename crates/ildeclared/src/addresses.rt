@@ -2,7 +2,7 @@
 
 ghost use Rattle.std.specs.Prelude.{◌≡◌, IfOk};
 ghost use Rattle.ildeclared.specs.AddressSteps.{key_of};
-ghost use Rattle.ildeclared.specs.Faults.{IsLeastOf, IsAddressTwice, OfCause};
+ghost use Rattle.ildeclared.specs.Faults.{IsNextOf, IsAddressTwice, OfCause};
 ghost use Rattle.ildeclared.specs.declared.fault.NameCause.TheVariants.{Twice};
 
 use crate::fault::NameCause;
@@ -12,19 +12,23 @@ use iltokens::AddressKind;
 use std::alloc::{AllocError, Global};
 use std::collections::HashSet;
 
-/// The least fault of an address that is given again.
+/// The next fault after `after` of an address that is given again.
 pub fn twice_addresses(
     alloc: Global,
     addresses: &[DirectAddress],
+    after: Option<Found>,
 ) -> Result<Option<Found>, AllocError>
     ensures { IfOk result (λ found.
-        IsLeastOf (OfCause Twice (IsAddressTwice addresses.now)) found) }
+        IsNextOf after (OfCause Twice (IsAddressTwice addresses.now)) found) }
 {
     let mut seen = HashSet::new(alloc);
     let mut least = None;
     for address in addresses {
         let is_new = seen.insert(key_of(address))?;
-        least = lesser_of(least, found_where(!is_new, address.at, NameCause::Twice));
+        least = lesser_of(
+            least,
+            found_where(!is_new, address.at, NameCause::Twice, after),
+        );
     }
     Ok(least)
 }

@@ -1,7 +1,7 @@
-//! The least of the faults that were found.
+//! The least of the faults that were found, and the next after another.
 
-ghost use Rattle.std.specs.Prelude.{◌≡◌, IsTrue};
-ghost use Rattle.ildeclared.specs.Faults.{IsLeastOf, OfCause};
+ghost use Rattle.std.specs.Prelude.{◌≡◌, ◌↔◌, IsTrue};
+ghost use Rattle.ildeclared.specs.Faults.{IsAfter, IsNextOf, OfCause};
 ghost use Rattle.ildeclared.specs.Order.{lesser_of_two};
 
 use crate::fault::NameCause;
@@ -37,13 +37,29 @@ pub fn lesser_of(one: Option<Found>, other: Option<Found>) -> Option<Found>
     }
 }
 
-/// The fault with this cause at this place, where there is one.
-pub fn found_where(is_fault: bool, at: usize, cause: NameCause) -> Option<Found>
-    ensures { IsLeastOf (OfCause cause (λ place. IsTrue is_fault × (place ≡ at))) result }
+/// The fault with this cause at this place, where there is one that comes after `after`.
+pub fn found_where(
+    is_fault: bool,
+    at: usize,
+    cause: NameCause,
+    after: Option<Found>,
+) -> Option<Found>
+    ensures { IsNextOf after (OfCause cause (λ place. IsTrue is_fault × (place ≡ at))) result }
 {
-    if is_fault {
-        Some(Found { at, cause })
+    let found = Found { at, cause };
+    if is_fault && comes_after(found, after) {
+        Some(found)
     } else {
         None
+    }
+}
+
+/// Whether a fault comes after the last one that was found, if one was.
+fn comes_after(found: Found, last: Option<Found>) -> bool
+    ensures { IsTrue result ↔ IsAfter last found.at found.cause }
+{
+    match last {
+        None => true,
+        Some(last) => last.comes_before(found),
     }
 }

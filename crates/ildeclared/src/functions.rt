@@ -3,7 +3,7 @@
 ghost use Rattle.std.specs.Prelude.{◌≡◌, ◌++◌, ◌↔◌, IfOk, IsTrue, OnOk, flat_map};
 ghost use Rattle.ildeclared.specs.Declarations.{function_names, inputs_of, own_variables_of};
 ghost use Rattle.ildeclared.specs.Declarations.{result_declaration, result_variable};
-ghost use Rattle.ildeclared.specs.Faults.{AreBlocks, AreBlocksIn, IsFaultIn, IsLeastOf, OfCause};
+ghost use Rattle.ildeclared.specs.Faults.{AreBlocks, AreBlocksIn, IsFaultIn, IsNextOf, OfCause};
 ghost use Rattle.ildeclared.specs.Faults.{SomeOf};
 ghost use Rattle.ildeclared.specs.Kept.{types_in};
 ghost use Rattle.ildeclared.specs.declared.fault.NameCause.TheVariants.{BadDeclaration};
@@ -83,38 +83,39 @@ fn add_names(names: &mut Vec<Name>, declarations: &[Declaration]) -> Result<(), 
     Ok(())
 }
 
-/// The least fault of what is said of a function's result below these types. `lower` is the text in
-/// lower case.
+/// The next fault after `after` of what is said of a function's result below these types. `lower`
+/// is the text in lower case.
 pub fn fault_of_result(
     lower: &[u8],
     types: &DeclaredTypes,
     function: &SourceFunction,
+    after: Option<Found>,
 ) -> Option<Found>
-    ensures { IsLeastOf (IsFaultIn (types_in lower.now types.now)
+    ensures { IsNextOf after (IsFaultIn (types_in lower.now types.now)
         (result_declaration function.now)) result }
 {
     let declared = Declared::Variables {
         specification: function.result_type(),
         initial: None,
     };
-    fault_of(lower, types, &[function.name()], declared)
+    fault_of(lower, types, &[function.name()], declared, after)
 }
 
-/// The least fault of block instances that are declared where there may be none.
-pub fn fault_of_blocks(declarations: &[Declaration]) -> Option<Found>
-    ensures { IsLeastOf
+/// The next fault after `after` of block instances that are declared where there may be none.
+pub fn fault_of_blocks(declarations: &[Declaration], after: Option<Found>) -> Option<Found>
+    ensures { IsNextOf after
         (OfCause BadDeclaration (λ place. SomeOf (AreBlocksIn place) declarations.now)) result }
 {
     let mut least = None;
     for declaration in declarations {
-        least = lesser_of(least, blocks_at(declaration));
+        least = lesser_of(least, blocks_at(declaration, after));
     }
     least
 }
 
 /// The fault of one such declaration.
-fn blocks_at(declaration: &Declaration) -> Option<Found>
-    ensures { IsLeastOf
+fn blocks_at(declaration: &Declaration, after: Option<Found>) -> Option<Found>
+    ensures { IsNextOf after
         (OfCause BadDeclaration (λ place. AreBlocksIn place declaration.now)) result }
 {
     let name = declaration.names().first()?;
@@ -122,6 +123,7 @@ fn blocks_at(declaration: &Declaration) -> Option<Found>
         are_blocks(declaration.declared_kind()),
         name.from,
         NameCause::BadDeclaration,
+        after,
     )
 }
 

@@ -1,7 +1,7 @@
 //! The global variables of a configuration.
 
 ghost use Rattle.std.specs.Prelude.{◌≡◌, ◌++◌, IfOk, OnOk, filter_map, flat_map, map};
-ghost use Rattle.ildeclared.specs.Faults.{IsLeastOf, SomeOf, IsFaultIn};
+ghost use Rattle.ildeclared.specs.Faults.{IsNextOf, SomeOf, IsFaultIn};
 ghost use Rattle.ildeclared.specs.Globals.{as_variables, global, global_type, globals_in};
 ghost use Rattle.ildeclared.specs.Globals.{initial_at, located_type, input_initial, type_of_each};
 ghost use Rattle.ildeclared.specs.Globals.{value_types_in};
@@ -155,14 +155,15 @@ pub fn addresses_of(
         .collect(alloc)
 }
 
-/// The least fault of what some declarations of global variables say below these types. `lower` is
-/// the text in lower case.
+/// The next fault after `after` of what some declarations of global variables say below these
+/// types. `lower` is the text in lower case.
 pub fn fault_of_globals(
     lower: &[u8],
     types: &DeclaredTypes,
     declarations: &[GlobalDeclaration],
+    after: Option<Found>,
 ) -> Option<Found>
-    ensures { IsLeastOf (λ place cause. SomeOf (λ d. IsFaultIn (types_in lower.now types.now)
+    ensures { IsNextOf after (λ place cause. SomeOf (λ d. IsFaultIn (types_in lower.now types.now)
         (as_variables d) place cause) declarations.now) result }
 {
     let mut least = None;
@@ -171,7 +172,7 @@ pub fn fault_of_globals(
             specification: declaration.specification(),
             initial: declaration.initial(),
         };
-        let fault = fault_of(lower, types, declaration.names(), declared);
+        let fault = fault_of(lower, types, declaration.names(), declared, after);
         least = lesser_of(least, fault);
     }
     least

@@ -5,11 +5,13 @@
 //! [`DeclaredExternal`]s of a program, the variables of a function, and the [`DeclaredGlobal`]s of
 //! a configuration, as their declarations say them, below the [`DeclaredTypes`], which are a table
 //! of [`Names`]; and the least fault, [`Found`] at its place in the text, with its [`NameCause`].
+//! `after`, where a function has it, is the last fault that was found: the next one after it is
+//! found (`IsNextOf`, specs/Faults.antt), and the least of all where it is `None`.
 //! The definition to read first is `data_type` (specs/DataTypes.antt), what a type means.
 //!
 //! ```text
 //! let variables = variables_of(alloc, lower, &types, program)?;
-//! let fault = fault_of_all(lower, &types, program.declarations());
+//! let fault = fault_of_all(lower, &types, program.declarations(), None);
 //! ```
 #![tactic(auto)]
 

@@ -3,7 +3,7 @@
 ghost use Rattle.std.specs.Prelude.{◌≡◌, ◌↔◌, ◌<◌, IsTrue};
 ghost use Rattle.wordlines.specs.Wirings.{IsAt};
 ghost use Rattle.iltypes.specs.declared.value.IlType.TheVariants.{Int};
-ghost use Rattle.ildeclared.specs.Faults.{IsLeastOf, OfCause, SomeOf, IsBound, IsThere};
+ghost use Rattle.ildeclared.specs.Faults.{IsNextOf, OfCause, SomeOf, IsBound, IsThere};
 ghost use Rattle.ildeclared.specs.Faults.{IsBadAddressAt, IsBadlyLocatedIn, IsOtherArea};
 ghost use Rattle.ildeclared.specs.Faults.{IsInputTooSmallIn, LacksInput, LacksWord, IsInput};
 ghost use Rattle.ildeclared.specs.Faults.{IsInputGivenIn, greatest_at};
@@ -21,25 +21,29 @@ use iltokens::AddressKind;
 use iltypes::{IlType, Range};
 use wordlines::{Binding, BoundSource};
 
-/// The least fault of an address of a bus, or of a place on it, that is not there.
-pub fn bad_addresses(wiring: &Binding, addresses: &[DirectAddress]) -> Option<Found>
-    ensures { IsLeastOf (OfCause BadAddress (λ place.
+/// The next fault after `after` of an address of a bus, or of a place on it, that is not there.
+pub fn bad_addresses(
+    wiring: &Binding,
+    addresses: &[DirectAddress],
+    after: Option<Found>,
+) -> Option<Found>
+    ensures { IsNextOf after (OfCause BadAddress (λ place.
         SomeOf (IsBadAddressAt wiring.now place) addresses.now)) result }
 {
     let mut least = None;
     for address in addresses {
-        least = lesser_of(least, bad_address(wiring, address));
+        least = lesser_of(least, bad_address(wiring, address, after));
     }
     least
 }
 
 /// The fault of one such address.
-fn bad_address(wiring: &Binding, address: &DirectAddress) -> Option<Found>
-    ensures { IsLeastOf (OfCause BadAddress (λ place.
+fn bad_address(wiring: &Binding, address: &DirectAddress, after: Option<Found>) -> Option<Found>
+    ensures { IsNextOf after (OfCause BadAddress (λ place.
         IsBadAddressAt wiring.now place address.now)) result }
 {
     let bad = !is_connected(wiring, address);
-    found_where(bad, address.at, NameCause::BadAddress)
+    found_where(bad, address.at, NameCause::BadAddress, after)
 }
 
 /// Whether an address is one of a bus and of a place on it that are there.
@@ -85,19 +89,20 @@ fn is_at(source: &BoundSource, bus: u64, number: u64) -> bool
     u64::from(source.bus) == bus && u64::from(source.number) == number
 }
 
-/// The least fault of a located variable of a type that does not fit its address. `lower` is the
-/// text in lower case.
+/// The next fault after `after` of a located variable of a type that does not fit its address.
+/// `lower` is the text in lower case.
 pub fn badly_located(
     lower: &[u8],
     types: &DeclaredTypes,
     globals: &[GlobalDeclaration],
+    after: Option<Found>,
 ) -> Option<Found>
-    ensures { IsLeastOf (OfCause BadDeclaration (λ place.
+    ensures { IsNextOf after (OfCause BadDeclaration (λ place.
         SomeOf (IsBadlyLocatedIn (types_in lower.now types.now) place) globals.now)) result }
 {
     let mut least = None;
     for global in globals {
-        least = lesser_of(least, badly_located_one(lower, types, global));
+        least = lesser_of(least, badly_located_one(lower, types, global, after));
     }
     least
 }
@@ -107,15 +112,16 @@ fn badly_located_one(
     lower: &[u8],
     types: &DeclaredTypes,
     global: &GlobalDeclaration,
+    after: Option<Found>,
 ) -> Option<Found>
-    ensures { IsLeastOf (OfCause BadDeclaration (λ place.
+    ensures { IsNextOf after (OfCause BadDeclaration (λ place.
         IsBadlyLocatedIn (types_in lower.now types.now) place global.now)) result }
 {
     let address = global.address()?;
     let its = values_of(lower, types, global.specification())?;
     let name = global.names().first()?;
     let other = is_other_area(address.kind, its);
-    found_where(other, name.from, NameCause::BadDeclaration)
+    found_where(other, name.from, NameCause::BadDeclaration, after)
 }
 
 /// Whether variables of this type have not the values of what is located there.
@@ -130,32 +136,38 @@ fn is_other_area(kind: AddressKind, its: IlType) -> bool
     }
 }
 
-/// The least fault of a variable that lacks values of the input that it is located at. `lower` is
-/// the text in lower case.
+/// The next fault after `after` of a variable that lacks values of the input that it is located at.
+/// `lower` is the text in lower case.
 pub fn inputs_too_small(
     lower: &[u8],
     types: &DeclaredTypes,
     globals: &[GlobalDeclaration],
+    after: Option<Found>,
 ) -> Option<Found>
-    ensures { IsLeastOf (OfCause InputRangeTooSmall (λ place.
+    ensures { IsNextOf after (OfCause InputRangeTooSmall (λ place.
         SomeOf (IsInputTooSmallIn (types_in lower.now types.now) place) globals.now)) result }
 {
     let mut least = None;
     for global in globals {
-        least = lesser_of(least, input_too_small(lower, types, global));
+        least = lesser_of(least, input_too_small(lower, types, global, after));
     }
     least
 }
 
 /// The fault of one such declaration.
-fn input_too_small(lower: &[u8], types: &DeclaredTypes, global: &GlobalDeclaration) -> Option<Found>
-    ensures { IsLeastOf (OfCause InputRangeTooSmall (λ place.
+fn input_too_small(
+    lower: &[u8],
+    types: &DeclaredTypes,
+    global: &GlobalDeclaration,
+    after: Option<Found>,
+) -> Option<Found>
+    ensures { IsNextOf after (OfCause InputRangeTooSmall (λ place.
         IsInputTooSmallIn (types_in lower.now types.now) place global.now)) result }
 {
     let address = global.address()?;
     let its = values_of(lower, types, global.specification())?;
     let lacks = lacks_input(&address, its);
-    found_where(lacks, address.at, NameCause::InputRangeTooSmall)
+    found_where(lacks, address.at, NameCause::InputRangeTooSmall, after)
 }
 
 /// Whether a variable of this type lacks values of the input at the address.
@@ -188,26 +200,27 @@ fn greatest_at(place: u64) -> i64
     }
 }
 
-/// The least fault of an input that is given an initial value.
-pub fn inputs_given(globals: &[GlobalDeclaration]) -> Option<Found>
-    ensures { IsLeastOf (OfCause WritesInput (λ place.
+/// The next fault after `after` of an input that is given an initial value.
+pub fn inputs_given(globals: &[GlobalDeclaration], after: Option<Found>) -> Option<Found>
+    ensures { IsNextOf after (OfCause WritesInput (λ place.
         SomeOf (IsInputGivenIn place) globals.now)) result }
 {
     let mut least = None;
     for global in globals {
-        least = lesser_of(least, input_given(global));
+        least = lesser_of(least, input_given(global, after));
     }
     least
 }
 
 /// The fault of one such declaration.
-fn input_given(global: &GlobalDeclaration) -> Option<Found>
-    ensures { IsLeastOf (OfCause WritesInput (λ place. IsInputGivenIn place global.now)) result }
+fn input_given(global: &GlobalDeclaration, after: Option<Found>) -> Option<Found>
+    ensures { IsNextOf after
+        (OfCause WritesInput (λ place. IsInputGivenIn place global.now)) result }
 {
     let address = global.address()?;
     let name = global.names().first()?;
     let given = is_input(&address) && global.initial().is_some();
-    found_where(given, name.from, NameCause::WritesInput)
+    found_where(given, name.from, NameCause::WritesInput, after)
 }
 
 /// Whether what is located there is an input.

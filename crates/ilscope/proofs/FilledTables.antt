@@ -10,7 +10,7 @@ use Rattle.ilsource.specs.declared.name.Name.{Name}
 use Rattle.ilsource.specs.declared.source.Element.{Element}
 use Rattle.ilsource.specs.declared.source.Element.TheVariants.{DerivedType, Function, Program}
 use Rattle.ildeclared.specs.DataTypes.{TypeNames, types_below}
-use Rattle.ildeclared.specs.Faults.{IsLeastOf, OfCause, SomeOf}
+use Rattle.ildeclared.specs.Faults.{IsNextOf, OfCause, SomeOf}
 use Rattle.ildeclared.specs.Globals.{globals_in, value_types_in}
 use Rattle.ildeclared.specs.Kept.{Kept, types_in}
 use Rattle.ildeclared.specs.Order.{lesser_of_two}
@@ -18,7 +18,7 @@ use Rattle.ildeclared.specs.declared.data_type.DataType.{DataType}
 use Rattle.ildeclared.specs.declared.fault.NameCause.TheVariants.{Twice}
 use Rattle.ildeclared.specs.declared.found.Found.{Found}
 use Rattle.ildeclared.specs.declared.global.DeclaredGlobal.{DeclaredGlobal}
-use Rattle.ildeclared.proofs.Least.{both_least, either_least}
+use Rattle.ildeclared.proofs.Least.{both_next, either_next}
 use Rattle.ilscope.specs.Configured.{declared_globals_of, globals_of, task_declarations, types_of_text}
 use Rattle.ilscope.specs.Declarations.{DeclaredFunction, DeclaredProgram, declared_function, declared_functions}
 use Rattle.ilscope.specs.Declarations.{declared_program, declared_programs, name_of, standing}
@@ -40,10 +40,12 @@ above_all_is above (Function function ∷ more) = above_all_is (Function functio
 above_all_is above (Program program ∷ more) = above_all_is (Program program ∷ above) more
 
 -- what is gathered from all elements of a text, and what is kept of its configuration
-module _ (tree : Tree) (lower : List ℕ) (types : Kept (Option DataType)) (programs : List DeclaredProgram)
+module _ (after : Option Found) (tree : Tree) (lower : List ℕ) (types : Kept (Option DataType))
+    (programs : List DeclaredProgram)
     (variables blocks externals : List (Kept ℕ)) (functions : List DeclaredFunction) (own : List (Kept ℕ))
     (least : Option Found) (lower_is : lower ≡ lowered tree.text)
-    (gathered : IsGathered lower tree.elements types programs variables blocks externals functions own least) where
+    (gathered : IsGathered after lower tree.elements types programs variables blocks externals functions own
+    least) where
   same : text_of lower ≡ folded tree.text
   same = spelled_is lower tree.text lower_is
 
@@ -113,9 +115,9 @@ module _ (tree : Tree) (lower : List ℕ) (types : Kept (Option DataType)) (prog
 
   pub found_in_tables : (globals : List DeclaredGlobal) (element configured : Option Found) →
       globals ≡ flat_map (globals_in (types_in lower types)) (declared_globals_of tree) →
-      IsLeastOf (OfCause Twice (IsTwiceIn (text_of lower) (map name_of tree.elements))) element →
-      IsLeastOf (OfCause Twice (IsGlobalOrTaskTwice (text_of lower) globals (task_declarations tree))) configured →
-      IsLeastOf (IsFaultInTables tree) (lesser_of_two least (lesser_of_two element configured))
+      IsNextOf after (OfCause Twice (IsTwiceIn (text_of lower) (map name_of tree.elements))) element →
+      IsNextOf after (OfCause Twice (IsGlobalOrTaskTwice (text_of lower) globals (task_declarations tree))) configured →
+      IsNextOf after (IsFaultInTables tree) (lesser_of_two least (lesser_of_two element configured))
   found_in_tables globals element configured g a b =
       let spelled = folded tree.text in
       let names = map name_of tree.elements in
@@ -123,22 +125,24 @@ module _ (tree : Tree) (lower : List ℕ) (types : Kept (Option DataType)) (prog
       let globals_are : globals ≡ globals_of tree =
       g ∙ ap (λ (names : TypeNames). flat_map (globals_in names) (declared_globals_of tree)) types_are
       in
-      let of_elements : IsLeastOf (OfCause Twice (IsTwiceIn spelled names)) element =
-      subst (λ (s : Name → List ℕ). IsLeastOf (OfCause Twice (IsTwiceIn s names)) element) same a
+      let of_elements : IsNextOf after (OfCause Twice (IsTwiceIn spelled names)) element =
+      subst (λ (s : Name → List ℕ). IsNextOf after (OfCause Twice (IsTwiceIn s names)) element) same a
       in
-      let of_these : IsLeastOf (OfCause Twice (IsGlobalOrTaskTwice spelled globals tasks)) configured =
-      subst (λ (s : Name → List ℕ). IsLeastOf (OfCause Twice (IsGlobalOrTaskTwice s globals tasks)) configured) same b
+      let of_these : IsNextOf after (OfCause Twice (IsGlobalOrTaskTwice spelled globals tasks)) configured =
+      subst (λ (s : Name → List ℕ). IsNextOf after (OfCause Twice (IsGlobalOrTaskTwice s globals tasks)) configured)
+      same b
       in
-      let of_all : IsLeastOf (OfCause Twice (IsGlobalOrTaskTwice spelled (globals_of tree) tasks)) configured =
-      subst (λ (gs : List DeclaredGlobal). IsLeastOf (OfCause Twice (IsGlobalOrTaskTwice spelled gs tasks)) configured)
+      let of_all : IsNextOf after (OfCause Twice (IsGlobalOrTaskTwice spelled (globals_of tree) tasks)) configured =
+      subst (λ (gs : List DeclaredGlobal). IsNextOf after (OfCause Twice (IsGlobalOrTaskTwice spelled gs tasks))
+      configured)
       globals_are of_these
       in
-      both_least (IsFaultInElements tree) (OfCause Twice (IsTwiceNumbered tree)) least
+      both_next after (IsFaultInElements tree) (OfCause Twice (IsTwiceNumbered tree)) least
       (lesser_of_two element configured)
-      (subst (λ (s : Name → List ℕ). IsLeastOf
+      (subst (λ (s : Name → List ℕ). IsNextOf after
       (λ place cause. SomeOf (λ one. IsFaultOfElement s one place cause) (standing [] tree.elements)) least) same
       gathered.fault)
-      (either_least Twice (IsTwiceIn spelled names) (IsGlobalOrTaskTwice spelled (globals_of tree) tasks) element
+      (either_next after Twice (IsTwiceIn spelled names) (IsGlobalOrTaskTwice spelled (globals_of tree) tasks) element
       configured of_elements of_all)
 
 -- numbers and faults of names, in a text and of a list that are equal to those
@@ -148,20 +152,23 @@ moved_numbers lower l names ns numbers e f h =
     subst (λ (w : List ℕ). AreNumbersOf (text_of w) ns numbers) e
     (subst (λ (ms : List Name). AreNumbersOf (text_of lower) ms numbers) f h)
 
-pub moved_twice : (lower l : List ℕ) (names ns : List Name) (found : Option Found) → lower ≡ l → names ≡ ns →
-    IsLeastOf (OfCause Twice (IsTwiceIn (text_of lower) names)) found →
-    IsLeastOf (OfCause Twice (IsTwiceIn (text_of l) ns)) found
-moved_twice lower l names ns found e f h =
-    subst (λ (w : List ℕ). IsLeastOf (OfCause Twice (IsTwiceIn (text_of w) ns)) found) e
-    (subst (λ (ms : List Name). IsLeastOf (OfCause Twice (IsTwiceIn (text_of lower) ms)) found) f h)
+pub moved_twice : (after : Option Found) (lower l : List ℕ) (names ns : List Name) (found : Option Found) → lower ≡ l
+    → names ≡ ns →
+    IsNextOf after (OfCause Twice (IsTwiceIn (text_of lower) names)) found →
+    IsNextOf after (OfCause Twice (IsTwiceIn (text_of l) ns)) found
+moved_twice after lower l names ns found e f h =
+    subst (λ (w : List ℕ). IsNextOf after (OfCause Twice (IsTwiceIn (text_of w) ns)) found) e
+    (subst (λ (ms : List Name). IsNextOf after (OfCause Twice (IsTwiceIn (text_of lower) ms)) found) f h)
 
 -- and what is gathered
-pub moved_gathered : (lower l : List ℕ) (front elements : List Element) (types : Kept (Option DataType))
+pub moved_gathered : (after : Option Found) (lower l : List ℕ) (front elements : List Element)
+    (types : Kept (Option DataType))
     (programs : List DeclaredProgram) (variables blocks externals : List (Kept ℕ)) (functions : List DeclaredFunction)
     (own : List (Kept ℕ)) (least : Option Found) → lower ≡ l → front ≡ elements →
-    IsGathered lower front types programs variables blocks externals functions own least →
-    IsGathered l elements types programs variables blocks externals functions own least
-moved_gathered lower l front elements types programs variables blocks externals functions own least e f h =
-    subst (λ (w : List ℕ). IsGathered w elements types programs variables blocks externals functions own least) e
-    (subst (λ (es : List Element). IsGathered lower es types programs variables blocks externals functions own least) f
+    IsGathered after lower front types programs variables blocks externals functions own least →
+    IsGathered after l elements types programs variables blocks externals functions own least
+moved_gathered after lower l front elements types programs variables blocks externals functions own least e f h =
+    subst (λ (w : List ℕ). IsGathered after w elements types programs variables blocks externals functions own least) e
+    (subst (λ (es : List Element). IsGathered after lower es types programs variables blocks externals functions own
+    least) f
     h)

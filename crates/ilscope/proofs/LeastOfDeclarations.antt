@@ -10,7 +10,7 @@ use Rattle.ilsource.specs.declared.source.Element.{Element}
 use Rattle.ilsource.specs.declared.source.Element.TheVariants.{DerivedType, Function, Program}
 use Rattle.ildeclared.specs.DataTypes.{TypeNames}
 use Rattle.ildeclared.specs.Declarations.{function_names, names_of}
-use Rattle.ildeclared.specs.Faults.{SomeOf, IsBadIn, IsLeast, IsLeastOf, IsUnknownTypeIn, IsFaultIn}
+use Rattle.ildeclared.specs.Faults.{SomeOf, IsBadIn, IsLeast, IsLeastOf, IsNextOf, IsUnknownTypeIn, IsFaultIn}
 use Rattle.ildeclared.specs.Globals.{as_variables}
 use Rattle.ildeclared.specs.Order.{lesser_of_two}
 use Rattle.ildeclared.specs.declared.fault.NameCause.{NameCause}
@@ -20,8 +20,8 @@ use Rattle.ildeclared.specs.declared.fault.NameCause.TheVariants.{WritesInput, N
 use Rattle.ildeclared.specs.declared.fault.NameFault.{NameFault}
 use Rattle.ildeclared.specs.declared.fault.NameFault.TheVariants.{Memory, At}
 use Rattle.ildeclared.specs.declared.found.Found.{Found}
-use Rattle.ildeclared.proofs.FoundOrder.{best_same, or_else}
-use Rattle.ildeclared.proofs.Least.{both_least}
+use Rattle.ildeclared.proofs.FoundOrder.{next_same, or_else}
+use Rattle.ildeclared.proofs.Least.{both_next}
 use Rattle.ilscope.specs.Configured.{declared_globals_of, types_of_text}
 use Rattle.ilscope.specs.Declarations.{Standing, declarations_in, standing, types_at}
 use Rattle.ilscope.specs.Faults.{IsFaultOfDeclarations, IsTwiceIn}
@@ -214,13 +214,14 @@ module _ (scoped : Scoped) where
       inr (inl (inl (some_of (λ d b. inr (refl, b)) (declared_globals_of tree) s)))
   are_found place BadDeclaration (inr s) = inr (inr (inl (inr (refl, s))))
 
-  pub all_declared : (found configured : Option Found) → IsLeastOf (IsFaultInTables tree) found →
-      IsLeastOf (IsFaultOfConfiguration scoped) configured → IsLeastOf IsFault (lesser_of_two found configured)
-  all_declared found configured h k =
-      best_same IsFound IsFault (lesser_of_two found configured)
+  pub all_declared : (after found configured : Option Found) → IsNextOf after (IsFaultInTables tree) found →
+      IsNextOf after (IsFaultOfConfiguration scoped) configured
+      → IsNextOf after IsFault (lesser_of_two found configured)
+  all_declared after found configured h k =
+      next_same after IsFound IsFault (lesser_of_two found configured)
       (λ place cause s. or_else (tables_are place cause) (configured_are place cause) s)
       are_found
-      (both_least (IsFaultInTables tree) (IsFaultOfConfiguration scoped) found configured h k)
+      (both_next after (IsFaultInTables tree) (IsFaultOfConfiguration scoped) found configured h k)
 
 pub reports_least : (text : List ℕ) (F : ℕ → NameCause → Type 0) (f : Found) (fault : NameFault)
     → IsLeast F f.at f.cause → IsReportOf text f fault →

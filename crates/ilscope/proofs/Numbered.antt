@@ -7,7 +7,7 @@ use Rattle.std.specs.Option.{option_or}
 use Rattle.std.proofs.lemmas.List.{get_or_default, length-map, length-take-le}
 use Rattle.std.proofs.lemmas.Slice.Eq.{bytes_eq-Decides}
 use Rattle.ilsource.specs.declared.name.Name.{Name}
-use Rattle.ildeclared.specs.Faults.{IsLeastOf, OfCause, SomeOf}
+use Rattle.ildeclared.specs.Faults.{IsNextOf, OfCause, SomeOf}
 use Rattle.ildeclared.specs.Kept.{Kept, KeepsToo}
 use Rattle.ildeclared.specs.Order.{lesser_of_two}
 use Rattle.ildeclared.specs.declared.fault.NameCause.TheVariants.{Twice}
@@ -95,13 +95,13 @@ module _ (spelled : Name → List ℕ) (ns : List Name) (i : ℕ) (d : Name) (be
 
 module _ (spelled : Name → List ℕ) (ns : List Name) (i : ℕ) (d : Name) (below : i < length ns) where
   -- the faults of names that are given again, with one name more
-  pub twice_more : (table : Kept ℕ) (a b : Option Found) →
+  pub twice_more : (after : Option Found) (table : Kept ℕ) (a b : Option Found) →
       ((key : List ℕ) → lookup (bytes_eq key) table ≡ first_at (bytes_eq key) (map spelled (take i ns))) →
-      IsLeastOf (OfCause Twice (IsTwiceIn spelled (take i ns))) a →
-      IsLeastOf (OfCause Twice
+      IsNextOf after (OfCause Twice (IsTwiceIn spelled (take i ns))) a →
+      IsNextOf after (OfCause Twice
       (λ place. IsSome (lookup (bytes_eq (spelled (get_or ns i d))) table) × (place ≡ (get_or ns i d).from))) b →
-      IsLeastOf (OfCause Twice (IsTwiceIn spelled (take (i + 1) ns))) (lesser_of_two a b)
-  twice_more table a b t h k =
+      IsNextOf after (OfCause Twice (IsTwiceIn spelled (take (i + 1) ns))) (lesser_of_two a b)
+  twice_more after table a b t h k =
       let x : Name = get_or ns i d in
       let front : List Name = take i ns in
       let to : IsSome (lookup (bytes_eq (spelled x)) table) → SomeOf (λ m. spelled m ≡ spelled x) front =
@@ -110,7 +110,8 @@ module _ (spelled : Name → List ℕ) (ns : List Name) (i : ℕ) (d : Name) (be
       let from : SomeOf (λ m. spelled m ≡ spelled x) front → IsSome (lookup (bytes_eq (spelled x)) table) =
       λ s. rw (t (spelled x)) (some_found spelled front (spelled x) s)
       in
-      subst (λ (ms : List Name). IsLeastOf (OfCause Twice (IsTwiceIn spelled ms)) (lesser_of_two a b))
+      subst (λ (ms : List Name). IsNextOf after (OfCause Twice (IsTwiceIn spelled ms)) (lesser_of_two a b))
       (sym (take_more ns i x below (get_or_default ns i d x below)))
-      (twice_last (λ m n. spelled m ≡ spelled n) (λ n. n.from) front x (IsSome (lookup (bytes_eq (spelled x)) table))
+      (twice_last after (λ m n. spelled m ≡ spelled n) (λ n. n.from) front x
+      (IsSome (lookup (bytes_eq (spelled x)) table))
       a b to from h k)

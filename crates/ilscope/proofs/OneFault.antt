@@ -37,7 +37,7 @@ cause_again BadDeclaration = refl
 same_cause : (a b : NameCause) → name_fault_number a ≡ name_fault_number b → a ≡ b
 same_cause a b e = sym (cause_again a) ∙ ap cause_of e ∙ cause_again b
 
--- each isn't after the other
+-- each is not after the other
 same_at : (p q : ℕ) (a b : NameCause) → IsNotAfter p a q b → IsNotAfter q b p a → (p ≡ q) × (a ≡ b)
 same_at p q a b (inl lt) (inl gt) = absurd (omega (arith, lt, gt))
 same_at p q a b (inl lt) (inr g) = absurd (omega (arith, lt, g.0))

@@ -15,14 +15,14 @@ use Rattle.ilsource.specs.declared.source.Element.{Element}
 use Rattle.ilsource.specs.declared.source.Element.TheVariants as elements
 use Rattle.ildeclared.specs.DataTypes.{TypeNames, declared_type, types_below}
 use Rattle.ildeclared.specs.Declarations.{function_names, names_of}
-use Rattle.ildeclared.specs.Faults.{IsLeastOf, OfCause, SomeOf, IsFaultIn}
+use Rattle.ildeclared.specs.Faults.{IsNextOf, OfCause, SomeOf, IsFaultIn}
 use Rattle.ildeclared.specs.Kept.{Kept, KeepsToo, types_in}
 use Rattle.ildeclared.specs.Order.{lesser_of_two}
 use Rattle.ildeclared.specs.declared.data_type.DataType.{DataType}
 use Rattle.ildeclared.specs.declared.fault.NameCause.TheVariants.{Twice}
 use Rattle.ildeclared.specs.declared.found.Found.{Found}
-use Rattle.ildeclared.proofs.FoundOrder.{best_same, or_else}
-use Rattle.ildeclared.proofs.Least.{both_least, some_append, some_front, some_last}
+use Rattle.ildeclared.proofs.FoundOrder.{next_same, or_else}
+use Rattle.ildeclared.proofs.Least.{both_next, some_append, some_front, some_last}
 use Rattle.ilscope.specs.Declarations.{DeclaredFunction, DeclaredProgram, Standing, declarations_in, declared_function}
 use Rattle.ilscope.specs.Declarations.{declared_program, standing, with_declared, with_inputs}
 use Rattle.ilscope.specs.Faults.{IsTwiceIn}
@@ -61,16 +61,17 @@ functions_counted spelled above (elements.Function function ∷ es) =
     omega (arith, h)
 
 module _ (spelled : Name → List ℕ) (front : List Element) (element : Element) where
-  faults_more : (least fault : Option Found) →
-      IsLeastOf (λ place cause. SomeOf (λ one. IsFaultOfElement spelled one place cause) (standing [] front)) least →
-      IsLeastOf (IsFaultOfElement spelled (last_of [] front element)) fault →
-      IsLeastOf (λ place cause. SomeOf (λ one. IsFaultOfElement spelled one place cause)
+  faults_more : (after least fault : Option Found) →
+      IsNextOf after (λ place cause. SomeOf (λ one. IsFaultOfElement spelled one place cause) (standing [] front))
+      least →
+      IsNextOf after (IsFaultOfElement spelled (last_of [] front element)) fault →
+      IsNextOf after (λ place cause. SomeOf (λ one. IsFaultOfElement spelled one place cause)
       (standing [] (front ++ element ∷ []))) (lesser_of_two least fault)
-  faults_more least fault h k =
-      subst (λ (all : List Standing). IsLeastOf
+  faults_more after least fault h k =
+      subst (λ (all : List Standing). IsNextOf after
       (λ place cause. SomeOf (λ one. IsFaultOfElement spelled one place cause) all) (lesser_of_two least fault))
       (sym (standing-last [] front element))
-      (best_same _ _ (lesser_of_two least fault)
+      (next_same after _ _ (lesser_of_two least fault)
       (λ place cause q.
       or_else (λ s. some_front (λ one. IsFaultOfElement spelled one place cause) (standing [] front)
       (last_of [] front element) s)
@@ -78,7 +79,7 @@ module _ (spelled : Name → List ℕ) (front : List Element) (element : Element
       p) q)
       (λ place cause s. some_append (λ one. IsFaultOfElement spelled one place cause) (standing [] front)
       (last_of [] front element) s)
-      (both_least (λ place cause. SomeOf (λ one. IsFaultOfElement spelled one place cause) (standing [] front))
+      (both_next after (λ place cause. SomeOf (λ one. IsFaultOfElement spelled one place cause) (standing [] front))
       (IsFaultOfElement spelled (last_of [] front element)) least fault h k))
 
   those_more : {X : Type 0} (f : Standing → Option X) → filter_map f (standing [] (front ++ element ∷ [])) ≡
@@ -108,24 +109,26 @@ declaration_of type =
     record { names = type.name ∷ []; declared = declared_as.Variables type.specification type.initial }
 
 -- what is gathered, with one type more
-pub type_added : (lower : List ℕ) (front : List Element) (types new : Kept (Option DataType))
+pub type_added : (after : Option Found) (lower : List ℕ) (front : List Element) (types new : Kept (Option DataType))
     (programs : List DeclaredProgram) (variables blocks externals : List (Kept ℕ)) (functions : List DeclaredFunction)
     (own : List (Kept ℕ)) (least fault : Option Found) (type : TypeDeclaration) (meaning : Option DataType) →
-    IsGathered lower front types programs variables blocks externals functions own least →
-    IsLeastOf (IsFaultIn (types_in lower types) (declaration_of type)) fault →
+    IsGathered after lower front types programs variables blocks externals functions own least →
+    IsNextOf after (IsFaultIn (types_in lower types) (declaration_of type)) fault →
     meaning ≡ declared_type (types_in lower types) type.specification type.initial →
     KeepsToo (text_of lower type.name) meaning types new →
-    IsGathered lower (front ++ elements.DerivedType type ∷ []) new programs variables blocks externals functions own
+    IsGathered after lower (front ++ elements.DerivedType type ∷ []) new programs variables blocks externals functions
+    own
     (lesser_of_two least fault)
-type_added lower front types new programs variables blocks externals functions own least fault type meaning h f m e =
+type_added after lower front types new programs variables blocks externals functions own least fault type meaning h f m
+    e =
     let spelled = text_of lower in
     let above : List TypeDeclaration = types_of (above_all [] front) in
     let same : types_in lower types ≡ types_below spelled above = λ i name. h.meant name i in
     let meant : meaning ≡ declared_type (types_below spelled above) type.specification type.initial =
     m ∙ ap (λ (t : TypeNames). declared_type t type.specification type.initial) same
     in
-    let one : IsLeastOf (IsFaultIn (types_below spelled above) (declaration_of type)) fault =
-    subst (λ (t : TypeNames). IsLeastOf (IsFaultIn t (declaration_of type)) fault) same f
+    let one : IsNextOf after (IsFaultIn (types_below spelled above) (declaration_of type)) fault =
+    subst (λ (t : TypeNames). IsNextOf after (IsFaultIn t (declaration_of type)) fault) same f
     in
     record {
       meant = λ name.
@@ -143,8 +146,8 @@ type_added lower front types new programs variables blocks externals functions o
           h.functions_declared ∙ same_those spelled front (elements.DerivedType type) (declared_function spelled) refl;
       own_numbered = h.own_numbered;
       fault =
-          faults_more spelled front (elements.DerivedType type) least fault h.fault
-          (best_same _ _ fault (λ place cause p. inr (inl p))
+          faults_more spelled front (elements.DerivedType type) after least fault h.fault
+          (next_same after _ _ fault (λ place cause p. inr (inl p))
           (λ place cause q. or_else (λ t. absurd t.1) (λ s. or_else (λ p. p) (λ no. absurd no) s) q) one);
     }
 
@@ -180,21 +183,23 @@ counted lower front functions e =
     omega (arith, n, h)
 
 -- what is gathered, with one program more
-pub program_added : (lower : List ℕ) (front : List Element) (types : Kept (Option DataType))
+pub program_added : (after : Option Found) (lower : List ℕ) (front : List Element) (types : Kept (Option DataType))
     (programs : List DeclaredProgram) (variables blocks externals : List (Kept ℕ)) (functions : List DeclaredFunction)
     (own : List (Kept ℕ)) (least twice fault : Option Found) (program : Written) (declared : DeclaredProgram)
     (its_variables its_blocks its_externals : Kept ℕ) →
-    IsGathered lower front types programs variables blocks externals functions own least →
+    IsGathered after lower front types programs variables blocks externals functions own least →
     declared ≡ with_declared (types_in lower types) (length functions) program →
     AreNumbersOf (text_of lower) (variable_names declared) its_variables →
     AreNumbersOf (text_of lower) (block_names declared) its_blocks →
     AreNumbersOf (text_of lower) (external_names declared) its_externals →
-    IsLeastOf (OfCause Twice (IsTwiceIn (text_of lower) (names_of program))) twice →
-    IsLeastOf (λ place cause. SomeOf (λ d. IsFaultIn (types_in lower types) d place cause) program.declarations) fault →
-    IsGathered lower (front ++ elements.Program program ∷ []) types (programs ++ declared ∷ [])
+    IsNextOf after (OfCause Twice (IsTwiceIn (text_of lower) (names_of program))) twice →
+    IsNextOf after (λ place cause. SomeOf (λ d. IsFaultIn (types_in lower types) d place cause) program.declarations)
+    fault →
+    IsGathered after lower (front ++ elements.Program program ∷ []) types (programs ++ declared ∷ [])
     (variables ++ its_variables ∷ []) (blocks ++ its_blocks ∷ []) (externals ++ its_externals ∷ []) functions own
     (lesser_of_two least (lesser_of_two twice fault))
-program_added lower front types programs variables blocks externals functions own least twice fault program declared
+program_added after lower front types programs variables blocks externals functions own least twice fault program
+    declared
     its_variables its_blocks its_externals h d n m o t f =
     let spelled = text_of lower in
     let above : List TypeDeclaration = types_of (above_all [] front) in
@@ -220,28 +225,29 @@ program_added lower front types programs variables blocks externals functions ow
           h.functions_declared ∙ same_those spelled front element (declared_function spelled) refl;
       own_numbered = h.own_numbered;
       fault =
-          faults_more spelled front element least (lesser_of_two twice fault) h.fault
-          (both_least (OfCause Twice (IsTwiceIn spelled (names_of program)))
+          faults_more spelled front element after least (lesser_of_two twice fault) h.fault
+          (both_next after (OfCause Twice (IsTwiceIn spelled (names_of program)))
           (λ place cause. SomeOf (λ d. IsFaultIn (types_below spelled above) d place cause) program.declarations) twice
           fault t
-          (subst (λ (names : TypeNames). IsLeastOf
+          (subst (λ (names : TypeNames). IsNextOf after
           (λ place cause. SomeOf (λ d. IsFaultIn names d place cause) program.declarations) fault) same f));
     }
 
 -- what is gathered, with one function more
-pub function_added : (lower : List ℕ) (front : List Element) (types : Kept (Option DataType))
+pub function_added : (after : Option Found) (lower : List ℕ) (front : List Element) (types : Kept (Option DataType))
     (programs : List DeclaredProgram) (variables blocks externals : List (Kept ℕ)) (functions : List DeclaredFunction)
     (own : List (Kept ℕ)) (least twice fault : Option Found) (function : WrittenFunction) (declared : DeclaredFunction)
     (its : Kept ℕ) →
-    IsGathered lower front types programs variables blocks externals functions own least →
+    IsGathered after lower front types programs variables blocks externals functions own least →
     declared ≡ with_inputs (types_in lower types) (length functions) function →
     AreNumbersOf (text_of lower) (names_of_function declared) its →
-    IsLeastOf (OfCause Twice (IsTwiceIn (text_of lower) (function_names function))) twice →
-    IsLeastOf (λ place cause. SomeOf (λ d. IsFaultIn (types_in lower types) d place cause)
+    IsNextOf after (OfCause Twice (IsTwiceIn (text_of lower) (function_names function))) twice →
+    IsNextOf after (λ place cause. SomeOf (λ d. IsFaultIn (types_in lower types) d place cause)
     (declarations_in (elements.Function function))) fault →
-    IsGathered lower (front ++ elements.Function function ∷ []) types programs variables blocks externals
+    IsGathered after lower (front ++ elements.Function function ∷ []) types programs variables blocks externals
     (functions ++ declared ∷ []) (own ++ its ∷ []) (lesser_of_two least (lesser_of_two twice fault))
-function_added lower front types programs variables blocks externals functions own least twice fault function declared
+function_added after lower front types programs variables blocks externals functions own least twice fault function
+    declared
     its h d n t f =
     let spelled = text_of lower in
     let above : List TypeDeclaration = types_of (above_all [] front) in
@@ -264,10 +270,10 @@ function_added lower front types programs variables blocks externals functions o
           (ap Some (sym is));
       own_numbered = numbers_last spelled names_of_function functions own declared its h.own_numbered n;
       fault =
-          faults_more spelled front element least (lesser_of_two twice fault) h.fault
-          (both_least (OfCause Twice (IsTwiceIn spelled (function_names function)))
+          faults_more spelled front element after least (lesser_of_two twice fault) h.fault
+          (both_next after (OfCause Twice (IsTwiceIn spelled (function_names function)))
           (λ place cause. SomeOf (λ d. IsFaultIn (types_below spelled above) d place cause) (declarations_in element))
           twice fault t
-          (subst (λ (names : TypeNames). IsLeastOf
+          (subst (λ (names : TypeNames). IsNextOf after
           (λ place cause. SomeOf (λ d. IsFaultIn names d place cause) (declarations_in element)) fault) same f));
     }

@@ -10,7 +10,7 @@ use Rattle.ilsource.specs.declared.source.Element.{Element}
 use Rattle.ilsource.specs.declared.source.Element.TheVariants.{DerivedType, Function, Program}
 use Rattle.ildeclared.specs.DataTypes.{types_below}
 use Rattle.ildeclared.specs.Declarations.{function_names, names_of}
-use Rattle.ildeclared.specs.Faults.{IsAddressTwice, IsFaultIn, IsLeastOf, OfCause, SomeOf}
+use Rattle.ildeclared.specs.Faults.{IsAddressTwice, IsFaultIn, IsNextOf, OfCause, SomeOf}
 use Rattle.ildeclared.specs.Globals.{as_variables}
 use Rattle.ildeclared.specs.Kept.{Kept, types_in}
 use Rattle.ildeclared.specs.declared.data_type.DataType.{DataType}
@@ -77,8 +77,8 @@ above_all above (element ∷ more) = above_all (element ∷ above) more
 
 -- what is gathered from the elements up to a place: what the types mean, the programs and functions with what they
 -- declare, for each program the numbers of its variables, block instances and externals, for each function those of its
--- variables, and the least fault
-pub record IsGathered (lower : List ℕ) (front : List Element) (types : Kept (Option DataType))
+-- variables, and the least fault that comes after another
+pub record IsGathered (after : Option Found) (lower : List ℕ) (front : List Element) (types : Kept (Option DataType))
     (programs : List DeclaredProgram) (variables blocks externals : List (Kept ℕ)) (functions : List DeclaredFunction)
     (own : List (Kept ℕ)) (least : Option Found) : Type 0 where
   pub meant : (name : Name)
@@ -89,7 +89,7 @@ pub record IsGathered (lower : List ℕ) (front : List Element) (types : Kept (O
   pub externals_numbered : AreAllNumbers (text_of lower) external_names programs externals
   pub functions_declared : functions ≡ filter_map (declared_function (text_of lower)) (standing [] front)
   pub own_numbered : AreAllNumbers (text_of lower) names_of_function functions own
-  pub fault : IsLeastOf
+  pub fault : IsNextOf after
       (λ place cause. SomeOf (λ one. IsFaultOfElement (text_of lower) one place cause) (standing [] front)) least
 
 -- what is kept of a text: the text in lower case, what its types mean, the programs and functions with what they

@@ -19,7 +19,7 @@ use wordlines::Binding;
 
 impl<'a> Tables<'a> {
     ghost use Rattle.std.specs.Prelude.{◌≡◌, ◌⊎◌, IfOk};
-    ghost use Rattle.ildeclared.specs.Faults.{IsLeastOf, OfCause};
+    ghost use Rattle.ildeclared.specs.Faults.{IsNextOf, OfCause};
     ghost use Rattle.ildeclared.specs.declared.fault.NameCause.TheVariants.{BadAddress, Unknown};
     ghost use Rattle.ildeclared.specs.declared.fault.NameCause.TheVariants.{BadDeclaration, Twice};
     ghost use Rattle.ilscope.specs.Configured.{addresses_of};
@@ -28,52 +28,67 @@ impl<'a> Tables<'a> {
     ghost use Rattle.ilscope.specs.ScopeSteps.{IsFaultOfConfiguration, IsFaultOfInput};
     ghost use Rattle.ilscope.specs.ScopeSteps.{IsTwiceInConfiguration, IsUnknownNamed};
 
-    /// The least fault of the configuration, with located variables looked up in `binding`.
+    /// The next fault after `after` of the configuration, with located variables looked up in
+    /// `binding`.
     pub(crate) fn fault_of_configuration(
         &self,
         alloc: Global,
         binding: &Binding,
+        after: Option<Found>,
     ) -> Result<Option<Found>, AllocError>
-        ensures { IfOk result (λ least. IsLeastOf
+        ensures { IfOk result (λ least. IsNextOf after
             (IsFaultOfConfiguration (record { tree = self.now; wiring = binding.now })) least) }
     {
-        let declared = lesser_of(self.fault_in_globals(), self.unknown_name());
-        let stated = lesser_of(self.given_twice(alloc)?, self.bad_declaration());
-        let located = lesser_of(self.bad_address(alloc, binding)?, self.fault_of_input());
-        let lacking = without_task(instances_of(self.source));
+        let declared = lesser_of(self.fault_in_globals(after), self.unknown_name(after));
+        let stated = lesser_of(self.given_twice(alloc, after)?, self.bad_declaration(after));
+        let located = lesser_of(
+            self.bad_address(alloc, binding, after)?,
+            self.fault_of_input(after),
+        );
+        let lacking = without_task(instances_of(self.source), after);
         let rest = lesser_of(stated, lesser_of(located, lacking));
         Ok(lesser_of(declared, rest))
     }
 
-    /// The least fault of what global variables are declared as.
-    fn fault_in_globals(&self) -> Option<Found>
-        ensures { IsLeastOf (IsFaultInGlobals self.now) result }
+    /// The next fault after `after` of what global variables are declared as.
+    fn fault_in_globals(&self, after: Option<Found>) -> Option<Found>
+        ensures { IsNextOf after (IsFaultInGlobals self.now) result }
     {
-        fault_of_globals(&self.lower, &self.types, declared_globals(self.source))
+        fault_of_globals(
+            &self.lower,
+            &self.types,
+            declared_globals(self.source),
+            after,
+        )
     }
 
-    /// The first name of a global variable, a task or a program that there is not.
-    fn unknown_name(&self) -> Option<Found>
-        ensures { IsLeastOf (OfCause Unknown (IsUnknownNamed self.now)) result }
+    /// The next name of a global variable, a task or a program that there is not.
+    fn unknown_name(&self, after: Option<Found>) -> Option<Found>
+        ensures { IsNextOf after (OfCause Unknown (IsUnknownNamed self.now)) result }
     {
         let lower = self.lower.as_slice();
         let instances = instances_of(self.source);
-        let external = unknown_externals(lower, &self.global_numbers, self.programs.as_slice());
-        let trigger = unknown_triggers(lower, &self.global_numbers, tasks_of(self.source));
-        let task = unknown_tasks(lower, &self.task_numbers, instances);
-        let program = unknown_programs(lower, &self.program_numbers, instances);
+        let external = unknown_externals(
+            lower,
+            &self.global_numbers,
+            self.programs.as_slice(),
+            after,
+        );
+        let trigger = unknown_triggers(lower, &self.global_numbers, tasks_of(self.source), after);
+        let task = unknown_tasks(lower, &self.task_numbers, instances, after);
+        let program = unknown_programs(lower, &self.program_numbers, instances, after);
         lesser_of(external, lesser_of(trigger, lesser_of(task, program)))
     }
 
-    /// The first program instance or address that is given again.
-    fn given_twice(&self, alloc: Global) -> Result<Option<Found>, AllocError>
+    /// The next program instance or address that is given again.
+    fn given_twice(&self, alloc: Global, after: Option<Found>) -> Result<Option<Found>, AllocError>
         ensures { IfOk result (λ least.
-            IsLeastOf (OfCause Twice (IsTwiceInConfiguration self.now)) least) }
+            IsNextOf after (OfCause Twice (IsTwiceInConfiguration self.now)) least) }
     {
         let names = instance_names(alloc, instances_of(self.source))?;
-        let (_, instance) = numbers_of(alloc, self.lower.as_slice(), names.as_slice())?;
+        let (_, instance) = numbers_of(alloc, self.lower.as_slice(), names.as_slice(), after)?;
         let addresses = self.addresses(alloc)?;
-        let address = twice_addresses(alloc, addresses.as_slice())?;
+        let address = twice_addresses(alloc, addresses.as_slice(), after)?;
         Ok(lesser_of(instance, address))
     }
 
@@ -84,10 +99,10 @@ impl<'a> Tables<'a> {
         addresses_of(alloc, self.globals.as_slice())
     }
 
-    /// The first external of another type, variable that does not fit its address, bad task, or
+    /// The next external of another type, variable that does not fit its address, bad task, or
     /// function without an input or with a block instance.
-    fn bad_declaration(&self) -> Option<Found>
-        ensures { IsLeastOf (OfCause BadDeclaration (IsBadInConfiguration self.now)) result }
+    fn bad_declaration(&self, after: Option<Found>) -> Option<Found>
+        ensures { IsNextOf after (OfCause BadDeclaration (IsBadInConfiguration self.now)) result }
     {
         let lower = self.lower.as_slice();
         let external = other_externals(
@@ -95,35 +110,42 @@ impl<'a> Tables<'a> {
             &self.global_numbers,
             self.value_types.as_slice(),
             self.programs.as_slice(),
+            after,
         );
-        let located = badly_located(lower, &self.types, declared_globals(self.source));
-        let task = bad_tasks(tasks_of(self.source));
-        let function = bad_functions(self.functions.as_slice());
+        let located = badly_located(lower, &self.types, declared_globals(self.source), after);
+        let task = bad_tasks(tasks_of(self.source), after);
+        let function = bad_functions(self.functions.as_slice(), after);
         lesser_of(external, lesser_of(located, lesser_of(task, function)))
     }
 
-    /// The first address that is not there, or SINGLE on a variable that is no trigger.
-    fn bad_address(&self, alloc: Global, binding: &Binding) -> Result<Option<Found>, AllocError>
-        ensures { IfOk result (λ least. IsLeastOf (OfCause BadAddress
+    /// The next address that is not there, or SINGLE on a variable that is no trigger.
+    fn bad_address(
+        &self,
+        alloc: Global,
+        binding: &Binding,
+        after: Option<Found>,
+    ) -> Result<Option<Found>, AllocError>
+        ensures { IfOk result (λ least. IsNextOf after (OfCause BadAddress
             (λ at. IsBadAddress self.now binding.now at ⊎ IsNoTrigger self.now at)) least) }
     {
         let addresses = self.addresses(alloc)?;
-        let address = bad_addresses(binding, addresses.as_slice());
+        let address = bad_addresses(binding, addresses.as_slice(), after);
         let trigger = no_triggers(
             self.lower.as_slice(),
             &self.global_numbers,
             self.globals.as_slice(),
             tasks_of(self.source),
+            after,
         );
         Ok(lesser_of(address, trigger))
     }
 
-    /// The first input whose variable lacks values of it or is given an initial value.
-    fn fault_of_input(&self) -> Option<Found>
-        ensures { IsLeastOf (IsFaultOfInput self.now) result }
+    /// The next input whose variable lacks values of it or is given an initial value.
+    fn fault_of_input(&self, after: Option<Found>) -> Option<Found>
+        ensures { IsNextOf after (IsFaultOfInput self.now) result }
     {
         let globals = declared_globals(self.source);
-        let small = inputs_too_small(self.lower.as_slice(), &self.types, globals);
-        lesser_of(small, inputs_given(globals))
+        let small = inputs_too_small(self.lower.as_slice(), &self.types, globals, after);
+        lesser_of(small, inputs_given(globals, after))
     }
 }

@@ -10,7 +10,7 @@ use iltypes::IlType;
 use std::alloc::{AllocError, Global};
 
 /// The global variables with their value types, the numbers of global variables and tasks, and the
-/// least fault of a name of these that is given again.
+/// next fault of a name of these that is given again.
 #[derive(Drop)]
 pub(crate) struct ConfigurationTables {
     pub(crate) globals: Vec<DeclaredGlobal>,
@@ -23,7 +23,7 @@ pub(crate) struct ConfigurationTables {
 impl ConfigurationTables {
     ghost use Rattle.std.specs.Prelude.{◌≡◌, IfOk, flat_map, map};
     ghost use Rattle.ilsource.specs.Names.{text_of};
-    ghost use Rattle.ildeclared.specs.Faults.{IsLeastOf, OfCause};
+    ghost use Rattle.ildeclared.specs.Faults.{IsNextOf, OfCause};
     ghost use Rattle.ildeclared.specs.Globals.{globals_in, value_types_in};
     ghost use Rattle.ildeclared.specs.Kept.{types_in};
     ghost use Rattle.ildeclared.specs.declared.fault.NameCause.TheVariants.{Twice};
@@ -37,6 +37,7 @@ impl ConfigurationTables {
         lower: &[u8],
         types: &DeclaredTypes,
         source: &Source,
+        after: Option<Found>,
     ) -> Result<ConfigurationTables, AllocError>
         ensures globals { IfOk result (λ tables. tables.globals.items
             ≡ flat_map (globals_in (types_in lower.now types.now))
@@ -48,15 +49,15 @@ impl ConfigurationTables {
             (map (λ g. g.name) tables.globals.items) tables.global_numbers) }
         ensures task_numbers { IfOk result (λ tables. AreNumbersOf (text_of lower.now)
             (map (λ t. t.name) (task_declarations source.now)) tables.task_numbers) }
-        ensures twice { IfOk result (λ tables. IsLeastOf (OfCause Twice
+        ensures twice { IfOk result (λ tables. IsNextOf after (OfCause Twice
             (IsGlobalOrTaskTwice (text_of lower.now) tables.globals.items
             (task_declarations source.now))) tables.configured_twice) }
     {
         let declared = declared_globals(source);
         let globals = globals_of(alloc, lower, types, declared)?;
         let value_types = value_types_of(alloc, lower, types, declared)?;
-        let (global_numbers, globals_twice) = numbers_of_globals(alloc, lower, &globals)?;
-        let (task_numbers, tasks_twice) = numbers_of_tasks(alloc, lower, source)?;
+        let (global_numbers, globals_twice) = numbers_of_globals(alloc, lower, &globals, after)?;
+        let (task_numbers, tasks_twice) = numbers_of_tasks(alloc, lower, source, after)?;
         let configured_twice = lesser_of(globals_twice, tasks_twice);
         Ok(ConfigurationTables {
             globals,

@@ -7,7 +7,7 @@ use ilsource::Element;
 use std::alloc::{AllocError, Global};
 
 /// What is gathered from all elements of a text, the numbers of its programs and of its functions,
-/// and the least fault of a name of a type, a function or a program that is given again.
+/// and the next fault of a name of a type, a function or a program that is given again.
 #[derive(Drop)]
 pub(crate) struct ElementTables<'a> {
     pub(crate) gathering: Gathering<'a>,
@@ -19,7 +19,7 @@ pub(crate) struct ElementTables<'a> {
 impl<'a> ElementTables<'a> {
     ghost use Rattle.std.specs.Prelude.{IfOk, map};
     ghost use Rattle.ilsource.specs.Names.{text_of};
-    ghost use Rattle.ildeclared.specs.Faults.{IsLeastOf, OfCause};
+    ghost use Rattle.ildeclared.specs.Faults.{IsNextOf, OfCause};
     ghost use Rattle.ildeclared.specs.declared.fault.NameCause.TheVariants.{Twice};
     ghost use Rattle.ilscope.specs.Declarations.{name_of};
     ghost use Rattle.ilscope.specs.Faults.{IsTwiceIn};
@@ -30,8 +30,9 @@ impl<'a> ElementTables<'a> {
         alloc: Global,
         lower: &[u8],
         elements: &'a [Element],
+        after: Option<Found>,
     ) -> Result<ElementTables<'a>, AllocError>
-        ensures gathered { IfOk result (λ tables. IsGathered lower.now elements.now
+        ensures gathered { IfOk result (λ tables. IsGathered after lower.now elements.now
             tables.gathering.types tables.gathering.programs.items
             tables.gathering.variable_numbers.items tables.gathering.block_numbers.items
             tables.gathering.external_numbers.items tables.gathering.functions.items
@@ -41,11 +42,11 @@ impl<'a> ElementTables<'a> {
         ensures functions { IfOk result (λ tables. AreNumbersOf (text_of lower.now)
             (map (λ f. f.function.name) tables.gathering.functions.items)
             tables.function_numbers) }
-        ensures twice { IfOk result (λ tables. IsLeastOf (OfCause Twice
+        ensures twice { IfOk result (λ tables. IsNextOf after (OfCause Twice
             (IsTwiceIn (text_of lower.now) (map name_of elements.now))) tables.element_twice) }
     {
-        let element_twice = element_given_twice(alloc, lower, elements)?;
-        let gathering = Gathering::of(alloc, lower, elements)?;
+        let element_twice = element_given_twice(alloc, lower, elements, after)?;
+        let gathering = Gathering::of(alloc, lower, elements, after)?;
         let program_numbers = numbers_of_programs(alloc, lower, &gathering.programs)?;
         let function_numbers = numbers_of_functions(alloc, lower, &gathering.functions)?;
         Ok(ElementTables {

@@ -2,7 +2,7 @@
 
 ghost use Rattle.std.specs.Prelude.{◌≡◌, IfOk};
 ghost use Rattle.ildeclared.specs.Declarations.{function_names};
-ghost use Rattle.ildeclared.specs.Faults.{IsLeastOf, OfCause};
+ghost use Rattle.ildeclared.specs.Faults.{IsNextOf, OfCause};
 ghost use Rattle.ildeclared.specs.Kept.{types_in};
 ghost use Rattle.ildeclared.specs.declared.fault.NameCause.TheVariants.{Twice};
 ghost use Rattle.ilsource.specs.Names.{text_of};
@@ -15,8 +15,8 @@ use ildeclared::{DeclaredTypes, Found, Names, function_names, inputs_of, own_var
 use ilsource::SourceFunction;
 use std::alloc::{AllocError, Global};
 
-/// A function with what it declares, the numbers of its variables, and the least fault of a name of
-/// these that is given again.
+/// A function with what it declares, the numbers of its variables, and a fault of a name of these
+/// that is given again.
 #[derive(Drop)]
 pub(crate) struct FunctionTables<'a> {
     pub(crate) scope: FunctionScope<'a>,
@@ -35,16 +35,17 @@ impl<'a> FunctionTables<'a> {
         types: &DeclaredTypes,
         functions: usize,
         function: &'a SourceFunction,
+        after: Option<Found>,
     ) -> Result<FunctionTables<'a>, AllocError>
         ensures scope { IfOk result (λ tables.
             tables.scope ≡ with_inputs (types_in lower.now types.now) functions function.now) }
         ensures own { IfOk result (λ tables. AreNumbersOf (text_of lower.now)
             (names_of_function tables.scope) tables.own_numbers) }
-        ensures twice { IfOk result (λ tables. IsLeastOf
+        ensures twice { IfOk result (λ tables. IsNextOf after
             (OfCause Twice (IsTwiceIn (text_of lower.now) (function_names function.now)))
             tables.twice) }
     {
-        let twice = own_name_given_twice(alloc, lower, function)?;
+        let twice = own_name_given_twice(alloc, lower, function, after)?;
         let inputs = inputs_of(alloc, lower, types, function)?;
         let variables = own_variables_of(alloc, lower, types, function)?;
         let own_numbers = numbers_of_own(alloc, lower, &inputs, &variables)?;
@@ -56,17 +57,19 @@ impl<'a> FunctionTables<'a> {
     }
 }
 
-/// The least fault of a name that a function gives again: its own, or that of an input or of a
-/// variable of its VAR.
+/// The next fault after `after` of a name that a function gives again: its own, or that of an input
+/// or of a variable of its VAR.
 fn own_name_given_twice(
     alloc: Global,
     lower: &[u8],
     function: &SourceFunction,
+    after: Option<Found>,
 ) -> Result<Option<Found>, AllocError>
     ensures { IfOk result
-        (IsLeastOf (OfCause Twice (IsTwiceIn (text_of lower.now) (function_names function.now)))) }
+        (IsNextOf after
+        (OfCause Twice (IsTwiceIn (text_of lower.now) (function_names function.now)))) }
 {
     let names = function_names(alloc, function)?;
-    let (_, twice) = numbers_of(alloc, lower, &names)?;
+    let (_, twice) = numbers_of(alloc, lower, &names, after)?;
     Ok(twice)
 }

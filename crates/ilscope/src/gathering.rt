@@ -3,7 +3,7 @@
 ghost use Rattle.std.specs.Prelude.{◌≡◌, ◌++◌, [], ◌∷◌, List, IfOk, OnOk, map};
 ghost use Rattle.ilsource.specs.declared.source.Element.{Element};
 ghost use Rattle.ilsource.specs.declared.source.Element.TheVariants as elements;
-ghost use Rattle.ildeclared.specs.Faults.{IsFaultIn, IsLeastOf, SomeOf};
+ghost use Rattle.ildeclared.specs.Faults.{IsFaultIn, IsNextOf, SomeOf};
 ghost use Rattle.ildeclared.specs.Kept.{types_in};
 ghost use Rattle.ilscope.specs.Declarations.{declarations_in, name_of};
 ghost use Rattle.ilscope.specs.ScopeSteps.{IsGathered};
@@ -52,8 +52,9 @@ impl<'a> Gathering<'a> {
         alloc: Global,
         lower: &[u8],
         elements: &'a [Element],
+        after: Option<Found>,
     ) -> Result<Gathering<'a>, AllocError>
-        ensures { IfOk result (λ g. IsGathered lower.now elements.now g.types g.programs.items
+        ensures { IfOk result (λ g. IsGathered after lower.now elements.now g.types g.programs.items
             g.variable_numbers.items g.block_numbers.items g.external_numbers.items
             g.functions.items g.own_numbers.items g.least) }
     {
@@ -68,7 +69,7 @@ impl<'a> Gathering<'a> {
             least: None,
         };
         for element in elements {
-            gathering.add(alloc, lower, element)?;
+            gathering.add(alloc, lower, element, after)?;
         }
         Ok(gathering)
     }
@@ -118,23 +119,29 @@ impl<'a> Gathering<'a> {
     }
 
     /// Adds the next element.
-    fn add(&mut self, alloc: Global, lower: &[u8], element: &'a Element) -> Result<(), AllocError>
+    fn add(
+        &mut self,
+        alloc: Global,
+        lower: &[u8],
+        element: &'a Element,
+        after: Option<Found>,
+    ) -> Result<(), AllocError>
         ensures { OnOk result ((front : List Element)
-            → IsGathered lower.now front
+            → IsGathered after lower.now front
             self.old.types self.old.programs.items
             self.old.variable_numbers.items self.old.block_numbers.items
             self.old.external_numbers.items self.old.functions.items
             self.old.own_numbers.items self.old.least
-            → IsGathered lower.now (front ++ element.now ∷ [])
+            → IsGathered after lower.now (front ++ element.now ∷ [])
             self.new.types self.new.programs.items
             self.new.variable_numbers.items self.new.block_numbers.items
             self.new.external_numbers.items self.new.functions.items
             self.new.own_numbers.items self.new.least) }
     {
         match element {
-            Element::DerivedType(declared) => self.add_type(alloc, lower, *declared),
-            Element::Function(function) => self.add_function(alloc, lower, function),
-            Element::Program(program) => self.add_program(alloc, lower, program),
+            Element::DerivedType(declared) => self.add_type(alloc, lower, *declared, after),
+            Element::Function(function) => self.add_function(alloc, lower, function, after),
+            Element::Program(program) => self.add_program(alloc, lower, program, after),
         }
     }
 
@@ -144,14 +151,15 @@ impl<'a> Gathering<'a> {
         alloc: Global,
         lower: &[u8],
         declared: TypeDeclaration,
+        after: Option<Found>,
     ) -> Result<(), AllocError>
         ensures { OnOk result ((front : List Element)
-            → IsGathered lower.now front
+            → IsGathered after lower.now front
             self.old.types self.old.programs.items
             self.old.variable_numbers.items self.old.block_numbers.items
             self.old.external_numbers.items self.old.functions.items
             self.old.own_numbers.items self.old.least
-            → IsGathered lower.now (front ++ elements.DerivedType declared ∷ [])
+            → IsGathered after lower.now (front ++ elements.DerivedType declared ∷ [])
             self.new.types self.new.programs.items
             self.new.variable_numbers.items self.new.block_numbers.items
             self.new.external_numbers.items self.new.functions.items
@@ -166,7 +174,7 @@ impl<'a> Gathering<'a> {
             specification,
             initial,
         };
-        let fault = fault_of(lower, &self.types, &[name], declared);
+        let fault = fault_of(lower, &self.types, &[name], declared, after);
         let meaning = declared_type(lower, &self.types, specification, initial);
         self.types.add(alloc, name.text(lower), meaning)?;
         self.least = lesser_of(self.least, fault);
@@ -179,22 +187,23 @@ impl<'a> Gathering<'a> {
         alloc: Global,
         lower: &[u8],
         function: &'a SourceFunction,
+        after: Option<Found>,
     ) -> Result<(), AllocError>
         ensures { OnOk result ((front : List Element)
-            → IsGathered lower.now front
+            → IsGathered after lower.now front
             self.old.types self.old.programs.items
             self.old.variable_numbers.items self.old.block_numbers.items
             self.old.external_numbers.items self.old.functions.items
             self.old.own_numbers.items self.old.least
-            → IsGathered lower.now (front ++ elements.Function function.now ∷ [])
+            → IsGathered after lower.now (front ++ elements.Function function.now ∷ [])
             self.new.types self.new.programs.items
             self.new.variable_numbers.items self.new.block_numbers.items
             self.new.external_numbers.items self.new.functions.items
             self.new.own_numbers.items self.new.least) }
     {
         let above = self.functions.len();
-        let tables = FunctionTables::of(alloc, lower, &self.types, above, function)?;
-        let fault = fault_of_function(lower, &self.types, function);
+        let tables = FunctionTables::of(alloc, lower, &self.types, above, function, after)?;
+        let fault = fault_of_function(lower, &self.types, function, after);
         let FunctionTables {
             scope,
             own_numbers,
@@ -212,22 +221,23 @@ impl<'a> Gathering<'a> {
         alloc: Global,
         lower: &[u8],
         program: &'a Program,
+        after: Option<Found>,
     ) -> Result<(), AllocError>
         ensures { OnOk result ((front : List Element)
-            → IsGathered lower.now front
+            → IsGathered after lower.now front
             self.old.types self.old.programs.items
             self.old.variable_numbers.items self.old.block_numbers.items
             self.old.external_numbers.items self.old.functions.items
             self.old.own_numbers.items self.old.least
-            → IsGathered lower.now (front ++ elements.Program program.now ∷ [])
+            → IsGathered after lower.now (front ++ elements.Program program.now ∷ [])
             self.new.types self.new.programs.items
             self.new.variable_numbers.items self.new.block_numbers.items
             self.new.external_numbers.items self.new.functions.items
             self.new.own_numbers.items self.new.least) }
     {
         let above = self.functions.len();
-        let tables = ProgramTables::of(alloc, lower, &self.types, above, program)?;
-        let fault = fault_of_all(lower, &self.types, program.declarations());
+        let tables = ProgramTables::of(alloc, lower, &self.types, above, program, after)?;
+        let fault = fault_of_all(lower, &self.types, program.declarations(), after);
         let ProgramTables {
             scope,
             variable_numbers,
@@ -249,21 +259,22 @@ impl<'a> Gathering<'a> {
     }
 }
 
-/// The least fault of what a function declares below these types: of its result, its inputs or its
-/// VAR. `lower` is the text in lower case.
+/// The next fault after `after` of what a function declares below these types: of its result, its
+/// inputs or its VAR. `lower` is the text in lower case.
 fn fault_of_function(
     lower: &[u8],
     types: &DeclaredTypes,
     function: &SourceFunction,
+    after: Option<Found>,
 ) -> Option<Found>
-    ensures { IsLeastOf (λ place cause. SomeOf
+    ensures { IsNextOf after (λ place cause. SomeOf
         (λ d. IsFaultIn (types_in lower.now types.now) d place cause)
         (declarations_in (elements.Function function.now))) result }
 {
-    let inputs = fault_of_all(lower, types, function.inputs());
-    let variables = fault_of_all(lower, types, function.variables());
+    let inputs = fault_of_all(lower, types, function.inputs(), after);
+    let variables = fault_of_all(lower, types, function.variables(), after);
     lesser_of(
-        fault_of_result(lower, types, function),
+        fault_of_result(lower, types, function, after),
         lesser_of(inputs, variables),
     )
 }

@@ -5,7 +5,7 @@ ghost use Rattle.std.specs.Prelude.{map};
 ghost use Rattle.std.specs.Map.{lookup};
 ghost use Rattle.ilsource.specs.Names.{text_of};
 ghost use Rattle.ildeclared.specs.Declarations.{names_of};
-ghost use Rattle.ildeclared.specs.Faults.{IsLeastOf, OfCause};
+ghost use Rattle.ildeclared.specs.Faults.{IsNextOf, OfCause};
 ghost use Rattle.ildeclared.specs.Kept.{KeepsToo};
 ghost use Rattle.ildeclared.specs.declared.fault.NameCause.TheVariants.{Twice};
 ghost use Rattle.ilscope.specs.Configured.{task_declarations};
@@ -19,27 +19,28 @@ use crate::gathering::element_names;
 use crate::program_scope::ProgramScope;
 use ildeclared::{
     DeclaredBlock, DeclaredExternal, DeclaredGlobal, DeclaredVariable, Found, NameCause, Names,
-    block_names, external_names, global_names, lesser_of, names_of, variable_names,
+    block_names, external_names, found_where, global_names, lesser_of, names_of, variable_names,
 };
 use ilsource::{Element, Name, Program, Source};
 use std::alloc::{AllocError, Global};
 
-/// Under each name the number of the first that is spelled alike, and the least fault of a name
-/// that is given again. `lower` is the text in lower case.
+/// Under each name the number of the first that is spelled alike, and the next fault after `after`
+/// of a name that is given again. `lower` is the text in lower case.
 pub(crate) fn numbers_of(
     alloc: Global,
     lower: &[u8],
     names: &[Name],
+    after: Option<Found>,
 ) -> Result<(Names<usize>, Option<Found>), AllocError>
     ensures numbers { IfOk result (λ r. (key : List ℕ)
         → lookup (bytes_eq key) r.0 ≡ first_at (bytes_eq key) (map (text_of lower.now) names.now)) }
     ensures twice { IfOk result (λ r.
-        IsLeastOf (OfCause Twice (IsTwiceIn (text_of lower.now) names.now)) r.1) }
+        IsNextOf after (OfCause Twice (IsTwiceIn (text_of lower.now) names.now)) r.1) }
 {
     let mut numbers = Names::new(alloc);
     let mut least = None;
     for (number, name) in names.iter().enumerate() {
-        let again = add_name(alloc, lower, &mut numbers, *name, number)?;
+        let again = add_name(alloc, lower, &mut numbers, *name, number, after)?;
         least = lesser_of(least, again);
     }
     Ok((numbers, least))
@@ -52,66 +53,67 @@ fn add_name(
     numbers: &mut Names<usize>,
     name: Name,
     number: usize,
+    after: Option<Found>,
 ) -> Result<Option<Found>, AllocError>
     ensures numbers { OnOk result
         (KeepsToo (text_of lower.now name) number numbers.old numbers.new) }
-    ensures twice { IfOk result (λ again. IsLeastOf (OfCause Twice (λ place.
+    ensures twice { IfOk result (λ again. IsNextOf after (OfCause Twice (λ place.
         IsSome (lookup (bytes_eq (text_of lower.now name)) numbers.old) × (place ≡ name.from)))
         again) }
 {
-    if numbers.add(alloc, name.text(lower), number)? {
-        return Ok(None);
-    }
-    Ok(Some(Found {
-        at: name.from,
-        cause: NameCause::Twice,
-    }))
+    let is_new = numbers.add(alloc, name.text(lower), number)?;
+    Ok(found_where(!is_new, name.from, NameCause::Twice, after))
 }
 
-/// The least fault of a name of a type, a function or a program that is given again.
+/// The next fault after `after` of a name of a type, a function or a program that is given again.
 pub(crate) fn element_given_twice(
     alloc: Global,
     lower: &[u8],
     elements: &[Element],
+    after: Option<Found>,
 ) -> Result<Option<Found>, AllocError>
     ensures { IfOk result
-        (IsLeastOf (OfCause Twice (IsTwiceIn (text_of lower.now) (map name_of elements.now)))) }
+        (IsNextOf after
+        (OfCause Twice (IsTwiceIn (text_of lower.now) (map name_of elements.now)))) }
 {
     let names = element_names(alloc, elements)?;
-    let (_, twice) = numbers_of(alloc, lower, &names)?;
+    let (_, twice) = numbers_of(alloc, lower, &names, after)?;
     Ok(twice)
 }
 
-/// The numbers of global variables under their names, and the least fault of one that is given
-/// again.
+/// The numbers of global variables under their names, and the next fault after `after` of one that
+/// is given again.
 pub(crate) fn numbers_of_globals(
     alloc: Global,
     lower: &[u8],
     globals: &[DeclaredGlobal],
+    after: Option<Found>,
 ) -> Result<(Names<usize>, Option<Found>), AllocError>
     ensures numbers { IfOk result (λ r. (key : List ℕ) → lookup (bytes_eq key) r.0
         ≡ first_at (bytes_eq key) (map (text_of lower.now) (map (λ g. g.name) globals.now))) }
-    ensures twice { IfOk result (λ r. IsLeastOf
+    ensures twice { IfOk result (λ r. IsNextOf after
         (OfCause Twice (IsTwiceIn (text_of lower.now) (map (λ g. g.name) globals.now))) r.1) }
 {
     let names = global_names(alloc, globals)?;
-    numbers_of(alloc, lower, &names)
+    numbers_of(alloc, lower, &names, after)
 }
 
-/// The numbers of tasks under their names, and the least fault of one that is given again.
+/// The numbers of tasks under their names, and the next fault after `after` of one that is given
+/// again.
 pub(crate) fn numbers_of_tasks(
     alloc: Global,
     lower: &[u8],
     source: &Source,
+    after: Option<Found>,
 ) -> Result<(Names<usize>, Option<Found>), AllocError>
     ensures numbers { IfOk result (λ r. (key : List ℕ) → lookup (bytes_eq key) r.0
         ≡ first_at (bytes_eq key)
         (map (text_of lower.now) (map (λ t. t.name) (task_declarations source.now)))) }
-    ensures twice { IfOk result (λ r. IsLeastOf (OfCause Twice
+    ensures twice { IfOk result (λ r. IsNextOf after (OfCause Twice
         (IsTwiceIn (text_of lower.now) (map (λ t. t.name) (task_declarations source.now)))) r.1) }
 {
     let names = task_names(alloc, tasks_of(source))?;
-    numbers_of(alloc, lower, &names)
+    numbers_of(alloc, lower, &names, after)
 }
 
 /// The numbers of programs under their names.
@@ -125,7 +127,7 @@ pub(crate) fn numbers_of_programs(
         (map (text_of lower.now) (map (λ p. p.program.name) programs.now))) }
 {
     let names = program_names(alloc, programs)?;
-    let (numbers, _) = numbers_of(alloc, lower, &names)?;
+    let (numbers, _) = numbers_of(alloc, lower, &names, None)?;
     Ok(numbers)
 }
 
@@ -139,7 +141,7 @@ pub(crate) fn numbers_of_variables(
         ≡ first_at (bytes_eq key) (map (text_of lower.now) (map (λ v. v.name) variables.now))) }
 {
     let names = variable_names(alloc, variables)?;
-    let (numbers, _) = numbers_of(alloc, lower, &names)?;
+    let (numbers, _) = numbers_of(alloc, lower, &names, None)?;
     Ok(numbers)
 }
 
@@ -157,7 +159,7 @@ pub(crate) fn numbers_of_own(
     let mut names = variable_names(alloc, inputs)?;
     let others = variable_names(alloc, variables)?;
     names.extend_from_slice(&others)?;
-    let (numbers, _) = numbers_of(alloc, lower, &names)?;
+    let (numbers, _) = numbers_of(alloc, lower, &names, None)?;
     Ok(numbers)
 }
 
@@ -172,7 +174,7 @@ pub(crate) fn numbers_of_functions(
         (map (text_of lower.now) (map (λ f. f.function.name) functions.now))) }
 {
     let names = names_of_functions(alloc, functions)?;
-    let (numbers, _) = numbers_of(alloc, lower, &names)?;
+    let (numbers, _) = numbers_of(alloc, lower, &names, None)?;
     Ok(numbers)
 }
 
@@ -199,7 +201,7 @@ pub(crate) fn numbers_of_blocks(
         ≡ first_at (bytes_eq key) (map (text_of lower.now) (map (λ b. b.name) blocks.now))) }
 {
     let names = block_names(alloc, blocks)?;
-    let (numbers, _) = numbers_of(alloc, lower, &names)?;
+    let (numbers, _) = numbers_of(alloc, lower, &names, None)?;
     Ok(numbers)
 }
 
@@ -213,20 +215,21 @@ pub(crate) fn numbers_of_externals(
         ≡ first_at (bytes_eq key) (map (text_of lower.now) (map (λ e. e.name) externals.now))) }
 {
     let names = external_names(alloc, externals)?;
-    let (numbers, _) = numbers_of(alloc, lower, &names)?;
+    let (numbers, _) = numbers_of(alloc, lower, &names, None)?;
     Ok(numbers)
 }
 
-/// The least fault of a name that a program gives again.
+/// The next fault after `after` of a name that a program gives again.
 pub(crate) fn name_given_twice(
     alloc: Global,
     lower: &[u8],
     program: &Program,
+    after: Option<Found>,
 ) -> Result<Option<Found>, AllocError>
     ensures { IfOk result
-        (IsLeastOf (OfCause Twice (IsTwiceIn (text_of lower.now) (names_of program.now)))) }
+        (IsNextOf after (OfCause Twice (IsTwiceIn (text_of lower.now) (names_of program.now)))) }
 {
     let names = names_of(alloc, program)?;
-    let (_, twice) = numbers_of(alloc, lower, &names)?;
+    let (_, twice) = numbers_of(alloc, lower, &names, after)?;
     Ok(twice)
 }

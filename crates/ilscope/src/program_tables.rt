@@ -16,7 +16,7 @@ use ilsource::Program;
 use std::alloc::{AllocError, Global};
 
 /// A program with what it declares, the numbers of its variables, block instances and externals,
-/// and the least fault of a name of these that is given again.
+/// and a fault of a name of these that is given again.
 #[derive(Drop)]
 pub(crate) struct ProgramTables<'a> {
     pub(crate) scope: ProgramScope<'a>,
@@ -28,7 +28,7 @@ pub(crate) struct ProgramTables<'a> {
 
 impl<'a> ProgramTables<'a> {
     ghost use Rattle.ildeclared.specs.Declarations.{names_of};
-    ghost use Rattle.ildeclared.specs.Faults.{IsLeastOf, OfCause};
+    ghost use Rattle.ildeclared.specs.Faults.{IsNextOf, OfCause};
     ghost use Rattle.ildeclared.specs.declared.fault.NameCause.TheVariants.{Twice};
     ghost use Rattle.ilscope.specs.Faults.{IsTwiceIn};
 
@@ -40,6 +40,7 @@ impl<'a> ProgramTables<'a> {
         types: &DeclaredTypes,
         functions: usize,
         program: &'a Program,
+        after: Option<Found>,
     ) -> Result<ProgramTables<'a>, AllocError>
         ensures scope { IfOk result (λ tables.
             tables.scope ≡ with_declared (types_in lower.now types.now) functions program.now) }
@@ -49,10 +50,10 @@ impl<'a> ProgramTables<'a> {
             (block_names tables.scope) tables.block_numbers) }
         ensures externals { IfOk result (λ tables. AreNumbersOf (text_of lower.now)
             (external_names tables.scope) tables.external_numbers) }
-        ensures twice { IfOk result (λ tables. IsLeastOf
+        ensures twice { IfOk result (λ tables. IsNextOf after
             (OfCause Twice (IsTwiceIn (text_of lower.now) (names_of program.now))) tables.twice) }
     {
-        let twice = name_given_twice(alloc, lower, program)?;
+        let twice = name_given_twice(alloc, lower, program, after)?;
         let scope = scope_of(alloc, lower, types, functions, program)?;
         let (variable_numbers, block_numbers, external_numbers) = numbers_in(alloc, lower, &scope)?;
         Ok(ProgramTables {

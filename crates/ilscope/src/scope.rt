@@ -3,6 +3,9 @@
 //! Neither limits nor names in instructions are looked at here: their faults are reported when
 //! names are resolved.
 
+ghost use Rattle.std.specs.Prelude.{◌≡◌, IfOk};
+ghost use Rattle.ildeclared.specs.Faults.{IsNextOf};
+ghost use Rattle.ilscope.specs.Faults.{IsFaultOfDeclarations};
 ghost use Rattle.ilscope.specs.Reports.{IsReportOf, IsReportOfOption};
 
 use crate::body_number::BodyNumber;
@@ -45,7 +48,7 @@ impl<'a> Scope<'a> {
     ghost use Rattle.std.specs.Prelude.{MatchOption, Some, option_map, slice_get};
     ghost use Rattle.iltypes.specs.Values.{IsOf};
     ghost use Rattle.ilsource.specs.Names.{SameName, folded};
-    ghost use Rattle.ildeclared.specs.Faults.{SomeOf, IsLeastOf};
+    ghost use Rattle.ildeclared.specs.Faults.{SomeOf, IsLeastOf, IsNextOf};
     ghost use Rattle.ildeclared.specs.declared.fault.NameCause.{NameCause};
     ghost use Rattle.ildeclared.specs.declared.fault.NameFault.{NameFault};
     ghost use Rattle.ilscope.specs.Configured.{function_number, global_number, globals_of};
@@ -66,8 +69,7 @@ impl<'a> Scope<'a> {
         ensures tree { IfOk result (λ scope. scope.tree ≡ source.now) }
         ensures wiring { IfOk result (λ scope. scope.wiring ≡ binding.now) }
     {
-        let (tables, found) = Tables::of(alloc, source)?;
-        let least = lesser_of(found, tables.fault_of_configuration(alloc, binding)?);
+        let (tables, least) = tables_with_fault(alloc, source, binding, None)?;
         Ok(Scope {
             tables,
             binding,
@@ -98,6 +100,24 @@ impl<'a> Scope<'a> {
         ensures { IsLeastOf (IsFaultOfDeclarations self.now.tree self.now.wiring) result }
     {
         self.least
+    }
+
+    /// The least fault that stands in a declaration and comes after `after`; the least of all where
+    /// that is `None`. Called again with what it found it gives one fault after the other.
+    ///
+    /// # Errors
+    ///
+    /// The allocator is out of memory.
+    pub fn next_fault(
+        &self,
+        alloc: Global,
+        after: Option<Found>,
+    ) -> Result<Option<Found>, AllocError>
+        ensures { IfOk result (λ found. IsNextOf after
+            (IsFaultOfDeclarations self.now.tree self.now.wiring) found) }
+    {
+        let (_, found) = tables_with_fault(alloc, self.tables.source(), self.binding, after)?;
+        Ok(found)
     }
 
     /// The source program.
@@ -220,6 +240,23 @@ impl<'a> Scope<'a> {
     {
         self.tables.function_number(name)
     }
+}
+
+/// The tables of a source program, and the least fault of its declarations that comes after
+/// `after`.
+fn tables_with_fault<'a>(
+    alloc: Global,
+    source: &'a Source,
+    binding: &Binding,
+    after: Option<Found>,
+) -> Result<(Tables<'a>, Option<Found>), AllocError>
+    ensures tree { IfOk result (λ r. r.0 ≡ source.now) }
+    ensures fault { IfOk result (λ r. IsNextOf after
+        (IsFaultOfDeclarations source.now binding.now) r.1) }
+{
+    let (tables, filled) = Tables::of(alloc, source, after)?;
+    let configured = tables.fault_of_configuration(alloc, binding, after)?;
+    Ok((tables, lesser_of(filled, configured)))
 }
 
 /// The fault with its line and column in `text`.

@@ -80,7 +80,7 @@ impl<'a> Tables<'a> {
     ghost use Rattle.std.specs.Prelude.{Some, length, option_map, slice_get};
     ghost use Rattle.iltypes.specs.Values.{IsOf};
     ghost use Rattle.ilsource.specs.Names.{SameName, folded};
-    ghost use Rattle.ildeclared.specs.Faults.{SomeOf, IsLeastOf};
+    ghost use Rattle.ildeclared.specs.Faults.{SomeOf, IsNextOf};
     ghost use Rattle.ilscope.specs.Configured.{function_number, global_number, globals_of};
     ghost use Rattle.ilscope.specs.Configured.{program_number};
     ghost use Rattle.ilscope.specs.Configured.{task_declarations, task_number};
@@ -89,18 +89,25 @@ impl<'a> Tables<'a> {
     ghost use Rattle.ilscope.specs.ScopeSteps.{IsFaultInTables};
     ghost use Rattle.ilscope.specs.Tables.{block_number, external_number, variable_number};
 
-    /// The tables of a source program, and the least of the faults that are found while they are
-    /// filled.
+    /// The tables of a source program, and the next after `after` of the faults that are found
+    /// while they are filled.
     pub(crate) fn of(
         alloc: Global,
         source: &'a Source,
+        after: Option<Found>,
     ) -> Result<(Tables<'a>, Option<Found>), AllocError>
         ensures tree { IfOk result (λ r. r.0 ≡ source.now) }
-        ensures least { IfOk result (λ r. IsLeastOf (IsFaultInTables source.now) r.1) }
+        ensures least { IfOk result (λ r. IsNextOf after (IsFaultInTables source.now) r.1) }
     {
         let lower = lower_case(alloc, source.text())?;
-        let gathered = ElementTables::of(alloc, &lower, source.elements())?;
-        let configured = ConfigurationTables::of(alloc, &lower, &gathered.gathering.types, source)?;
+        let gathered = ElementTables::of(alloc, &lower, source.elements(), after)?;
+        let configured = ConfigurationTables::of(
+            alloc,
+            &lower,
+            &gathered.gathering.types,
+            source,
+            after,
+        )?;
         let ElementTables {
             gathering,
             program_numbers,

@@ -4,12 +4,12 @@ use Rattle.std.proofs.Common.{◌⊎◌, inl, inr, arith}
 use Rattle.std.specs.Prelude.{Option, Some, None, min, slice_get}
 use Rattle.std.proofs.lemmas.Bool.Decides.{nat_tests}
 use Rattle.limits.specs.Limits.{most_calls}
-use Rattle.ildeclared.specs.Faults.{IsLeastOf, OfCause}
+use Rattle.ildeclared.specs.Faults.{IsNextOf, OfCause}
 use Rattle.ildeclared.specs.Order.{lesser_of_two}
 use Rattle.ildeclared.specs.declared.fault.NameCause.TheVariants.{TooMany}
 use Rattle.ildeclared.specs.declared.found.Found.{Found}
 use Rattle.ilscope.specs.Declarations.{DeclaredFunction}
-use Rattle.iluses.proofs.UseFaults.{of_both}
+use Rattle.ildeclared.proofs.Least.{either_next}
 use Rattle.ilsyms.specs.Faults.{AreTooDeep}
 use Rattle.ilsyms.proofs.FaultParts.{of_same}
 use Rattle.ilsyms.proofs.Lists.{below_end}
@@ -58,20 +58,21 @@ module _ (functions : List DeclaredFunction) (depths : List ℕ) where
               deep.0.stands ∙ ap (λ (h : DeclaredFunction). h.function.name.from) g,
             )
 
-    pub one_more_deep : (a b : Option Found) → IsLeastOf (OfCause TooMany (AreTooDeepBefore k)) a
-        → IsLeastOf (OfCause TooMany IsDeep) b
-        → IsLeastOf (OfCause TooMany (AreTooDeepBefore (k + 1))) (lesser_of_two a b)
-    one_more_deep a b h g =
-        of_same TooMany (λ at. AreTooDeepBefore k at ⊎ IsDeep at) (AreTooDeepBefore (k + 1)) (lesser_of_two a b)
-        more parts (of_both TooMany (AreTooDeepBefore k) IsDeep a b h g)
+    pub one_more_deep : (after a b : Option Found) → IsNextOf after (OfCause TooMany (AreTooDeepBefore k)) a
+        → IsNextOf after (OfCause TooMany IsDeep) b
+        → IsNextOf after (OfCause TooMany (AreTooDeepBefore (k + 1))) (lesser_of_two a b)
+    one_more_deep after a b h g =
+        of_same after TooMany (λ at. AreTooDeepBefore k at ⊎ IsDeep at) (AreTooDeepBefore (k + 1)) (lesser_of_two a b)
+        more parts (either_next after TooMany (AreTooDeepBefore k) IsDeep a b h g)
 
-  pub none_deep : IsLeastOf (OfCause TooMany (AreTooDeepBefore 0)) None
-  none_deep = λ place cause deep. let low = deep.1.1 in omega (arith, low)
+  pub none_deep : (after : Option Found) → IsNextOf after (OfCause TooMany (AreTooDeepBefore 0)) None
+  none_deep after = λ place cause deep. let low = deep.0.1.1 in omega (arith, low)
 
-  pub all_deep : (k : ℕ) (o : Option Found) → k ≡ min (length functions) (length depths)
-      → IsLeastOf (OfCause TooMany (AreTooDeepBefore k)) o → IsLeastOf (OfCause TooMany (AreTooDeep functions depths)) o
-  all_deep k o e h =
-      of_same TooMany (AreTooDeepBefore k) (AreTooDeep functions depths) o (λ at deep. deep.0)
+  pub all_deep : (after : Option Found) (k : ℕ) (o : Option Found) → k ≡ min (length functions) (length depths)
+      → IsNextOf after (OfCause TooMany (AreTooDeepBefore k)) o → IsNextOf after
+      (OfCause TooMany (AreTooDeep functions depths)) o
+  all_deep after k o e h =
+      of_same after TooMany (AreTooDeepBefore k) (AreTooDeep functions depths) o (λ at deep. deep.0)
       (λ at deep.
       let low = below_end functions deep.number deep.function deep.is in
       let its = below_end depths deep.number deep.depth deep.its in

@@ -13,7 +13,7 @@ use Rattle.ilsource.specs.SourceTrees.{Tree}
 use Rattle.ilsource.specs.declared.name.Name.{Name}
 use Rattle.ilsource.specs.declared.symbol.Symbol.{Symbol}
 use Rattle.ilsource.specs.declared.uses.Use.{Use}
-use Rattle.ildeclared.specs.Faults.{IsLeastOf, OfCause, SomeOf}
+use Rattle.ildeclared.specs.Faults.{IsNextOf, OfCause, SomeOf}
 use Rattle.ildeclared.specs.Order.{lesser_of_two}
 use Rattle.ildeclared.specs.declared.fault.NameCause.TheVariants.{TooMany}
 use Rattle.ildeclared.specs.declared.found.Found.{Found}
@@ -21,7 +21,7 @@ use Rattle.ildeclared.proofs.FoundOrder.{or_else}
 use Rattle.ilscope.specs.Configured.{task_declarations}
 use Rattle.ilscope.specs.Declarations.{declared_functions}
 use Rattle.iluses.specs.Uses.{uses_of}
-use Rattle.iluses.proofs.UseFaults.{of_both}
+use Rattle.ildeclared.proofs.Least.{either_next}
 use Rattle.ilplan.specs.declared.slot.Slot.{Slot}
 use Rattle.ilsyms.specs.Faults.{AreTooDeep, IsTooMany, IsTooManyIn, IsTooManyOfFunctions, MakesTooManyConstants}
 use Rattle.ilsyms.specs.Faults.{all_slot_places, all_uses, all_word_places, depths_of, instance_names, place_of_slot}
@@ -36,9 +36,10 @@ use Rattle.ilsyms.proofs.UsesAlike.{too_many_alike}
 abbrev IsAt : Option ℕ → ℕ → Type 0
 IsAt place at = place ≡ Some at
 
-at_same : (p q : Option ℕ) (o : Option Found) → p ≡ q → IsLeastOf (OfCause TooMany (IsAt p)) o
-    → IsLeastOf (OfCause TooMany (IsAt q)) o
-at_same p q o e h = subst (λ (r : Option ℕ). IsLeastOf (OfCause TooMany (IsAt r)) o) e h
+at_same : (after : Option Found) (p q : Option ℕ) (o : Option Found) → p ≡ q → IsNextOf after
+    (OfCause TooMany (IsAt p)) o
+    → IsNextOf after (OfCause TooMany (IsAt q)) o
+at_same after p q o e h = subst (λ (r : Option ℕ). IsNextOf after (OfCause TooMany (IsAt r)) o) e h
 
 -- the element with a number is that of a longer front
 within : {X : Type 0} (xs : List X) (n m : ℕ) → n < m → slice_get (take m xs) n ≡ slice_get xs n
@@ -97,20 +98,20 @@ module _ (tree : Tree) (instances : List NamedProgram) where
   counted_uses = uses_of (lines_of instances) ++ flat_map (λ one. one.uses) (used_needs tree instances)
 
   -- of a task
-  pub least_in_task : (slot block word excess : Option ℕ) (a b c d : Option Found)
+  pub least_in_task : (after : Option Found) (slot block word excess : Option ℕ) (a b c d : Option Found)
       → slot ≡ slice_get (map (λ s. place_of_slot tree s.variable) (take (most_slots + 1) (slots_of tree instances))
       ++ flat_map (λ one. one.slots) (used_needs tree instances)) most_slots
       → block ≡ slice_get (map (λ b. b.name.from) (take (most_blocks + 1) (blocks_of instances))) most_blocks
       → word ≡ slice_get (flat_map places_in (lines_of instances)
       ++ flat_map (λ one. one.words) (used_needs tree instances)) most_words
       → ((place : ℕ) → (excess ≡ Some place) ↔ MakesTooManyConstants counted_uses place)
-      → IsLeastOf (OfCause TooMany (λ at. slot ≡ Some at)) a
-      → IsLeastOf (OfCause TooMany (λ at. block ≡ Some at)) b
-      → IsLeastOf (OfCause TooMany (λ at. word ≡ Some at)) c
-      → IsLeastOf (OfCause TooMany (λ at. excess ≡ Some at)) d
-      → IsLeastOf (OfCause TooMany (λ place. IsTooManyIn tree place instances))
+      → IsNextOf after (OfCause TooMany (λ at. slot ≡ Some at)) a
+      → IsNextOf after (OfCause TooMany (λ at. block ≡ Some at)) b
+      → IsNextOf after (OfCause TooMany (λ at. word ≡ Some at)) c
+      → IsNextOf after (OfCause TooMany (λ at. excess ≡ Some at)) d
+      → IsNextOf after (OfCause TooMany (λ place. IsTooManyIn tree place instances))
       (lesser_of_two (lesser_of_two a b) (lesser_of_two c d))
-  least_in_task slot block word excess a b c d e f g counted h k l m =
+  least_in_task after slot block word excess a b c d e f g counted h k l m =
       let slots = e
       ∙ past_front (λ (s : Slot). place_of_slot tree s.variable) (slots_of tree instances)
       (flat_map (λ one. one.slots) (used_needs tree instances)) most_slots
@@ -122,16 +123,17 @@ module _ (tree : Tree) (instances : List NamedProgram) where
       let words = g ∙ ap (λ ps. slice_get (flat_map places_in (lines_of instances) ++ ps) most_words)
       (words_used tree instances) in
       let same = uses_used tree instances in
-      of_same TooMany (λ at. (IsAt slot_past at ⊎ IsAt block_past at) ⊎ (IsAt word_past at ⊎ MakesTooMany at))
+      of_same after TooMany (λ at. (IsAt slot_past at ⊎ IsAt block_past at) ⊎ (IsAt word_past at ⊎ MakesTooMany at))
       (λ place. IsTooManyIn tree place instances) (lesser_of_two (lesser_of_two a b) (lesser_of_two c d))
       (λ at q. or_else (λ r. or_else inl (λ s. inr (inl s)) r) (λ r. inr (inr r)) q)
       (λ at q. or_else (λ s. inl (inl s)) (λ r. or_else (λ s. inl (inr s)) inr r) q)
-      (of_both TooMany (λ at. IsAt slot_past at ⊎ IsAt block_past at) (λ at. IsAt word_past at ⊎ MakesTooMany at)
+      (either_next after TooMany (λ at. IsAt slot_past at ⊎ IsAt block_past at)
+      (λ at. IsAt word_past at ⊎ MakesTooMany at)
       (lesser_of_two a b) (lesser_of_two c d)
-      (of_both TooMany (IsAt slot_past) (IsAt block_past) a b (at_same slot slot_past a slots h)
-      (at_same block block_past b blocks k))
-      (of_both TooMany (IsAt word_past) MakesTooMany c d (at_same word word_past c words l)
-      (of_same TooMany (IsAt excess) MakesTooMany d
+      (either_next after TooMany (IsAt slot_past) (IsAt block_past) a b (at_same after slot slot_past a slots h)
+      (at_same after block block_past b blocks k))
+      (either_next after TooMany (IsAt word_past) MakesTooMany c d (at_same after word word_past c words l)
+      (of_same after TooMany (IsAt excess) MakesTooMany d
       (λ at o. too_many_alike counted_uses (all_uses tree instances) at same ((counted at).0 o))
       (λ at o. (counted at).1 (too_many_alike (all_uses tree instances) counted_uses at (sym same) o)) m)))
 
@@ -156,35 +158,37 @@ module _ (tree : Tree) where
   TooDeep = AreTooDeep (declared_functions tree) (depths_of tree)
 
   -- of functions
-  pub least_of_functions : (function : Option ℕ) (a b c : Option Found) → function ≡ function_past
-      → IsLeastOf (OfCause TooMany (λ at. function ≡ Some at)) a
-      → IsLeastOf (OfCause TooMany InInputs) b
-      → IsLeastOf (OfCause TooMany TooDeep) c
-      → IsLeastOf (OfCause TooMany (IsTooManyOfFunctions tree)) (lesser_of_two a (lesser_of_two b c))
-  least_of_functions function a b c e h k l =
-      of_same TooMany (λ at. IsAt function_past at ⊎ (InInputs at ⊎ TooDeep at)) (IsTooManyOfFunctions tree)
+  pub least_of_functions : (after : Option Found) (function : Option ℕ) (a b c : Option Found) → function ≡
+      function_past
+      → IsNextOf after (OfCause TooMany (λ at. function ≡ Some at)) a
+      → IsNextOf after (OfCause TooMany InInputs) b
+      → IsNextOf after (OfCause TooMany TooDeep) c
+      → IsNextOf after (OfCause TooMany (IsTooManyOfFunctions tree)) (lesser_of_two a (lesser_of_two b c))
+  least_of_functions after function a b c e h k l =
+      of_same after TooMany (λ at. IsAt function_past at ⊎ (InInputs at ⊎ TooDeep at)) (IsTooManyOfFunctions tree)
       (lesser_of_two a (lesser_of_two b c))
       (λ at q. or_else inl (λ r. or_else (λ s. inr (inl s)) (λ s. inr (inr s)) r) q)
       (λ at q. or_else inl (λ r. or_else (λ s. inr (inl s)) (λ s. inr (inr s)) r) q)
-      (of_both TooMany (IsAt function_past) (λ at. InInputs at ⊎ TooDeep at) a (lesser_of_two b c)
-      (at_same function function_past a e h)
-      (of_both TooMany InInputs TooDeep b c k l))
+      (either_next after TooMany (IsAt function_past) (λ at. InInputs at ⊎ TooDeep at) a (lesser_of_two b c)
+      (at_same after function function_past a e h)
+      (either_next after TooMany InInputs TooDeep b c k l))
 
   -- of all limits
-  pub least_of_limits : (task instance : Option ℕ) (a b c d : Option Found) → task ≡ task_past
+  pub least_of_limits : (after : Option Found) (task instance : Option ℕ) (a b c d : Option Found) → task ≡ task_past
       → instance ≡ instance_past
-      → IsLeastOf (OfCause TooMany (λ at. task ≡ Some at)) a
-      → IsLeastOf (OfCause TooMany (λ at. instance ≡ Some at)) b
-      → IsLeastOf (OfCause TooMany (λ place. SomeOf (λ t. IsTooManyIn tree place t.instances) (tasks_of tree))) c
-      → IsLeastOf (OfCause TooMany (IsTooManyOfFunctions tree)) d
-      → IsLeastOf (OfCause TooMany (IsTooMany tree)) (lesser_of_two (lesser_of_two a b) (lesser_of_two c d))
-  least_of_limits task instance a b c d e f h k l m =
-      of_same TooMany (λ at. (IsAt task_past at ⊎ IsAt instance_past at) ⊎ (InTask at ⊎ IsTooManyOfFunctions tree at))
+      → IsNextOf after (OfCause TooMany (λ at. task ≡ Some at)) a
+      → IsNextOf after (OfCause TooMany (λ at. instance ≡ Some at)) b
+      → IsNextOf after (OfCause TooMany (λ place. SomeOf (λ t. IsTooManyIn tree place t.instances) (tasks_of tree))) c
+      → IsNextOf after (OfCause TooMany (IsTooManyOfFunctions tree)) d
+      → IsNextOf after (OfCause TooMany (IsTooMany tree)) (lesser_of_two (lesser_of_two a b) (lesser_of_two c d))
+  least_of_limits after task instance a b c d e f h k l m =
+      of_same after TooMany (λ at. (IsAt task_past at ⊎ IsAt instance_past at) ⊎
+      (InTask at ⊎ IsTooManyOfFunctions tree at))
       (IsTooMany tree) (lesser_of_two (lesser_of_two a b) (lesser_of_two c d))
       (λ at q. or_else (λ r. or_else inl (λ s. inr (inl s)) r) (λ r. inr (inr r)) q)
       (λ at q. or_else (λ s. inl (inl s)) (λ r. or_else (λ s. inl (inr s)) inr r) q)
-      (of_both TooMany (λ at. IsAt task_past at ⊎ IsAt instance_past at)
+      (either_next after TooMany (λ at. IsAt task_past at ⊎ IsAt instance_past at)
       (λ at. InTask at ⊎ IsTooManyOfFunctions tree at) (lesser_of_two a b) (lesser_of_two c d)
-      (of_both TooMany (IsAt task_past) (IsAt instance_past) a b (at_same task task_past a e h)
-      (at_same instance instance_past b f k))
-      (of_both TooMany InTask (IsTooManyOfFunctions tree) c d l m))
+      (either_next after TooMany (IsAt task_past) (IsAt instance_past) a b (at_same after task task_past a e h)
+      (at_same after instance instance_past b f k))
+      (either_next after TooMany InTask (IsTooManyOfFunctions tree) c d l m))

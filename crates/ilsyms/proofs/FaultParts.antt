@@ -6,15 +6,15 @@ use Rattle.ilsource.specs.declared.uses.Use.{Use}
 use Rattle.ilsource.specs.declared.symbol.Symbol.{Symbol}
 use Rattle.ilsource.specs.Names.{folded}
 use Rattle.ilsource.specs.SourceTrees.{Tree}
-use Rattle.ildeclared.specs.Faults.{IsLeastOf, OfCause, SomeOf}
+use Rattle.ildeclared.specs.Faults.{IsNextOf, OfCause, SomeOf}
 use Rattle.ildeclared.specs.Order.{lesser_of_two}
 use Rattle.ildeclared.specs.declared.fault.NameCause.{NameCause}
 use Rattle.ildeclared.specs.declared.fault.NameCause.TheVariants.{Unknown, Twice, UnknownLabel, BackwardJump}
 use Rattle.ildeclared.specs.declared.fault.NameCause.TheVariants.{BadAddress, InputRangeTooSmall, WrittenTwice}
 use Rattle.ildeclared.specs.declared.fault.NameCause.TheVariants.{WritesInput, NoTask, TooMany, BadDeclaration}
 use Rattle.ildeclared.specs.declared.found.Found.{Found}
-use Rattle.ildeclared.proofs.FoundOrder.{best_same, or_else}
-use Rattle.ildeclared.proofs.Least.{both_least}
+use Rattle.ildeclared.proofs.FoundOrder.{next_same, or_else}
+use Rattle.ildeclared.proofs.Least.{both_next}
 use Rattle.ilscope.specs.Declarations.{bodies_of, DeclaredProgram}
 use Rattle.ilscope.specs.Faults.{IsTwiceIn}
 use Rattle.ilscope.proofs.LeastOfDeclarations.{some_of}
@@ -28,11 +28,11 @@ use Rattle.ilsyms.specs.Faults.{IsFaultOfUse, IsTooMany, IsWrittenTwice}
 -- ---- faults of one cause
 
 -- the same places
-pub of_same : (its : NameCause) (F G : ℕ → Type 0) (o : Option Found)
+pub of_same : (after : Option Found) (its : NameCause) (F G : ℕ → Type 0) (o : Option Found)
     → ((at : ℕ) → F at → G at) → ((at : ℕ) → G at → F at)
-    → IsLeastOf (OfCause its F) o → IsLeastOf (OfCause its G) o
-of_same its F G o to from h =
-    best_same (OfCause its F) (OfCause its G) o (λ place cause f. (f.0, to place f.1))
+    → IsNextOf after (OfCause its F) o → IsNextOf after (OfCause its G) o
+of_same after its F G o to from h =
+    next_same after (OfCause its F) (OfCause its G) o (λ place cause f. (f.0, to place f.1))
     (λ place cause g. (g.0, from place g.1)) h
 
 none_of : {X : Type 0} (xs : List X) → SomeOf (λ x. ⊥) xs → ⊥
@@ -204,18 +204,18 @@ module _ (tree : Tree) where
       lines_from place BadDeclaration (λ p. IsWrongIn tree p place (calls_of p.program.lines)) (λ p f. inr (refl, f)) t
 
   -- the least fault is the least of the four
-  pub least_of_uses : (uses lines stored many : Option Found)
-      → IsLeastOf (IsFaultOfUses tree) uses
-      → IsLeastOf (λ place cause. SomeOf (λ p. IsFaultOfBody tree p place cause) (bodies_of tree)) lines
-      → IsLeastOf (OfCause WrittenTwice (IsWrittenTwice tree)) stored
-      → IsLeastOf (OfCause TooMany (IsTooMany tree)) many
-      → IsLeastOf (IsFaultOfUse tree) (lesser_of_two (lesser_of_two uses lines) (lesser_of_two stored many))
-  least_of_uses uses lines stored many h k l m =
-      best_same IsPart (IsFaultOfUse tree) (lesser_of_two (lesser_of_two uses lines) (lesser_of_two stored many))
+  pub least_of_uses : (after uses lines stored many : Option Found)
+      → IsNextOf after (IsFaultOfUses tree) uses
+      → IsNextOf after (λ place cause. SomeOf (λ p. IsFaultOfBody tree p place cause) (bodies_of tree)) lines
+      → IsNextOf after (OfCause WrittenTwice (IsWrittenTwice tree)) stored
+      → IsNextOf after (OfCause TooMany (IsTooMany tree)) many
+      → IsNextOf after (IsFaultOfUse tree) (lesser_of_two (lesser_of_two uses lines) (lesser_of_two stored many))
+  least_of_uses after uses lines stored many h k l m =
+      next_same after IsPart (IsFaultOfUse tree) (lesser_of_two (lesser_of_two uses lines) (lesser_of_two stored many))
       whole parted
-      (both_least (λ place cause. IsFaultOfUses tree place cause ⊎ IsWritten place cause)
+      (both_next after (λ place cause. IsFaultOfUses tree place cause ⊎ IsWritten place cause)
       (λ place cause.
       OfCause WrittenTwice (IsWrittenTwice tree) place cause ⊎ OfCause TooMany (IsTooMany tree) place cause)
       (lesser_of_two uses lines) (lesser_of_two stored many)
-      (both_least (IsFaultOfUses tree) IsWritten uses lines h k)
-      (both_least (OfCause WrittenTwice (IsWrittenTwice tree)) (OfCause TooMany (IsTooMany tree)) stored many l m))
+      (both_next after (IsFaultOfUses tree) IsWritten uses lines h k)
+      (both_next after (OfCause WrittenTwice (IsWrittenTwice tree)) (OfCause TooMany (IsTooMany tree)) stored many l m))

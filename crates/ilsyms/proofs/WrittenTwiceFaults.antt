@@ -6,12 +6,12 @@ use Rattle.std.specs.Prelude.{Option, IsSomeAnd, slice_get}
 use Rattle.std.specs.List.{enumerate_from}
 use Rattle.std.proofs.lemmas.List.FromFn.{get_or-enumerate_from, length-enumerate_from}
 use Rattle.ilsource.specs.SourceTrees.{Tree}
-use Rattle.ildeclared.specs.Faults.{IsLeastOf, OfCause, SomeLater, SomeOf}
+use Rattle.ildeclared.specs.Faults.{IsNextOf, OfCause, SomeLater, SomeOf}
 use Rattle.ildeclared.specs.Order.{lesser_of_two}
 use Rattle.ildeclared.specs.declared.fault.NameCause.TheVariants.{WrittenTwice}
 use Rattle.ildeclared.specs.declared.found.Found.{Found}
 use Rattle.ildeclared.specs.declared.global.DeclaredGlobal.{DeclaredGlobal}
-use Rattle.ildeclared.proofs.Least.{least_of_more}
+use Rattle.ildeclared.proofs.Least.{next_of_more}
 use Rattle.ilscope.specs.Configured.{globals_of}
 use Rattle.ilscope.specs.Declarations.{declared_programs}
 use Rattle.ilsyms.specs.Faults.{AreTwoStoring, TaskStores}
@@ -85,33 +85,33 @@ module _ (tree : Tree) (tasks : List (List TaskInstance)) (are : AreInstancesOfT
   IsTwo g place = AreTwoStoring tree g.0 × (place ≡ g.1.name.from)
 
   -- the fault of one of them
-  pub two_at : (number : ℕ) (global : DeclaredGlobal) (set : TaskSet) (o : Option Found)
+  pub two_at : (after : Option Found) (number : ℕ) (global : DeclaredGlobal) (set : TaskSet) (o : Option Found)
       → IsSetOf (StoresBefore tree tasks (length (declared_programs tree)) number) set
-      → IsLeastOf (OfCause WrittenTwice (λ place. (set ≡ Several) × (place ≡ global.name.from))) o
-      → IsLeastOf (OfCause WrittenTwice (IsTwo (number, global))) o
-  two_at number global set o is h =
+      → IsNextOf after (OfCause WrittenTwice (λ place. (set ≡ Several) × (place ≡ global.name.from))) o
+      → IsNextOf after (OfCause WrittenTwice (IsTwo (number, global))) o
+  two_at after number global set o is h =
       let P = StoresBefore tree tasks (length (declared_programs tree)) number in
       let to = to_task tree tasks are number in
       let from = from_task tree tasks are number in
-      of_same WrittenTwice (λ place. (set ≡ Several) × (place ≡ global.name.from)) (IsTwo (number, global)) o
+      of_same after WrittenTwice (λ place. (set ≡ Several) × (place ≡ global.name.from)) (IsTwo (number, global)) o
       (λ place f. (several_are (TaskStores tree number) P (tasks_of tree) to from set is f.0, f.1))
       (λ place f. (are_several (TaskStores tree number) P (tasks_of tree) to from set is f.0, f.1)) h
 
   -- with one global variable more
-  pub two_more : (i : ℕ) (global : DeclaredGlobal) (set : TaskSet) (a b : Option Found)
+  pub two_more : (after : Option Found) (i : ℕ) (global : DeclaredGlobal) (set : TaskSet) (a b : Option Found)
       → i < length (globals_of tree) → global ≡ get_or (globals_of tree) i global
       → IsSetOf (StoresBefore tree tasks (length (declared_programs tree)) i) set
-      → IsLeastOf (λ place cause. SomeOf (λ g. OfCause WrittenTwice (IsTwo g) place cause)
+      → IsNextOf after (λ place cause. SomeOf (λ g. OfCause WrittenTwice (IsTwo g) place cause)
       (take i (enumerate_from 0 (globals_of tree)))) a
-      → IsLeastOf (OfCause WrittenTwice (λ place. (set ≡ Several) × (place ≡ global.name.from))) b
-      → IsLeastOf (λ place cause. SomeOf (λ g. OfCause WrittenTwice (IsTwo g) place cause)
+      → IsNextOf after (OfCause WrittenTwice (λ place. (set ≡ Several) × (place ≡ global.name.from))) b
+      → IsNextOf after (λ place cause. SomeOf (λ g. OfCause WrittenTwice (IsTwo g) place cause)
       (take (i + 1) (enumerate_from 0 (globals_of tree)))) (lesser_of_two a b)
-  two_more i global set a b below is its h k =
+  two_more after i global set a b below is its h k =
       let numbered = enumerate_from 0 (globals_of tree) in
       let many = length-enumerate_from 0 (globals_of tree) in
       let one : ℕ × DeclaredGlobal = (i, global) in
       let zero_more : 0 + i ≡ i = omega arith in
       let same : one ≡ get_or numbered i one =
       sym (get_or-enumerate_from 0 (globals_of tree) i one below ∙ (λ j. (zero_more j, sym is j))) in
-      least_of_more (λ g. OfCause WrittenTwice (IsTwo g)) numbered i one a b (omega (arith, below, many)) same
-      h (two_at i global set b its k)
+      next_of_more after (λ g. OfCause WrittenTwice (IsTwo g)) numbered i one a b (omega (arith, below, many)) same
+      h (two_at after i global set b its k)

@@ -5,7 +5,7 @@ ghost use Rattle.std.specs.Prelude.{◌≡◌, ◌+◌, ◌<◌, ◌≤◌, ◌+
 ghost use Rattle.std.specs.Prelude.{flat_map, length, map, slice_get};
 ghost use Rattle.limits.specs.Limits.{most_blocks, most_functions, most_inputs, most_instances};
 ghost use Rattle.limits.specs.Limits.{most_slots, most_tasks, most_words};
-ghost use Rattle.ildeclared.specs.Faults.{IsLeastOf, OfCause, SomeOf};
+ghost use Rattle.ildeclared.specs.Faults.{IsNextOf, OfCause, SomeOf};
 ghost use Rattle.ildeclared.specs.declared.fault.NameCause.TheVariants.{TooMany};
 ghost use Rattle.ilscope.specs.Configured.{task_declarations};
 ghost use Rattle.ilscope.specs.Declarations.{declared_functions, declared_programs};
@@ -34,69 +34,79 @@ use limits::{
 };
 use std::alloc::{AllocError, Global};
 
-/// The least fault of what exceeds a limit. `needs` are those of each function, and `tasks` the
-/// parts of each task.
+/// The next fault after `after` of what exceeds a limit. `needs` are those of each function, and
+/// `tasks` the parts of each task.
 pub(crate) fn too_many(
     alloc: Global,
     scope: &Scope<'_>,
     needs: &[Needs],
     tasks: &[TaskParts<'_>],
+    after: Option<Found>,
 ) -> Result<Option<Found>, AllocError>
     requires needs { needs.now
         ≡ map (needs_of scope.now.tree) (declared_functions scope.now.tree) }
     requires tasks { ArePartsOfTasks scope.now.tree tasks.now }
     ensures { IfOk result (λ found.
-        IsLeastOf (OfCause TooMany (IsTooMany scope.now.tree)) found) }
+        IsNextOf after (OfCause TooMany (IsTooMany scope.now.tree)) found) }
 {
-    let declared = lesser_of(exceeding(task_past(scope)), exceeding(instance_past(scope)));
-    let within = too_many_in_tasks(alloc, scope, needs, tasks)?;
-    let functions = too_many_functions(alloc, scope, needs)?;
+    let declared = lesser_of(
+        exceeding(task_past(scope), after),
+        exceeding(instance_past(scope), after),
+    );
+    let within = too_many_in_tasks(alloc, scope, needs, tasks, after)?;
+    let functions = too_many_functions(alloc, scope, needs, after)?;
     Ok(lesser_of(declared, lesser_of(within, functions)))
 }
 
-/// The least fault of what exceeds a limit of a task. `needs` are those of each function.
+/// The next fault after `after` of what exceeds a limit of a task. `needs` are those of each
+/// function.
 fn too_many_in_tasks(
     alloc: Global,
     scope: &Scope<'_>,
     needs: &[Needs],
     tasks: &[TaskParts<'_>],
+    after: Option<Found>,
 ) -> Result<Option<Found>, AllocError>
     requires needs { needs.now
         ≡ map (needs_of scope.now.tree) (declared_functions scope.now.tree) }
     requires tasks { ArePartsOfTasks scope.now.tree tasks.now }
-    ensures { IfOk result (λ found. IsLeastOf (OfCause TooMany (λ place. SomeOf
+    ensures { IfOk result (λ found. IsNextOf after (OfCause TooMany (λ place. SomeOf
         (λ t. IsTooManyIn scope.now.tree place t.instances) (tasks_of scope.now.tree))) found) }
 {
     let words = words_of_programs(alloc, scope)?;
     let mut least = None;
     for task in tasks {
-        least = lesser_of(least, too_many_in(scope, &words, needs, task));
+        least = lesser_of(least, too_many_in(scope, &words, needs, task, after));
     }
     Ok(least)
 }
 
-/// The least such fault in a task with these parts. `words` are those of each program, and `needs`
-/// those of each function.
+/// The next such fault after `after` in a task with these parts. `words` are those of each program,
+/// and `needs` those of each function.
 fn too_many_in(
     scope: &Scope<'_>,
     words: &[WordPlaces],
     needs: &[Needs],
     task: &TaskParts<'_>,
+    after: Option<Found>,
 ) -> Option<Found>
     requires words { words.now ≡ map places_of_program (declared_programs scope.now.tree) }
     requires needs { needs.now
         ≡ map (needs_of scope.now.tree) (declared_functions scope.now.tree) }
     requires task { AreParts scope.now.tree task.now }
-    ensures { IsLeastOf (OfCause TooMany (λ place. IsTooManyIn scope.now.tree place
+    ensures { IsNextOf after (OfCause TooMany (λ place. IsTooManyIn scope.now.tree place
         (instances_of scope.now.tree task.now.instances.now))) result }
 {
     let declared = lesser_of(
-        exceeding(slot_past(scope, &task.slots, &task.used, needs)),
-        exceeding(block_past(&task.blocks)),
+        exceeding(slot_past(scope, &task.slots, &task.used, needs), after),
+        exceeding(block_past(&task.blocks), after),
     );
     let written = lesser_of(
-        exceeding(all_words_past(words, task.instances, &task.used, needs)),
-        exceeding(task.counted.excess),
+        exceeding(
+            all_words_past(words, task.instances, &task.used, needs),
+            after,
+        ),
+        exceeding(task.counted.excess, after),
     );
     lesser_of(declared, written)
 }
@@ -203,23 +213,24 @@ fn block_past(blocks: &[FunctionBlock]) -> Option<usize>
     Some(block.name.from)
 }
 
-/// The least fault of functions: of one too many, of an input too many, or of one that is too deep.
-/// `needs` are those of each function.
+/// The next fault after `after` of functions: of one too many, of an input too many, or of one that
+/// is too deep. `needs` are those of each function.
 fn too_many_functions(
     alloc: Global,
     scope: &Scope<'_>,
     needs: &[Needs],
+    after: Option<Found>,
 ) -> Result<Option<Found>, AllocError>
     requires { needs.now ≡ map (needs_of scope.now.tree) (declared_functions scope.now.tree) }
     ensures { IfOk result (λ found.
-        IsLeastOf (OfCause TooMany (IsTooManyOfFunctions scope.now.tree)) found) }
+        IsNextOf after (OfCause TooMany (IsTooManyOfFunctions scope.now.tree)) found) }
 {
     let depths = depths(alloc, scope, needs)?;
-    let number = exceeding(function_past(scope.functions()));
-    let inputs = too_many_inputs(scope.functions());
+    let number = exceeding(function_past(scope.functions()), after);
+    let inputs = too_many_inputs(scope.functions(), after);
     Ok(lesser_of(
         number,
-        lesser_of(inputs, too_deep(scope.functions(), &depths)),
+        lesser_of(inputs, too_deep(scope.functions(), &depths, after)),
     ))
 }
 
@@ -231,15 +242,15 @@ fn function_past(functions: &[FunctionScope<'_>]) -> Option<usize>
     Some(function.function().name().from)
 }
 
-/// The least fault of an input that exceeds the greatest number of its function.
-fn too_many_inputs(functions: &[FunctionScope<'_>]) -> Option<Found>
-    ensures { IsLeastOf (OfCause TooMany (λ place. SomeOf (λ f.
+/// The next fault after `after` of an input that exceeds the greatest number of its function.
+fn too_many_inputs(functions: &[FunctionScope<'_>], after: Option<Found>) -> Option<Found>
+    ensures { IsNextOf after (OfCause TooMany (λ place. SomeOf (λ f.
         slice_get (map (λ v. v.name.from) f.inputs) most_inputs ≡ Some place) functions.now))
         result }
 {
     let mut least = None;
     for function in functions {
-        least = lesser_of(least, exceeding(input_past(function.inputs())));
+        least = lesser_of(least, exceeding(input_past(function.inputs()), after));
     }
     least
 }
@@ -252,26 +263,27 @@ fn input_past(inputs: &[DeclaredVariable]) -> Option<usize>
     Some(input.name.from)
 }
 
-/// The least fault of a function that is too deep, of functions with these depths.
-fn too_deep(functions: &[FunctionScope<'_>], depths: &[usize]) -> Option<Found>
-    ensures { IsLeastOf (OfCause TooMany (AreTooDeep functions.now depths.now)) result }
+/// The next fault after `after` of a function that is too deep, of functions with these depths.
+fn too_deep(
+    functions: &[FunctionScope<'_>],
+    depths: &[usize],
+    after: Option<Found>,
+) -> Option<Found>
+    ensures { IsNextOf after (OfCause TooMany (AreTooDeep functions.now depths.now)) result }
 {
     let mut least = None;
     for (function, depth) in functions.iter().zip(depths) {
         let place = function.function().name().from;
-        let fault = found_where(*depth > MOST_CALLS, place, NameCause::TooMany);
+        let fault = found_where(*depth > MOST_CALLS, place, NameCause::TooMany, after);
         least = lesser_of(least, fault);
     }
     least
 }
 
 /// The fault of what exceeds a limit at this place, where there is such.
-fn exceeding(place: Option<usize>) -> Option<Found>
-    ensures { IsLeastOf (OfCause TooMany (λ at. place ≡ Some at)) result }
+fn exceeding(place: Option<usize>, after: Option<Found>) -> Option<Found>
+    ensures { IsNextOf after (OfCause TooMany (λ at. place ≡ Some at)) result }
 {
     let at = place?;
-    Some(Found {
-        at,
-        cause: NameCause::TooMany,
-    })
+    found_where(true, at, NameCause::TooMany, after)
 }

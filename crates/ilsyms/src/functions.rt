@@ -107,7 +107,7 @@ fn lines_of(
     let lines = function.function().lines();
     let slots = own_slots(alloc, function)?;
     let global_slots = vec![in alloc; slots.len(); scope.globals().len()]?;
-    let (labels, _) = number_labels(alloc, scope, lines)?;
+    let (labels, _) = number_labels(alloc, scope, lines, None)?;
     let numbering = Numbering::new(
         scope,
         BodyNumber::Function(number),

@@ -1,10 +1,11 @@
 //! Names of a source program: what each name in a line means, and the plan of its task.
 //!
 //! What crosses the boundary: [`resolve`], which takes an [`ilsource::Source`] and a binding to its
-//! one [`Plan`], where each name is the number of a slot, or reports the least [`NameFault`]. A
-//! task of a source program (specs/Tasks.antt) means `source_scan` (specs/Meaning.antt, to be read
-//! first), over names. The plan is `plan_of_tree` (specs/Resolved.antt), whose scans leave the
-//! same, and what stands against it is `IsFault` (specs/Faults.antt).
+//! one [`Plan`], where each name is the number of a slot, or reports the least [`NameFault`];
+//! [`next_fault`] finds all faults, one after the other. A task of a source program
+//! (specs/Tasks.antt) means `source_scan` (specs/Meaning.antt, to be read first), over names. The
+//! plan is `plan_of_tree` (specs/Resolved.antt), whose scans leave the same, and what stands
+//! against it is `IsFault` (specs/Faults.antt).
 //!
 //! Meaning and plan find names by one function, `place_of`, so that a mistake in it would be in
 //! both. The law [`names_have_places`] says that it makes none: by declarations alone, each name in
@@ -36,7 +37,8 @@ mod usage;
 mod words;
 mod written_twice;
 
+pub use faults::next_fault;
 pub use ilplan::{Plan, ProgramInstance, Slot, SlotOwner, Task};
-pub use ilscope::{NameCause, NameFault, Scope};
+pub use ilscope::{Found, NameCause, NameFault, Scope};
 pub use placing::names_have_places;
 pub use resolving::resolve;

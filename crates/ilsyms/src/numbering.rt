@@ -71,8 +71,8 @@ impl<'a, 's, 't> Numbering<'a, 's, 't> {
     ghost use Rattle.ilsyms.specs.NumberingSteps.{place_by_number, program_at, slot_number};
 
     /// The numbering of an instance of the program with this number, or of the function, which has
-    /// so many lines. `slots` are its task's or its own, `global_slots` their numbers by global
-    /// variable, and `blocks` the number of its task's block instances.
+    /// the given number of lines. `slots` are its task's or its own, `global_slots` their numbers
+    /// by global variable, and `blocks` the number of its task's block instances.
     pub(crate) fn new(
         scope: &'a Scope<'s>,
         body: BodyNumber,

@@ -51,7 +51,7 @@ pub(crate) fn plan_instances(
     for instance in instances {
         let program = program_of(scope, instance.program);
         let lines = program.program().lines();
-        let (labels, _) = number_labels(alloc, scope, lines)?;
+        let (labels, _) = number_labels(alloc, scope, lines, None)?;
         let numbering = Numbering::new(
             scope,
             BodyNumber::Program(instance.program),
@@ -71,7 +71,8 @@ pub(crate) fn plan_instances(
     Ok(planned)
 }
 
-/// For each of so many global variables the number of its slot; past the last where it has none.
+/// For each of the given number of global variables the number of its slot; past the last where it
+/// has none.
 fn global_slots(alloc: Global, slots: &[Slot], globals: usize) -> Result<Vec<usize>, AllocError>
     ensures { IfOk result (λ v. AreGlobalSlots slots.now globals v.items) }
 {

@@ -38,8 +38,8 @@ impl<'t> TaskParts<'t> {
     ghost use Rattle.ilsyms.specs.TaskPartSteps.{AreParts};
     ghost use Rattle.ilsyms.specs.TaskSteps.{AreThere};
 
-    /// Those of a task with these instances. `calls` are those of each program, and `needs` those of
-    /// each function.
+    /// Those of a task with these instances. `calls` are those of each program, and `needs` those
+    /// of each function.
     fn of(
         alloc: Global,
         scope: &Scope<'_>,

@@ -43,7 +43,7 @@ pub(crate) fn used_functions(
     Ok(used)
 }
 
-/// For each of so many functions whether the lines of the instances' programs call it.
+/// For each of the given number of functions whether the lines of the instances' programs call it.
 fn called_functions(
     alloc: Global,
     count: usize,

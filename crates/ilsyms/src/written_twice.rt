@@ -1,7 +1,7 @@
 //! Global variables that two tasks store to.
 
 ghost use Rattle.std.specs.Prelude.{◌≡◌, IfOk, length, map};
-ghost use Rattle.ildeclared.specs.Faults.{IsLeastOf, OfCause};
+ghost use Rattle.ildeclared.specs.Faults.{IsNextOf, OfCause};
 ghost use Rattle.ildeclared.specs.declared.fault.NameCause.TheVariants.{WrittenTwice};
 ghost use Rattle.ilscope.specs.Configured.{globals_of};
 ghost use Rattle.ilscope.specs.Declarations.{declared_programs};
@@ -13,41 +13,37 @@ ghost use Rattle.ilsyms.specs.declared.task_sets.TaskSet.TheVariants.{Several};
 
 use crate::task_sets::{TaskSet, add_tasks, empty_sets};
 use crate::tasks::{TaskInstance, TaskInstances};
-use ilscope::{DeclaredGlobal, Found, NameCause, Scope, lesser_of};
+use ilscope::{DeclaredGlobal, Found, NameCause, Scope, found_where, lesser_of};
 use iluses::stored_globals;
 use std::alloc::{AllocError, Global};
 
-/// The least fault of a global variable that two tasks store to. The lines of each program are read
-/// once, in however many tasks it has instances.
+/// The next fault after `after` of a global variable that two tasks store to. The lines of each
+/// program are read once, in however many tasks it has instances.
 pub(crate) fn written_twice(
     alloc: Global,
     scope: &Scope<'_>,
     tasks: &[TaskInstances],
+    after: Option<Found>,
 ) -> Result<Option<Found>, AllocError>
     requires { AreInstancesOfTasks scope.now.tree tasks.now }
     ensures { IfOk result (λ found.
-        IsLeastOf (OfCause WrittenTwice (IsWrittenTwice scope.now.tree)) found) }
+        IsNextOf after (OfCause WrittenTwice (IsWrittenTwice scope.now.tree)) found) }
 {
     let sets = tasks_of_globals(alloc, scope, tasks)?;
     let mut least = None;
     for (number, global) in scope.globals().iter().enumerate() {
-        least = lesser_of(least, fault_of_global(*global, sets[number]));
+        least = lesser_of(least, fault_of_global(*global, sets[number], after));
     }
     Ok(least)
 }
 
 /// The fault of a global variable that these tasks store to.
-fn fault_of_global(global: DeclaredGlobal, tasks: TaskSet) -> Option<Found>
-    ensures { IsLeastOf (OfCause WrittenTwice
+fn fault_of_global(global: DeclaredGlobal, tasks: TaskSet, after: Option<Found>) -> Option<Found>
+    ensures { IsNextOf after (OfCause WrittenTwice
         (λ place. (tasks ≡ Several) × (place ≡ global.name.from))) result }
 {
-    if !matches!(tasks, TaskSet::Several) {
-        return None;
-    }
-    Some(Found {
-        at: global.name.from,
-        cause: NameCause::WrittenTwice,
-    })
+    let several = matches!(tasks, TaskSet::Several);
+    found_where(several, global.name.from, NameCause::WrittenTwice, after)
 }
 
 /// For each global variable the tasks that store to it.

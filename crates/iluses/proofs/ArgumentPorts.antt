@@ -11,7 +11,7 @@ use Rattle.ilsource.specs.declared.arguments.Argument.{Argument}
 use Rattle.ilsource.specs.declared.name.Name.{Name}
 use Rattle.ilsource.specs.declared.symbol.Symbol.{Symbol}
 use Rattle.ilsource.specs.Names.{folded}
-use Rattle.ildeclared.specs.Faults.{IsLeastOf, OfCause}
+use Rattle.ildeclared.specs.Faults.{IsNextOf, OfCause}
 use Rattle.ildeclared.specs.Kept.{Kept}
 use Rattle.ildeclared.specs.Order.{lesser_of_two}
 use Rattle.ildeclared.specs.declared.fault.NameCause.TheVariants.{Twice}
@@ -78,11 +78,12 @@ module _ (text : List ℕ) where
         subst (λ (ns : List Name). AreKnown text ns new) (sym one_more)
         (known_more (given (take i xs)) kept new port i e h)
 
-    pub given_twice_more : (kept : Kept ℕ) (a b : Option Found) → AreKnown text (given (take i xs)) kept
-        → IsLeastOf (OfCause Twice (IsTwiceIn (folded text) (given (take i xs)))) a
-        → IsLeastOf (OfCause Twice (IsKeptLabel text kept port)) b
-        → IsLeastOf (OfCause Twice (IsTwiceIn (folded text) (given (take (i + 1) xs)))) (lesser_of_two a b)
-    given_twice_more kept a b known h k =
-        subst (λ (ns : List Name). IsLeastOf (OfCause Twice (IsTwiceIn (folded text) ns)) (lesser_of_two a b))
+    pub given_twice_more : (after : Option Found) (kept : Kept ℕ) (a b : Option Found) → AreKnown text
+        (given (take i xs)) kept
+        → IsNextOf after (OfCause Twice (IsTwiceIn (folded text) (given (take i xs)))) a
+        → IsNextOf after (OfCause Twice (IsKeptLabel text kept port)) b
+        → IsNextOf after (OfCause Twice (IsTwiceIn (folded text) (given (take (i + 1) xs)))) (lesser_of_two a b)
+    given_twice_more after kept a b known h k =
+        subst (λ (ns : List Name). IsNextOf after (OfCause Twice (IsTwiceIn (folded text) ns)) (lesser_of_two a b))
         (sym one_more)
-        (again text (given (take i xs)) kept a b known port h k)
+        (again text after (given (take i xs)) kept a b known port h k)

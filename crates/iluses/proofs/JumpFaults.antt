@@ -8,7 +8,7 @@ use Rattle.ilsource.specs.declared.instruction.Line.{Line}
 use Rattle.ilsource.specs.declared.name.Name.{Name}
 use Rattle.ilsource.specs.declared.symbol.Symbol.{Symbol}
 use Rattle.ilsource.specs.Names.{folded, SameName}
-use Rattle.ildeclared.specs.Faults.{IsLeastOf, OfCause, SomeOf}
+use Rattle.ildeclared.specs.Faults.{IsNextOf, OfCause, SomeOf}
 use Rattle.ildeclared.specs.Kept.{Kept}
 use Rattle.ildeclared.specs.Order.{lesser_of_two}
 use Rattle.ildeclared.specs.declared.fault.NameCause.{NameCause}
@@ -16,8 +16,8 @@ use Rattle.ildeclared.specs.declared.fault.NameCause.TheVariants.{Unknown, Twice
 use Rattle.ildeclared.specs.declared.fault.NameCause.TheVariants.{BadAddress, InputRangeTooSmall, WrittenTwice}
 use Rattle.ildeclared.specs.declared.fault.NameCause.TheVariants.{WritesInput, NoTask, TooMany, BadDeclaration}
 use Rattle.ildeclared.specs.declared.found.Found.{Found}
-use Rattle.ildeclared.proofs.FoundOrder.{best_same, or_else}
-use Rattle.ildeclared.proofs.Least.{both_least, got_at, got_below}
+use Rattle.ildeclared.proofs.FoundOrder.{next_same, or_else}
+use Rattle.ildeclared.proofs.Least.{both_next, got_at, got_below}
 use Rattle.ilscope.specs.Faults.{IsTwiceIn}
 use Rattle.ilscope.specs.Tables.{first_at}
 use Rattle.iluses.specs.Faults.{labels_of, target_of, JumpsTo, IsFaultOfJumps, IsFaultOfLabels}
@@ -230,21 +230,22 @@ module _ (text : List ℕ) (kept : Kept ℕ) (lines : List (Line Symbol Name)) (
       from_faults BadDeclaration s = absurd s
 
     -- the least fault of all lines is that of jumps
-    pub all_jumps : (bound : ℕ) → length lines ≤ bound → (o : Option Found)
-        → IsLeastOf (IsFaultBefore text kept lines bound) o → IsLeastOf (IsFaultOfJumps text lines) o
-    all_jumps bound whole o h =
-        best_same (IsFaultBefore text kept lines bound) (IsFaultOfJumps text lines) o
+    pub all_jumps : (after : Option Found) (bound : ℕ) → length lines ≤ bound → (o : Option Found)
+        → IsNextOf after (IsFaultBefore text kept lines bound) o → IsNextOf after (IsFaultOfJumps text lines) o
+    all_jumps after bound whole o h =
+        next_same after (IsFaultBefore text kept lines bound) (IsFaultOfJumps text lines) o
         (λ place cause f. to_faults bound whole place cause f)
         (λ place cause s. from_faults bound whole place cause s) h
 
 -- with one line more
-pub jumps_more : (text : List ℕ) (kept : Kept ℕ) (lines : List (Line Symbol Name)) (n : ℕ) (line : Line Symbol Name)
+pub jumps_more : (after : Option Found) (text : List ℕ) (kept : Kept ℕ) (lines : List (Line Symbol Name)) (n : ℕ)
+    (line : Line Symbol Name)
     → n < length lines → line ≡ get_or lines n line → (a b : Option Found)
-    → IsLeastOf (IsFaultBefore text kept lines n) a → IsLeastOf (IsFaultOfJump text kept n line.instruction) b
-    → IsLeastOf (IsFaultBefore text kept lines (n + 1)) (lesser_of_two a b)
-jumps_more text kept lines n line below is a b h k =
+    → IsNextOf after (IsFaultBefore text kept lines n) a → IsNextOf after (IsFaultOfJump text kept n line.instruction) b
+    → IsNextOf after (IsFaultBefore text kept lines (n + 1)) (lesser_of_two a b)
+jumps_more after text kept lines n line below is a b h k =
     let here : slice_get lines n ≡ Some line = got_at lines n line below is in
-    best_same _ _ (lesser_of_two a b)
+    next_same after _ _ (lesser_of_two a b)
     (λ place cause q.
     or_else
     (λ f. record {
@@ -259,7 +260,7 @@ jumps_more text kept lines n line below is a b h k =
     or_else
     (λ low. inl (record { number = f.number; line = f.line; below = low; is = f.is; fault = f.fault }))
     (λ e. inr (at_last place cause f e here)) (last_or_before f.number n f.below))
-    (both_least (IsFaultBefore text kept lines n) (IsFaultOfJump text kept n line.instruction) a b h k)
+    (both_next after (IsFaultBefore text kept lines n) (IsFaultOfJump text kept n line.instruction) a b h k)
   where
     at_last : (place : ℕ) (cause : NameCause) (f : IsFaultBefore text kept lines (n + 1) place cause) → f.number ≡ n
         → slice_get lines n ≡ Some line → IsFaultOfJump text kept n line.instruction place cause
@@ -270,20 +271,21 @@ jumps_more text kept lines n line below is a b h k =
         subst (λ (one : Line Symbol Name). IsFaultOfJump text kept n one.instruction place cause) same
         (subst (λ (m : ℕ). IsFaultOfJump text kept m f.line.instruction place cause) e f.fault)
 
-pub no_jump_before : (text : List ℕ) (kept : Kept ℕ) (lines : List (Line Symbol Name))
-    → IsLeastOf (IsFaultBefore text kept lines 0) None
-no_jump_before text kept lines place cause f = let below = f.below in absurd (omega (arith, below))
+pub no_jump_before : (after : Option Found) (text : List ℕ) (kept : Kept ℕ) (lines : List (Line Symbol Name))
+    → IsNextOf after (IsFaultBefore text kept lines 0) None
+no_jump_before after text kept lines place cause f = let below = f.0.below in absurd (omega (arith, below))
 
 -- the faults of labels of a program are those of labels that are given again, and of jumps
-pub labels_of_program : (text : List ℕ) (lines : List (Line Symbol Name)) (a b : Option Found)
-    → IsLeastOf (OfCause Twice (IsTwiceIn (folded text) (labels_of lines))) a → IsLeastOf (IsFaultOfJumps text lines) b
-    → IsLeastOf (IsFaultOfLabels text lines) (lesser_of_two a b)
-labels_of_program text lines a b h k =
-    best_same _ (IsFaultOfLabels text lines) (lesser_of_two a b)
+pub labels_of_program : (after : Option Found) (text : List ℕ) (lines : List (Line Symbol Name)) (a b : Option Found)
+    → IsNextOf after (OfCause Twice (IsTwiceIn (folded text) (labels_of lines))) a → IsNextOf after
+    (IsFaultOfJumps text lines) b
+    → IsNextOf after (IsFaultOfLabels text lines) (lesser_of_two a b)
+labels_of_program after text lines a b h k =
+    next_same after _ (IsFaultOfLabels text lines) (lesser_of_two a b)
     (λ place cause q.
     or_else (λ t. subst (λ (c : NameCause). IsFaultOfLabels text lines place c) (sym t.0) t.1) (into place cause) q)
     from
-    (both_least (OfCause Twice (IsTwiceIn (folded text) (labels_of lines))) (IsFaultOfJumps text lines) a b h k)
+    (both_next after (OfCause Twice (IsTwiceIn (folded text) (labels_of lines))) (IsFaultOfJumps text lines) a b h k)
   where
     into : (place : ℕ) (cause : NameCause) → IsFaultOfJumps text lines place cause
         → IsFaultOfLabels text lines place cause

@@ -12,13 +12,13 @@ use Rattle.ilsource.specs.Passes.{has_label}
 use Rattle.ilsource.specs.declared.name.Name.{Name}
 use Rattle.ilsource.specs.declared.symbol.Symbol.{Symbol}
 use Rattle.ilsource.specs.Names.{folded, SameName}
-use Rattle.ildeclared.specs.Faults.{IsLeastOf, OfCause, SomeOf}
+use Rattle.ildeclared.specs.Faults.{IsNextOf, OfCause, SomeOf}
 use Rattle.ildeclared.specs.Kept.{Kept}
 use Rattle.ildeclared.specs.Order.{lesser_of_two}
 use Rattle.ildeclared.specs.declared.fault.NameCause.TheVariants.{Twice}
 use Rattle.ildeclared.specs.declared.found.Found.{Found}
-use Rattle.ildeclared.proofs.FoundOrder.{best_same, or_else}
-use Rattle.ildeclared.proofs.Least.{both_least, take_more}
+use Rattle.ildeclared.proofs.FoundOrder.{next_same, or_else}
+use Rattle.ildeclared.proofs.Least.{both_next, take_more}
 use Rattle.ildeclared.proofs.TwiceLast.{twice_last}
 use Rattle.ilscope.specs.Faults.{IsTwiceIn}
 use Rattle.ilscope.specs.Tables.{first_at}
@@ -102,22 +102,23 @@ module _ (text : List ℕ) where
 
 module _ (text : List ℕ) where
   -- with the names before, and one more where there is one
-  pub again : (front : List Name) (kept : Kept ℕ) (a b : Option Found)
+  pub again : (after : Option Found) (front : List Name) (kept : Kept ℕ) (a b : Option Found)
       → ((x : Name) → is_some (lookup (bytes_eq (folded text x)) kept)
       ≡ is_some (first_at (bytes_eq (folded text x)) (map (folded text) front)))
       → (o : Option Name)
-      → IsLeastOf (OfCause Twice (IsTwiceIn (folded text) front)) a
-      → IsLeastOf (OfCause Twice (IsKeptLabel text kept o)) b
-      → IsLeastOf (OfCause Twice (IsTwiceIn (folded text) (front ++ cons_option o []))) (lesser_of_two a b)
-  again front kept a b known None h k =
-      subst (λ (ns : List Name). IsLeastOf (OfCause Twice (IsTwiceIn (folded text) ns)) (lesser_of_two a b))
+      → IsNextOf after (OfCause Twice (IsTwiceIn (folded text) front)) a
+      → IsNextOf after (OfCause Twice (IsKeptLabel text kept o)) b
+      → IsNextOf after (OfCause Twice (IsTwiceIn (folded text) (front ++ cons_option o []))) (lesser_of_two a b)
+  again after front kept a b known None h k =
+      subst (λ (ns : List Name). IsNextOf after (OfCause Twice (IsTwiceIn (folded text) ns)) (lesser_of_two a b))
       (sym (append-nil front))
-      (best_same _ _ (lesser_of_two a b)
+      (next_same after _ _ (lesser_of_two a b)
       (λ place cause q. or_else (λ s. s) (λ n. absurd n.1) q)
       (λ place cause s. inl s)
-      (both_least (OfCause Twice (IsTwiceIn (folded text) front)) (OfCause Twice (IsKeptLabel text kept None)) a b h k))
-  again front kept a b known (Some m) h k =
-      twice_last (λ n l. folded text n ≡ folded text l) (λ n. n.from) front m
+      (both_next after (OfCause Twice (IsTwiceIn (folded text) front)) (OfCause Twice (IsKeptLabel text kept None)) a b
+      h k))
+  again after front kept a b known (Some m) h k =
+      twice_last after (λ n l. folded text n ≡ folded text l) (λ n. n.from) front m
       (IsSome (lookup (bytes_eq (folded text m)) kept)) a b
       (λ s. found_some (folded text) front (folded text m) (sym (known m) ∙ s))
       (λ s. known m ∙ some_found (folded text) front (folded text m) s)
@@ -125,13 +126,14 @@ module _ (text : List ℕ) where
 
 module _ (text : List ℕ) (lines : List (Line Symbol Name)) (i : ℕ) (line : Line Symbol Name) (below : i < length lines)
     (is : line ≡ get_or lines i line) where
-  pub labels_twice_more : (kept : Kept ℕ) (a b : Option Found) → AreNumbered text (take i lines) kept
-      → IsLeastOf (OfCause Twice (IsTwiceIn (folded text) (labels_of (take i lines)))) a
-      → IsLeastOf (OfCause Twice (IsKeptLabel text kept line.label)) b
-      → IsLeastOf (OfCause Twice (IsTwiceIn (folded text) (labels_of (take (i + 1) lines)))) (lesser_of_two a b)
-  labels_twice_more kept a b n h k =
+  pub labels_twice_more : (after : Option Found) (kept : Kept ℕ) (a b : Option Found) → AreNumbered text (take i lines)
+      kept
+      → IsNextOf after (OfCause Twice (IsTwiceIn (folded text) (labels_of (take i lines)))) a
+      → IsNextOf after (OfCause Twice (IsKeptLabel text kept line.label)) b
+      → IsNextOf after (OfCause Twice (IsTwiceIn (folded text) (labels_of (take (i + 1) lines)))) (lesser_of_two a b)
+  labels_twice_more after kept a b n h k =
       let front : List (Line Symbol Name) = take i lines in
-      subst (λ (ns : List Name). IsLeastOf (OfCause Twice (IsTwiceIn (folded text) ns)) (lesser_of_two a b))
+      subst (λ (ns : List Name). IsNextOf after (OfCause Twice (IsTwiceIn (folded text) ns)) (lesser_of_two a b))
       (sym (ap labels_of (take_more lines i line below is)
       ∙ filter_map-append (λ (one : Line Symbol Name). one.label) front (line ∷ [])))
-      (again text (labels_of front) kept a b (λ x. ap is_some (n x) ∙ among_lines text front x) line.label h k)
+      (again text after (labels_of front) kept a b (λ x. ap is_some (n x) ∙ among_lines text front x) line.label h k)

@@ -9,4 +9,3 @@ pub mod PortNumbers
 pub mod SameNames
 pub mod StoredExternals
 pub mod StoredGlobals
-pub mod UseFaults

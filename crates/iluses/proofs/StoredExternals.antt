@@ -7,11 +7,10 @@ use Rattle.ilsource.specs.Names.{SameName, folded}
 use Rattle.ilsource.specs.SourceTrees.{Tree}
 use Rattle.ilsource.specs.declared.name.Name.{Name}
 use Rattle.ilsource.specs.declared.symbol.Symbol.{Symbol}
-use Rattle.ildeclared.specs.Faults.{IsLeastOf, OfCause, SomeOf}
+use Rattle.ildeclared.specs.Faults.{IsNextOf, OfCause, SomeOf}
 use Rattle.ildeclared.specs.declared.external.DeclaredExternal.{DeclaredExternal}
 use Rattle.ildeclared.specs.declared.fault.NameCause.TheVariants.{WritesInput}
 use Rattle.ildeclared.specs.declared.found.Found.{Found}
-use Rattle.ildeclared.proofs.Least.{one_found}
 use Rattle.ilscope.specs.Configured.{global_number}
 use Rattle.ilscope.specs.Declarations.{DeclaredProgram}
 use Rattle.ilscope.specs.Tables.{external_number}
@@ -89,29 +88,27 @@ module _ (tree : Tree) (p : DeclaredProgram) (u : Use Symbol) (o : Option Name)
       by None e s = s
       by (Some n) e s = none n ((is n).1 (e, s.0)) s.1
 
-  pub no_input : ((name : Name) → o ≡ Some name → ¬ IsNamedInput tree name)
-      → IsLeastOf (OfCause WritesInput (λ place. StoresToInput tree p place u)) None
-  no_input none place cause f = no_fault none place f.1
+  pub no_input : (after : Option Found) → ((name : Name) → o ≡ Some name → ¬ IsNamedInput tree name)
+      → IsNextOf after (OfCause WritesInput (λ place. StoresToInput tree p place u)) None
+  no_input after none place cause f = no_fault none place f.0.1
 
-  pub input_stored : (name : Name) (f : Found) → o ≡ Some name → IsNamedInput tree name
-      → f.at ≡ name.from → f.cause ≡ WritesInput
-      → IsLeastOf (OfCause WritesInput (λ place. StoresToInput tree p place u)) (Some f)
-  input_stored name f e input at cause =
-      one_found (OfCause WritesInput (λ place. StoresToInput tree p place u)) f (
-        cause,
-        subst (λ (m : Option Name).
-            IsSomeAnd m (λ n. IsExternal tree.text p n × IsNamedInput tree n × (f.at ≡ n.from)))
-            (sym s.0) (s.1, input, at),
-      )
-      (λ place its q. (by place (stored_name u.purpose u.operand) refl q.1, q.0 ∙ sym cause))
+  pub input_stored : (name : Name) → o ≡ Some name → (place : ℕ)
+      → (IsNamedInput tree name × (place ≡ name.from)) ↔ StoresToInput tree p place u
+  input_stored name e place = (
+    (λ f. subst (λ (m : Option Name).
+        IsSomeAnd m (λ n. IsExternal tree.text p n × IsNamedInput tree n × (place ≡ n.from)))
+        (sym s.0) (s.1, f.0, f.1)),
+    by (stored_name u.purpose u.operand) refl,
+  )
     where
       s : StoresExternal tree.text p u name
       s = (is name).0 e
 
-      by : (place : ℕ) (m : Option Name) → stored_name u.purpose u.operand ≡ m
-          → IsSomeAnd m (λ n. IsExternal tree.text p n × IsNamedInput tree n × (place ≡ n.from)) → place ≡ f.at
-      by place None g t = absurd t
-      by place (Some n) g t =
+      by : (m : Option Name) → stored_name u.purpose u.operand ≡ m
+          → IsSomeAnd m (λ n. IsExternal tree.text p n × IsNamedInput tree n × (place ≡ n.from))
+          → IsNamedInput tree name × (place ≡ name.from)
+      by None g t = absurd t
+      by (Some n) g t =
           let other = s.0 in
           let same : n ≡ name = cc in
-          t.2 ∙ ap (λ (m : Name). m.from) same ∙ sym at
+          (subst (λ (m : Name). IsNamedInput tree m) same t.1, t.2 ∙ ap (λ (m : Name). m.from) same)

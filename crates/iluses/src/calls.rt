@@ -2,7 +2,7 @@
 
 ghost use Rattle.std.specs.Prelude.{◌≡◌, ◌↔◌, ◌+◌, ◌<◌, ◌++◌, IfOk, IsSome, IsTrue, OnOk, Some};
 ghost use Rattle.std.specs.Prelude.{option_map};
-ghost use Rattle.ildeclared.specs.Faults.{IsLeastOf, OfCause};
+ghost use Rattle.ildeclared.specs.Faults.{IsNextOf, OfCause};
 ghost use Rattle.ildeclared.specs.declared.fault.NameCause.TheVariants.{BadDeclaration};
 ghost use Rattle.ilscope.specs.Declarations.{DeclaredProgram, body_at};
 ghost use Rattle.iluses.specs.CallSteps.{call_ended, given_after};
@@ -53,31 +53,37 @@ fn functions_above(scope: &Scope<'_>, body: BodyNumber) -> usize
     }
 }
 
-/// The least fault of a call with a wrong number of operands, in the program or the function with
-/// this number, which has these lines.
+/// The next fault after `after` of a call with a wrong number of operands, in the program or the
+/// function with this number, which has these lines.
 pub(crate) fn fault_of_calls(
     alloc: Global,
     scope: &Scope<'_>,
     body: BodyNumber,
     lines: &[Line<Symbol, Name>],
+    after: Option<Found>,
 ) -> Result<Option<Found>, AllocError>
     requires { IsSome (body_at scope.now.tree body) }
     ensures { (p : DeclaredProgram) → body_at scope.now.tree body ≡ Some p
-        → IfOk result (λ found. IsLeastOf (IsFaultOfCalls scope.now.tree p lines.now) found) }
+        → IfOk result (λ found. IsNextOf after (IsFaultOfCalls scope.now.tree p lines.now) found) }
 {
     let calls = calls_of(alloc, lines)?;
     let mut least = None;
     for call in &calls {
-        least = lesser_of(least, called_wrongly(scope, body, *call));
+        least = lesser_of(least, called_wrongly(scope, body, *call, after));
     }
     Ok(least)
 }
 
 /// The fault of one such call.
-fn called_wrongly(scope: &Scope<'_>, body: BodyNumber, call: FunctionCall) -> Option<Found>
+fn called_wrongly(
+    scope: &Scope<'_>,
+    body: BodyNumber,
+    call: FunctionCall,
+    after: Option<Found>,
+) -> Option<Found>
     requires { IsSome (body_at scope.now.tree body) }
     ensures { (p : DeclaredProgram) → body_at scope.now.tree body ≡ Some p
-        → IsLeastOf (OfCause BadDeclaration (λ place.
+        → IsNextOf after (OfCause BadDeclaration (λ place.
         IsCalledWrongly scope.now.tree p place call.operands call.function)) result }
 {
     let Symbol::Function(name) = call.function else {
@@ -85,11 +91,11 @@ fn called_wrongly(scope: &Scope<'_>, body: BodyNumber, call: FunctionCall) -> Op
     };
     let function = function_called(scope, body, name)?;
     let right = takes(function.inputs().len(), call.operands);
-    found_where(!right, name.from, NameCause::BadDeclaration)
+    found_where(!right, name.from, NameCause::BadDeclaration, after)
 }
 
-/// Whether a function with so many inputs takes so many operands: the current result is its first
-/// argument.
+/// Whether a function with the given number of inputs takes the given number of operands: the
+/// current result is its first argument.
 fn takes(inputs: usize, operands: usize) -> bool
     ensures { IsTrue result ↔ (inputs ≡ operands + 1) }
 {
@@ -156,7 +162,7 @@ fn push_calls_in(calls: &mut Vec<FunctionCall>, nested: &Nested<Symbol>) -> Resu
     Ok(())
 }
 
-/// Adds the call that a piece ends, to which so many operands are given.
+/// Adds the call that a piece ends, to which the given number of operands are given.
 fn push_ended(
     calls: &mut Vec<FunctionCall>,
     given: usize,

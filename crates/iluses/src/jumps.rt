@@ -1,27 +1,28 @@
 //! Faults of jumps.
 
 ghost use Rattle.std.specs.Prelude.{◌≡◌, ◌↔◌, Some};
-ghost use Rattle.ildeclared.specs.Faults.{IsLeastOf};
+ghost use Rattle.ildeclared.specs.Faults.{IsNextOf};
 ghost use Rattle.ildeclared.specs.declared.fault.NameCause.{NameCause};
 ghost use Rattle.iluses.specs.Labels.{AreNumbered};
 ghost use Rattle.iluses.specs.JumpSteps.{IsCauseOfJump, IsFaultOfJump};
 ghost use Rattle.iluses.specs.Faults.{IsFaultOfJumps};
 
-use ilscope::{Found, NameCause, Names, Scope, lesser_of};
+use ilscope::{Found, NameCause, Names, Scope, found_where, lesser_of};
 use ilsource::{Instruction, Line, Name, Symbol};
 
-/// The least fault of a jump.
+/// The next fault after `after` of a jump.
 pub(crate) fn fault_of_jumps(
     scope: &Scope<'_>,
     labels: &Names<usize>,
     lines: &[Line<Symbol, Name>],
+    after: Option<Found>,
 ) -> Option<Found>
     requires { AreNumbered scope.now.tree.text lines.now labels.now }
-    ensures { IsLeastOf (IsFaultOfJumps scope.now.tree.text lines.now) result }
+    ensures { IsNextOf after (IsFaultOfJumps scope.now.tree.text lines.now) result }
 {
     let mut least = None;
     for (number, line) in lines.iter().enumerate() {
-        least = lesser_of(least, fault_of_jump(scope, labels, number, line));
+        least = lesser_of(least, fault_of_jump(scope, labels, number, line, after));
     }
     least
 }
@@ -32,18 +33,16 @@ fn fault_of_jump(
     labels: &Names<usize>,
     number: usize,
     line: &Line<Symbol, Name>,
+    after: Option<Found>,
 ) -> Option<Found>
-    ensures { IsLeastOf
+    ensures { IsNextOf after
         (IsFaultOfJump scope.now.tree.text labels.now number line.now.instruction) result }
 {
     let Some(Instruction::Jump(_, label)) = &line.instruction else {
         return None;
     };
     let cause = cause_of_jump(labels.get(scope.spelling(*label)), number)?;
-    Some(Found {
-        at: label.from,
-        cause,
-    })
+    found_where(true, label.from, cause, after)
 }
 
 /// What is wrong with a jump of the line with this number, where `first` is the number of the first

@@ -2,19 +2,19 @@
 
 ghost use Rattle.std.specs.Prelude.{◌≡◌, IfOk, OnOk};
 ghost use Rattle.ilsource.specs.Names.{folded};
-ghost use Rattle.ildeclared.specs.Faults.{IsLeastOf, OfCause};
+ghost use Rattle.ildeclared.specs.Faults.{IsNextOf, OfCause};
 ghost use Rattle.ildeclared.specs.declared.fault.NameCause.TheVariants.{Twice};
 ghost use Rattle.ilscope.specs.Faults.{IsTwiceIn};
 ghost use Rattle.iluses.specs.Faults.{labels_of};
 ghost use Rattle.iluses.specs.Labels.{AreNumbered};
 ghost use Rattle.iluses.specs.LabelSteps.{IsKeptLabel, KeepsLabel};
 
-use ilscope::{Found, NameCause, Names, Scope, lesser_of};
+use ilscope::{Found, NameCause, Names, Scope, found_where, lesser_of};
 use ilsource::{Line, Name, Symbol};
 use std::alloc::{AllocError, Global};
 
-/// Under each label of one program's lines the number of the first line that has it, and the least
-/// fault of a label that is given again.
+/// Under each label of one program's lines the number of the first line that has it, and the next
+/// fault after `after` of a label that is given again.
 ///
 /// # Errors
 ///
@@ -23,16 +23,17 @@ pub fn number_labels(
     alloc: Global,
     scope: &Scope<'_>,
     lines: &[Line<Symbol, Name>],
+    after: Option<Found>,
 ) -> Result<(Names<usize>, Option<Found>), AllocError>
     ensures numbers { IfOk result (λ r. AreNumbered scope.now.tree.text lines.now r.0) }
     ensures twice { IfOk result (λ r.
-        IsLeastOf (OfCause Twice
+        IsNextOf after (OfCause Twice
         (IsTwiceIn (folded scope.now.tree.text) (labels_of lines.now))) r.1) }
 {
     let mut numbers = Names::new(alloc);
     let mut least = None;
     for (number, line) in lines.iter().enumerate() {
-        let again = add_name(alloc, scope, &mut numbers, line.label, number)?;
+        let again = add_name(alloc, scope, &mut numbers, line.label, number, after)?;
         least = lesser_of(least, again);
     }
     Ok((numbers, least))
@@ -45,20 +46,16 @@ pub(crate) fn add_name(
     numbers: &mut Names<usize>,
     name: Option<Name>,
     number: usize,
+    after: Option<Found>,
 ) -> Result<Option<Found>, AllocError>
     ensures numbers { OnOk result
         (KeepsLabel scope.now.tree.text name number numbers.old numbers.new) }
-    ensures twice { IfOk result (λ again. IsLeastOf
+    ensures twice { IfOk result (λ again. IsNextOf after
         (OfCause Twice (IsKeptLabel scope.now.tree.text numbers.old name)) again) }
 {
     let Some(name) = name else {
         return Ok(None);
     };
-    if numbers.add(alloc, scope.spelling(name), number)? {
-        return Ok(None);
-    }
-    Ok(Some(Found {
-        at: name.from,
-        cause: NameCause::Twice,
-    }))
+    let is_new = numbers.add(alloc, scope.spelling(name), number)?;
+    Ok(found_where(!is_new, name.from, NameCause::Twice, after))
 }

@@ -2,7 +2,7 @@
 //! wrong number of operands.
 
 ghost use Rattle.std.specs.Prelude.{◌≡◌, IfOk, IsSome, Some};
-ghost use Rattle.ildeclared.specs.Faults.{IsLeastOf, SomeOf};
+ghost use Rattle.ildeclared.specs.Faults.{IsNextOf, SomeOf};
 ghost use Rattle.ilscope.specs.Declarations.{DeclaredProgram, as_program, bodies_of, body_at};
 ghost use Rattle.ilscope.specs.Declarations.{declared_functions, declared_programs};
 ghost use Rattle.iluses.specs.Faults.{IsFaultOfBody, IsFaultOfLabels, IsFaultOfLines};
@@ -15,92 +15,108 @@ use ilscope::{BodyNumber, Found, Scope, lesser_of};
 use ilsource::{Line, Name, Symbol};
 use std::alloc::{AllocError, Global};
 
-/// The least fault, in any program or function, of a label, of one that is given again or of a
-/// jump's, of a port that is given again, or of a call with a wrong number of operands.
+/// The next fault after `after`, in any program or function, of a label, of one that is given again
+/// or of a jump's, of a port that is given again, or of a call with a wrong number of operands.
 ///
 /// # Errors
 ///
 /// The allocator is out of memory.
-pub fn fault_of_lines(alloc: Global, scope: &Scope<'_>) -> Result<Option<Found>, AllocError>
-    ensures { IfOk result (λ found. IsLeastOf
+pub fn fault_of_lines(
+    alloc: Global,
+    scope: &Scope<'_>,
+    after: Option<Found>,
+) -> Result<Option<Found>, AllocError>
+    ensures { IfOk result (λ found. IsNextOf after
         (λ place cause. SomeOf (λ p. IsFaultOfBody scope.now.tree p place cause)
         (bodies_of scope.now.tree)) found) }
 {
-    let programs = fault_in_programs(alloc, scope)?;
-    let functions = fault_in_functions(alloc, scope)?;
+    let programs = fault_in_programs(alloc, scope, after)?;
+    let functions = fault_in_functions(alloc, scope, after)?;
     Ok(lesser_of(programs, functions))
 }
 
-/// The least such fault in a program.
-fn fault_in_programs(alloc: Global, scope: &Scope<'_>) -> Result<Option<Found>, AllocError>
-    ensures { IfOk result (λ found. IsLeastOf
+/// The next such fault after `after` in a program.
+fn fault_in_programs(
+    alloc: Global,
+    scope: &Scope<'_>,
+    after: Option<Found>,
+) -> Result<Option<Found>, AllocError>
+    ensures { IfOk result (λ found. IsNextOf after
         (λ place cause. SomeOf (λ p. IsFaultOfBody scope.now.tree p place cause)
         (declared_programs scope.now.tree)) found) }
 {
     let mut least = None;
     for (number, program) in scope.programs().iter().enumerate() {
         let lines = program.program().lines();
-        let fault = fault_of_body(alloc, scope, BodyNumber::Program(number), lines)?;
+        let fault = fault_of_body(alloc, scope, BodyNumber::Program(number), lines, after)?;
         least = lesser_of(least, fault);
     }
     Ok(least)
 }
 
-/// The least such fault in a function.
-fn fault_in_functions(alloc: Global, scope: &Scope<'_>) -> Result<Option<Found>, AllocError>
-    ensures { IfOk result (λ found. IsLeastOf
+/// The next such fault after `after` in a function.
+fn fault_in_functions(
+    alloc: Global,
+    scope: &Scope<'_>,
+    after: Option<Found>,
+) -> Result<Option<Found>, AllocError>
+    ensures { IfOk result (λ found. IsNextOf after
         (λ place cause. SomeOf (λ f. IsFaultOfBody scope.now.tree (as_program f) place cause)
         (declared_functions scope.now.tree)) found) }
 {
     let mut least = None;
     for (number, function) in scope.functions().iter().enumerate() {
         let lines = function.function().lines();
-        let fault = fault_of_body(alloc, scope, BodyNumber::Function(number), lines)?;
+        let fault = fault_of_body(alloc, scope, BodyNumber::Function(number), lines, after)?;
         least = lesser_of(least, fault);
     }
     Ok(least)
 }
 
-/// The least such fault in the program or the function with this number, which has these lines.
+/// The next such fault after `after` in the program or the function with this number, which has
+/// these lines.
 fn fault_of_body(
     alloc: Global,
     scope: &Scope<'_>,
     body: BodyNumber,
     lines: &[Line<Symbol, Name>],
+    after: Option<Found>,
 ) -> Result<Option<Found>, AllocError>
     requires { IsSome (body_at scope.now.tree body) }
     ensures { (p : DeclaredProgram) → body_at scope.now.tree body ≡ Some p
         → lines.now ≡ p.program.lines
-        → IfOk result (λ found. IsLeastOf (IsFaultOfBody scope.now.tree p) found) }
+        → IfOk result (λ found. IsNextOf after (IsFaultOfBody scope.now.tree p) found) }
 {
-    let said = fault_in_lines(alloc, scope, lines)?;
-    let called = fault_of_calls(alloc, scope, body, lines)?;
+    let said = fault_in_lines(alloc, scope, lines, after)?;
+    let called = fault_of_calls(alloc, scope, body, lines, after)?;
     Ok(lesser_of(said, called))
 }
 
-/// The least fault of a label or of a port among one program's lines.
+/// The next fault after `after` of a label or of a port among one program's lines.
 fn fault_in_lines(
     alloc: Global,
     scope: &Scope<'_>,
     lines: &[Line<Symbol, Name>],
+    after: Option<Found>,
 ) -> Result<Option<Found>, AllocError>
     ensures { IfOk result (λ found.
-        IsLeastOf (IsFaultOfLines scope.now.tree.text lines.now) found) }
+        IsNextOf after (IsFaultOfLines scope.now.tree.text lines.now) found) }
 {
-    let labels = fault_of_labels(alloc, scope, lines)?;
-    let ports = given_twice(alloc, scope, lines)?;
+    let labels = fault_of_labels(alloc, scope, lines, after)?;
+    let ports = given_twice(alloc, scope, lines, after)?;
     Ok(lesser_of(labels, ports))
 }
 
-/// The least fault of a label among one program's lines.
+/// The next fault after `after` of a label among one program's lines.
 fn fault_of_labels(
     alloc: Global,
     scope: &Scope<'_>,
     lines: &[Line<Symbol, Name>],
+    after: Option<Found>,
 ) -> Result<Option<Found>, AllocError>
     ensures { IfOk result (λ found.
-        IsLeastOf (IsFaultOfLabels scope.now.tree.text lines.now) found) }
+        IsNextOf after (IsFaultOfLabels scope.now.tree.text lines.now) found) }
 {
-    let (labels, twice) = number_labels(alloc, scope, lines)?;
-    Ok(lesser_of(twice, fault_of_jumps(scope, &labels, lines)))
+    let (labels, twice) = number_labels(alloc, scope, lines, after)?;
+    Ok(lesser_of(twice, fault_of_jumps(scope, &labels, lines, after)))
 }

@@ -1,13 +1,13 @@
 //! Ports of block instances.
 
 ghost use Rattle.std.specs.Prelude.{◌≡◌, IsSome, Some};
-ghost use Rattle.ildeclared.specs.Faults.{IsLeastOf, OfCause};
+ghost use Rattle.ildeclared.specs.Faults.{IsNextOf, OfCause};
 ghost use Rattle.ildeclared.specs.declared.fault.NameCause.TheVariants.{WritesInput};
 ghost use Rattle.ilscope.specs.Declarations.{DeclaredProgram, body_at};
 ghost use Rattle.iluses.specs.Faults.{place_of_port, port_number, writes, WritesOutput};
 
 use ilblocks::BlockKind;
-use ilscope::{BodyNumber, Found, NameCause, Scope};
+use ilscope::{BodyNumber, Found, NameCause, Scope, found_where};
 use ilsource::{Name, Operand, Purpose, Symbol, Use};
 
 /// The kind of a block instance of the program or the function with this number, and the number of
@@ -42,10 +42,11 @@ pub(crate) fn output_written(
     scope: &Scope<'_>,
     body: BodyNumber,
     used: Use<Symbol>,
+    after: Option<Found>,
 ) -> Option<Found>
     requires { IsSome (body_at scope.now.tree body) }
     ensures { (p : DeclaredProgram) → body_at scope.now.tree body ≡ Some p
-        → IsLeastOf
+        → IsNextOf after
         (OfCause WritesInput (λ place. WritesOutput scope.now.tree.text p place used)) result }
 {
     let Operand::Name(Symbol::Port { block, port }) = used.operand else {
@@ -56,13 +57,9 @@ pub(crate) fn output_written(
     }
     let (kind, place) = port_of(scope, body, block, port)?;
     // Whether a port is an input does not depend on the number of buses.
-    if kind.input_type(1, place).is_some() {
-        return None;
-    }
-    Some(Found {
-        at: place_of_port(used.purpose, block, port),
-        cause: NameCause::WritesInput,
-    })
+    let is_output = kind.input_type(1, place).is_none();
+    let at = place_of_port(used.purpose, block, port);
+    found_where(is_output, at, NameCause::WritesInput, after)
 }
 
 /// Whether what is used so is stored to.

@@ -4,7 +4,7 @@ ghost use Rattle.std.specs.Prelude.{◌≡◌, ◌<◌, ◌↔◌, ℕ, All, IfO
 ghost use Rattle.std.specs.Prelude.{option_and_then};
 ghost use Rattle.std.specs.Prelude.{slice_get};
 ghost use Rattle.ilsource.specs.declared.name.Name.{Name};
-ghost use Rattle.ildeclared.specs.Faults.{IsInput, IsLeastOf, OfCause, SomeOf};
+ghost use Rattle.ildeclared.specs.Faults.{IsInput, IsNextOf, OfCause, SomeOf};
 ghost use Rattle.ildeclared.specs.declared.fault.NameCause.TheVariants.{WritesInput};
 ghost use Rattle.ilscope.specs.Configured.{global_named, globals_of};
 ghost use Rattle.ilscope.specs.Declarations.{DeclaredFunction, DeclaredProgram, body_at};
@@ -60,20 +60,24 @@ fn stored_global(scope: &Scope<'_>, number: usize, used: Use<Symbol>) -> Option<
 
 /// The fault of a use that stores to an input, in the program or the function with this
 /// number.
-pub(crate) fn input_written(scope: &Scope<'_>, body: BodyNumber, used: Use<Symbol>) -> Option<Found>
+pub(crate) fn input_written(
+    scope: &Scope<'_>,
+    body: BodyNumber,
+    used: Use<Symbol>,
+    after: Option<Found>,
+) -> Option<Found>
     requires { IsSome (body_at scope.now.tree body) }
     ensures { (p : DeclaredProgram) → body_at scope.now.tree body ≡ Some p
-        → IsLeastOf
+        → IsNextOf after
         (OfCause WritesInput (λ place. StoresToInput scope.now.tree p place used)) result }
 {
     let name = stored_external(scope, body, used)?;
-    if !is_named_input(scope, name) {
-        return None;
-    }
-    Some(Found {
-        at: name.from,
-        cause: NameCause::WritesInput,
-    })
+    found_where(
+        is_named_input(scope, name),
+        name.from,
+        NameCause::WritesInput,
+        after,
+    )
 }
 
 /// The name of the external that a use in the program with this number stores to.
@@ -126,30 +130,36 @@ fn is_input(address: DirectAddress) -> bool
     !matches!(address.kind, AddressKind::OutputByte)
 }
 
-/// The least fault of a use that stores to an input of the function with this number.
+/// The next fault after `after` of a use that stores to an input of the function with this number.
 pub(crate) fn fault_at_inputs(
     scope: &Scope<'_>,
     number: usize,
     uses: &[Use<Symbol>],
+    after: Option<Found>,
 ) -> Option<Found>
     requires { number < length (declared_functions scope.now.tree) }
     ensures { (f : DeclaredFunction)
         → slice_get (declared_functions scope.now.tree) number ≡ Some f
-        → IsLeastOf (IsFaultAtInputs scope.now.tree.text f uses.now) result }
+        → IsNextOf after (IsFaultAtInputs scope.now.tree.text f uses.now) result }
 {
     let mut least = None;
     for used in uses {
-        least = lesser_of(least, own_input_written(scope, number, *used));
+        least = lesser_of(least, own_input_written(scope, number, *used, after));
     }
     least
 }
 
 /// The fault of one such use.
-fn own_input_written(scope: &Scope<'_>, number: usize, used: Use<Symbol>) -> Option<Found>
+fn own_input_written(
+    scope: &Scope<'_>,
+    number: usize,
+    used: Use<Symbol>,
+    after: Option<Found>,
+) -> Option<Found>
     requires { number < length (declared_functions scope.now.tree) }
     ensures { (f : DeclaredFunction)
         → slice_get (declared_functions scope.now.tree) number ≡ Some f
-        → IsLeastOf (OfCause WritesInput
+        → IsNextOf after (OfCause WritesInput
         (λ place. StoresToOwnInput scope.now.tree.text f place used)) result }
 {
     let name = stored_name(used)?;
@@ -157,6 +167,7 @@ fn own_input_written(scope: &Scope<'_>, number: usize, used: Use<Symbol>) -> Opt
         is_own_input(scope, number, name),
         name.from,
         NameCause::WritesInput,
+        after,
     )
 }
 

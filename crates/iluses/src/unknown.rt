@@ -2,7 +2,7 @@
 
 ghost use Rattle.std.specs.Prelude.{◌≡◌, ◌↔◌, IsSome, IsTrue, Some};
 ghost use Rattle.ilsource.specs.Names.{SameName};
-ghost use Rattle.ildeclared.specs.Faults.{IsLeastOf, OfCause, SomeOf};
+ghost use Rattle.ildeclared.specs.Faults.{IsNextOf, OfCause, SomeOf};
 ghost use Rattle.ildeclared.specs.declared.fault.NameCause.TheVariants.{Unknown};
 ghost use Rattle.ilscope.specs.Declarations.{DeclaredProgram, body_at};
 ghost use Rattle.iluses.specs.Faults.{IsNoVariable, IsUnknownSymbol, IsUnknownUse};
@@ -10,21 +10,26 @@ ghost use Rattle.iluses.specs.Faults.{functions_above};
 
 use crate::calls::function_called;
 use crate::ports::{place_of_port, port_of};
-use ilscope::{BodyNumber, Found, NameCause, Scope};
+use ilscope::{BodyNumber, Found, NameCause, Scope, found_where};
 use ilsource::{Name, Operand, Purpose, Symbol, Use};
 
 /// The fault of a use of what is not declared for it, in the program or the function with this
 /// number.
-pub(crate) fn unknown_use(scope: &Scope<'_>, body: BodyNumber, used: Use<Symbol>) -> Option<Found>
+pub(crate) fn unknown_use(
+    scope: &Scope<'_>,
+    body: BodyNumber,
+    used: Use<Symbol>,
+    after: Option<Found>,
+) -> Option<Found>
     requires { IsSome (body_at scope.now.tree body) }
     ensures { (p : DeclaredProgram) → body_at scope.now.tree body ≡ Some p
-        → IsLeastOf
+        → IsNextOf after
         (OfCause Unknown (λ place. IsUnknownUse scope.now.tree p place used)) result }
 {
     let Operand::Name(symbol) = used.operand else {
         return None;
     };
-    unknown_symbol(scope, body, used.purpose, symbol)
+    unknown_symbol(scope, body, used.purpose, symbol, after)
 }
 
 /// The fault of a symbol for which nothing is declared.
@@ -33,10 +38,11 @@ fn unknown_symbol(
     body: BodyNumber,
     purpose: Purpose,
     symbol: Symbol,
+    after: Option<Found>,
 ) -> Option<Found>
     requires { IsSome (body_at scope.now.tree body) }
     ensures { (p : DeclaredProgram) → body_at scope.now.tree body ≡ Some p
-        → IsLeastOf
+        → IsNextOf after
         (OfCause Unknown
         (λ place. IsUnknownSymbol scope.now.tree p place purpose symbol)) result }
 {
@@ -49,13 +55,7 @@ fn unknown_symbol(
         Symbol::Block(name) => (scope.block(body, name).is_some(), name.from),
         Symbol::Function(name) => (is_function(scope, body, name), name.from),
     };
-    if is_declared {
-        return None;
-    }
-    Some(Found {
-        at,
-        cause: NameCause::Unknown,
-    })
+    found_where(!is_declared, at, NameCause::Unknown, after)
 }
 
 /// Whether the program or the function with this number has a variable or an external of this name.

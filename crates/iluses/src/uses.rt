@@ -1,7 +1,7 @@
 //! What lines use, and what is at fault with it.
 
 ghost use Rattle.std.specs.Prelude.{◌≡◌, ◌<◌, IfOk, IsSome, Some, length, slice_get};
-ghost use Rattle.ildeclared.specs.Faults.{IsLeastOf, SomeOf};
+ghost use Rattle.ildeclared.specs.Faults.{IsNextOf, SomeOf};
 ghost use Rattle.ilscope.specs.Declarations.{DeclaredFunction, DeclaredProgram, body_at};
 ghost use Rattle.ilscope.specs.Declarations.{declared_functions, declared_programs};
 ghost use Rattle.iluses.specs.Faults.{IsFaultAtUse, IsFaultAtUses, IsFaultInFunction};
@@ -30,23 +30,31 @@ pub fn uses_of(alloc: Global, lines: &[Line<Symbol, Name>]) -> Result<Vec<Use<Sy
     Ok(uses)
 }
 
-/// The least fault of a use, in any program or function: of what is not declared for it, or of a
-/// store to an output port or to an input.
+/// The next fault after `after` of a use, in any program or function: of what is not declared for
+/// it, or of a store to an output port or to an input.
 ///
 /// # Errors
 ///
 /// The allocator is out of memory.
-pub fn fault_at_uses(alloc: Global, scope: &Scope<'_>) -> Result<Option<Found>, AllocError>
-    ensures { IfOk result (λ found. IsLeastOf (IsFaultOfUses scope.now.tree) found) }
+pub fn fault_at_uses(
+    alloc: Global,
+    scope: &Scope<'_>,
+    after: Option<Found>,
+) -> Result<Option<Found>, AllocError>
+    ensures { IfOk result (λ found. IsNextOf after (IsFaultOfUses scope.now.tree) found) }
 {
-    let programs = fault_in_programs(alloc, scope)?;
-    let functions = fault_in_functions(alloc, scope)?;
+    let programs = fault_in_programs(alloc, scope, after)?;
+    let functions = fault_in_functions(alloc, scope, after)?;
     Ok(lesser_of(programs, functions))
 }
 
-/// The least such fault in a program.
-fn fault_in_programs(alloc: Global, scope: &Scope<'_>) -> Result<Option<Found>, AllocError>
-    ensures { IfOk result (λ found. IsLeastOf
+/// The next such fault after `after` in a program.
+fn fault_in_programs(
+    alloc: Global,
+    scope: &Scope<'_>,
+    after: Option<Found>,
+) -> Result<Option<Found>, AllocError>
+    ensures { IfOk result (λ found. IsNextOf after
         (λ place cause. SomeOf
         (λ p. IsFaultAtUses scope.now.tree p (uses_of p.program.lines) place cause)
         (declared_programs scope.now.tree)) found) }
@@ -56,62 +64,81 @@ fn fault_in_programs(alloc: Global, scope: &Scope<'_>) -> Result<Option<Found>, 
         let uses = uses_of(alloc, program.program().lines())?;
         least = lesser_of(
             least,
-            fault_in_uses(scope, BodyNumber::Program(number), &uses),
+            fault_in_uses(scope, BodyNumber::Program(number), &uses, after),
         );
     }
     Ok(least)
 }
 
-/// The least such fault in a function.
-fn fault_in_functions(alloc: Global, scope: &Scope<'_>) -> Result<Option<Found>, AllocError>
-    ensures { IfOk result (λ found. IsLeastOf (λ place cause. SomeOf
+/// The next such fault after `after` in a function.
+fn fault_in_functions(
+    alloc: Global,
+    scope: &Scope<'_>,
+    after: Option<Found>,
+) -> Result<Option<Found>, AllocError>
+    ensures { IfOk result (λ found. IsNextOf after (λ place cause. SomeOf
         (λ f. IsFaultInFunction scope.now.tree f place cause)
         (declared_functions scope.now.tree)) found) }
 {
     let mut least = None;
     for (number, function) in scope.functions().iter().enumerate() {
         let uses = uses_of(alloc, function.function().lines())?;
-        let fault = fault_in_function(scope, number, &uses);
+        let fault = fault_in_function(scope, number, &uses, after);
         least = lesser_of(least, fault);
     }
     Ok(least)
 }
 
-/// The least such fault in the function with this number, which uses these.
-fn fault_in_function(scope: &Scope<'_>, number: usize, uses: &[Use<Symbol>]) -> Option<Found>
+/// The next such fault after `after` in the function with this number, which uses these.
+fn fault_in_function(
+    scope: &Scope<'_>,
+    number: usize,
+    uses: &[Use<Symbol>],
+    after: Option<Found>,
+) -> Option<Found>
     requires { number < length (declared_functions scope.now.tree) }
     ensures { (f : DeclaredFunction)
         → slice_get (declared_functions scope.now.tree) number ≡ Some f
         → uses.now ≡ uses_of f.function.lines
-        → IsLeastOf (IsFaultInFunction scope.now.tree f) result }
+        → IsNextOf after (IsFaultInFunction scope.now.tree f) result }
 {
-    let used = fault_in_uses(scope, BodyNumber::Function(number), uses);
-    lesser_of(used, fault_at_inputs(scope, number, uses))
+    let used = fault_in_uses(scope, BodyNumber::Function(number), uses, after);
+    lesser_of(used, fault_at_inputs(scope, number, uses, after))
 }
 
-/// The least such fault among uses in the program or the function with this number, stores to
-/// inputs of its own apart.
-fn fault_in_uses(scope: &Scope<'_>, body: BodyNumber, uses: &[Use<Symbol>]) -> Option<Found>
+/// The next such fault after `after` among uses in the program or the function with this number,
+/// stores to inputs of its own apart.
+fn fault_in_uses(
+    scope: &Scope<'_>,
+    body: BodyNumber,
+    uses: &[Use<Symbol>],
+    after: Option<Found>,
+) -> Option<Found>
     requires { IsSome (body_at scope.now.tree body) }
     ensures { (p : DeclaredProgram) → body_at scope.now.tree body ≡ Some p
-        → IsLeastOf (IsFaultAtUses scope.now.tree p uses.now) result }
+        → IsNextOf after (IsFaultAtUses scope.now.tree p uses.now) result }
 {
     let mut least = None;
     for used in uses {
-        least = lesser_of(least, fault_of_use(scope, body, *used));
+        least = lesser_of(least, fault_of_use(scope, body, *used, after));
     }
     least
 }
 
-/// The least fault of one use.
-fn fault_of_use(scope: &Scope<'_>, body: BodyNumber, used: Use<Symbol>) -> Option<Found>
+/// The next fault after `after` of one use.
+fn fault_of_use(
+    scope: &Scope<'_>,
+    body: BodyNumber,
+    used: Use<Symbol>,
+    after: Option<Found>,
+) -> Option<Found>
     requires { IsSome (body_at scope.now.tree body) }
     ensures { (p : DeclaredProgram) → body_at scope.now.tree body ≡ Some p
-        → IsLeastOf (IsFaultAtUse scope.now.tree p used) result }
+        → IsNextOf after (IsFaultAtUse scope.now.tree p used) result }
 {
     let written = lesser_of(
-        output_written(scope, body, used),
-        input_written(scope, body, used),
+        output_written(scope, body, used, after),
+        input_written(scope, body, used, after),
     );
-    lesser_of(unknown_use(scope, body, used), written)
+    lesser_of(unknown_use(scope, body, used, after), written)
 }

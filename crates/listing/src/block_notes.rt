@@ -2,7 +2,6 @@
 //! or one thing once; timers that cannot do what they are for; settings that are made again and
 //! again.
 
-use crate::current::Content;
 use crate::facts::{House, TaskFacts};
 use crate::kinds;
 use crate::note::{Found, Note, Notes, note_on};
@@ -37,32 +36,24 @@ fn note_on_block(facts: &TaskFacts, number: usize, kind: BlockKind, name: Name) 
         if !is_cyclic {
             return note_on(&kinds::TIMER_IN_EVENT_TASK, name, Found::Task(facts.number));
         }
-        if facts.port(number, TIME).content == Content::Nothing {
+        if !facts.port(number, TIME).is_stored {
             return note_on(&kinds::TIMER_WITHOUT_TIME, name, Found::Nothing);
         }
     }
     let is_own_setting = is_setting(kind) && is_cyclic;
-    let (is_false, is_true) = used.is_each_scan;
-    if is_own_setting && is_false && is_true {
+    if is_own_setting && used.is_always_false && used.is_always_true {
         return note_on(
             &kinds::SETTING_AT_EACH_SCAN,
             name,
             Found::Task(facts.number),
         );
     }
-    note_on_input(
-        facts.port(number, FIRST).content,
-        kind,
-        name,
-        is_own_setting,
-    )
+    note_on_input(facts.port(number, FIRST).value, kind, name, is_own_setting)
 }
 
 /// The note on a block instance that is not called.
 fn note_on_uncalled(facts: &TaskFacts, number: usize, name: Name) -> Option<Note> {
-    let is_stored = (0..MOST_PORTS).any(|port| facts.port(number, port).content
-        != Content::Nothing);
-    let kind = if is_stored {
+    let kind = if (0..MOST_PORTS).any(|port| facts.port(number, port).is_stored) {
         &kinds::STORED_NEVER_CALLED
     } else if (0..MOST_PORTS).any(|port| facts.port(number, port).read > 0) {
         &kinds::READ_NEVER_CALLED
@@ -72,26 +63,22 @@ fn note_on_uncalled(facts: &TaskFacts, number: usize, name: Name) -> Option<Note
     note_on(kind, name, Found::Nothing)
 }
 
-/// The note on a block instance by what is stored to its first input, where there is one. A setting
-/// that a cyclic task makes in its first scan is meant so.
+/// The note on a block instance by the one value that its first input has, where there is one. A
+/// setting that a cyclic task makes in its first scan is meant so.
 fn note_on_input(
-    first: Content,
+    first: Option<i64>,
     kind: BlockKind,
     name: Name,
     is_own_setting: bool,
 ) -> Option<Note> {
-    let is_true = first == Content::Only(1);
-    if !is_true && first != Content::Nothing && first != Content::Only(0) {
-        return None;
-    }
-    let kind = match (kind, is_true) {
-        (BlockKind::RTrig, true) => &kinds::EDGE_ONCE,
-        (BlockKind::RTrig, false) => &kinds::EDGE_NEVER,
-        (BlockKind::Ctu, true) => &kinds::COUNT_ONCE,
-        (BlockKind::Ctu, false) => &kinds::COUNT_NEVER,
-        (BlockKind::Ton, true) => &kinds::TIME_ONCE,
-        (BlockKind::Ton, false) => &kinds::TIME_NEVER,
-        (_, true) if !is_own_setting => &kinds::REQUEST_ONCE,
+    let kind = match (kind, first) {
+        (BlockKind::RTrig, Some(1)) => &kinds::EDGE_ONCE,
+        (BlockKind::RTrig, Some(0)) => &kinds::EDGE_NEVER,
+        (BlockKind::Ctu, Some(1)) => &kinds::COUNT_ONCE,
+        (BlockKind::Ctu, Some(0)) => &kinds::COUNT_NEVER,
+        (BlockKind::Ton, Some(1)) => &kinds::TIME_ONCE,
+        (BlockKind::Ton, Some(0)) => &kinds::TIME_NEVER,
+        (_, Some(1)) if !is_own_setting => &kinds::REQUEST_ONCE,
         _ => return None,
     };
     note_on(kind, name, Found::Nothing)

@@ -1,5 +1,5 @@
-//! The bodies of a code, those of its programs and of its functions: their lines in a table, and the
-//! chains of calls, the one that makes a path long, and the deepest one.
+//! The bodies of a code, those of its programs and of its functions: their lines in a table, and
+//! the chains of calls, the one that makes a path long, and the deepest one.
 
 use crate::marks::count_at;
 use crate::stars::{Share, longest_through};
@@ -9,8 +9,7 @@ use ilcode::{Code, Word};
 use ilverify::LongestWays;
 use page::Page;
 use std::alloc::{AllocError, Global};
-use std::io::Write;
-use std::{fmt, io};
+use std::fmt;
 
 /// The place where a body begins: that of the programs is 0, that of function n is n + 1.
 pub(crate) fn start_of(code: &Code, body: usize) -> usize {
@@ -34,8 +33,8 @@ fn callee_at(code: &Code, place: usize) -> Option<usize> {
     }
 }
 
-/// Adds, where the code has functions, what makes the bound: how many words of a longest path are of
-/// the programs, and of each function that it goes through, and how often it does.
+/// Adds, where the code has functions, what makes the bound: how many words of a longest path are
+/// of the programs, and of each function that it goes through, and how often it does.
 pub(crate) fn add_bound(page: &mut Page, names: &TaskNames, shares: &[Share], bound: u32) {
     if names.code.functions().is_empty() {
         return;
@@ -73,8 +72,8 @@ fn add_function(page: &mut Page, names: &TaskNames, function: usize) {
     }
 }
 
-/// Adds a line for each function that begins at a place: its name, its words, the greatest number of
-/// words on a path from its first word on, and who calls it.
+/// Adds a line for each function that begins at a place: its name, its words, the greatest number
+/// of words on a path from its first word on, and who calls it.
 pub(crate) fn add_functions_at(
     page: &mut Page,
     names: &TaskNames,
@@ -110,58 +109,46 @@ fn add_callers(page: &mut Page, names: &TaskNames, function: usize) {
     }
 }
 
-/// Who calls a function.
-#[derive(Clone, Copy, PartialEq, Eq)]
-enum Caller {
-    /// The program instance of this number.
-    Instance(usize),
-    /// The function of this number in the code.
-    Function(usize),
-}
-
-/// Whose word stands at a place of a code: of the program instances it is the last that begins there
-/// or before.
-fn caller_at(code: &Code, place: usize) -> Caller {
+/// The number of who has the word at a place of a code: program instances count first, then its
+/// functions. Of the instances it is the last that begins there or before.
+fn caller_at(code: &Code, place: usize) -> usize {
+    let starts = code.starts();
     match code.body_at(place).checked_sub(1) {
-        Some(function) => Caller::Function(function),
+        Some(function) => starts.len().saturating_add(function),
         None => {
-            let begun = code
-                .starts()
-                .iter()
-                .filter(|start| **start <= place)
-                .count();
-            Caller::Instance(begun.saturating_sub(1))
+            let begun = starts.iter().filter(|start| **start <= place).count();
+            begun.saturating_sub(1)
         }
     }
 }
 
-/// Adds the name of who calls.
-fn add_caller(page: &mut Page, names: &TaskNames, caller: Caller) {
-    match caller {
-        Caller::Function(function) => add_function(page, names, function),
-        Caller::Instance(instance) => match names.instance(instance) {
+/// Adds the name of who calls, by that number.
+fn add_caller(page: &mut Page, names: &TaskNames, caller: usize) {
+    match caller.checked_sub(names.code.starts().len()) {
+        Some(function) => add_function(page, names, function),
+        None => match names.instance(caller) {
             Some(name) => page.shown(&name),
             None => page.text("?"),
         },
     }
 }
 
-/// Writes the chain of calls that has most of the words of a longest path: a line for each, with
+/// Prints the chain of calls that has most of the words of a longest path: a line for each, with
 /// how often the path makes it, and the words of the longest path through what is called. From the
 /// programs on, and from each function, the call is followed that has the most words in all.
 ///
 /// # Errors
 ///
-/// The writer's, or that the allocator is out of memory.
-pub fn write_longest_calls<W: Write>(
+/// The allocator is out of memory.
+pub fn print_longest_calls(
     alloc: Global,
-    out: &mut W,
+    page: &mut Page,
     names: &TaskNames,
-) -> io::Result<()> {
+) -> Result<(), AllocError> {
+    page.text("the calls that make it:\n");
     let Some(ways) = LongestWays::of(alloc, names.code)? else {
         return Ok(());
     };
-    let mut page = Page::new(alloc);
     let mut body: usize = 0;
     for _ in 0..names.code.functions().len() {
         let path = longest_through(alloc, names.code, &ways, body)?;
@@ -169,25 +156,27 @@ pub fn write_longest_calls<W: Write>(
             break;
         };
         if let Some(place) = first_call(names.code, body, function) {
-            add_call(&mut page, names, place, function);
+            add_call(page, names, place, function);
             let words = words_in(names.code, &ways, function);
-            add_times(&mut page, count_at(&path.calls, function), words);
+            add_times(page, count_at(&path.calls, function), words);
         }
         body = function.saturating_add(1);
     }
-    page.write_to(out)
+    Ok(())
 }
 
 /// Adds how often a function is called, and how many words that is each time.
 fn add_times(page: &mut Page, times: u32, words: u32) {
     if times > 1 {
         add_number(page, " ", times);
-        add_number(page, " times, ", words);
-        page.text(" words each time\n");
-    } else {
-        add_number(page, ", ", words);
-        page.text(" words\n");
+        page.text(" times");
     }
+    add_number(page, ", ", words);
+    page.text(if times > 1 {
+        " words each time\n"
+    } else {
+        " words\n"
+    });
 }
 
 /// The function whose calls have the most words in all, where one is called; of several the first.
@@ -229,33 +218,33 @@ impl fmt::Display for LineNumber {
     }
 }
 
-/// Writes the longest chain of calls that begins with the call at a place, a line for each. It goes
+/// Prints the longest chain of calls that begins with the call at a place, a line for each. It goes
 /// on while a function calls one before it.
 ///
 /// # Errors
 ///
-/// The writer's, or that the allocator is out of memory.
-pub fn write_deepest_calls<W: Write>(
+/// The allocator is out of memory.
+pub fn print_deepest_calls(
     alloc: Global,
-    out: &mut W,
+    page: &mut Page,
     names: &TaskNames,
     place: usize,
-) -> io::Result<()> {
+) -> Result<(), AllocError> {
+    page.text("the chain of calls:\n");
     let depths = depths(alloc, names.code)?;
-    let mut page = Page::new(alloc);
-    let mut next = Some(place);
+    let mut place = place;
     for _ in 0..names.code.functions().len().saturating_add(1) {
-        let Some(place) = next else {
-            break;
-        };
         let Some(function) = callee_at(names.code, place) else {
             break;
         };
-        add_call(&mut page, names, place, function);
+        add_call(page, names, place, function);
         page.text("\n");
-        next = deepest_call(names.code, &depths, function);
+        match deepest_call(names.code, &depths, function) {
+            Some(call) => place = call.place,
+            None => break,
+        }
     }
-    page.write_to(out)
+    Ok(())
 }
 
 /// How many calls are open at once in each function, itself included.
@@ -263,7 +252,7 @@ fn depths(alloc: Global, code: &Code) -> Result<Vec<u32>, AllocError> {
     let mut depths = Vec::new(alloc);
     for function in 0..code.functions().len() {
         let below = match deepest_call(code, &depths, function) {
-            Some(place) => depth_at(code, &depths, place),
+            Some(call) => call.depth,
             None => 0,
         };
         depths.push(below.saturating_add(1))?;
@@ -271,32 +260,27 @@ fn depths(alloc: Global, code: &Code) -> Result<Vec<u32>, AllocError> {
     Ok(depths)
 }
 
-/// How deep the call at a place leads; 0 where it calls nothing that is known.
-fn depth_at(code: &Code, depths: &[u32], place: usize) -> u32 {
-    match callee_at(code, place) {
-        Some(function) => count_at(depths, function),
-        None => 0,
-    }
+/// A call in a function, and how many calls are open at once in what it calls.
+#[derive(Clone, Copy)]
+struct DeepCall {
+    place: usize,
+    depth: u32,
 }
 
-/// The place of the call in a function that leads deepest, among those of functions before it; of
-/// several the first.
-fn deepest_call(code: &Code, depths: &[u32], function: usize) -> Option<usize> {
-    if function >= code.functions().len() {
-        return None;
-    }
-    let body = function.saturating_add(1);
+/// The call in a function that leads deepest, among those of functions before it; of several the
+/// first.
+fn deepest_call(code: &Code, depths: &[u32], function: usize) -> Option<DeepCall> {
     let mut found = None;
     let mut greatest: u32 = 0;
+    let body = function.saturating_add(1);
     for place in start_of(code, body)..code.end_of(body) {
-        let is_before = match callee_at(code, place) {
-            Some(called) => called < function,
-            None => false,
+        let depth = match callee_at(code, place) {
+            Some(called) if called < function => count_at(depths, called),
+            _ => 0,
         };
-        let depth = depth_at(code, depths, place);
-        if is_before && depth > greatest {
+        if depth > greatest {
             greatest = depth;
-            found = Some(place);
+            found = Some(DeepCall { place, depth });
         }
     }
     found

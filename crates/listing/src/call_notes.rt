@@ -1,5 +1,5 @@
-//! Notes on what the calls of block instances ask and command: several questions of which the answers
-//! come to one variable, and gear that something else commands as well.
+//! Notes on what the calls of block instances ask and command: several questions of which the
+//! answers come to one variable, and gear that something else commands as well.
 
 use crate::facts::{BlockCall, House, TaskFacts};
 use crate::kinds;

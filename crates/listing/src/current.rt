@@ -1,70 +1,28 @@
 //! What the words of a straight line say of the current result by themselves: constants, truth
-//! values among them, and the slot from which it was computed. The ranges of `ilverify` say neither.
+//! values among them, and the slot from which it was computed. The ranges of `ilverify` say
+//! neither.
 
 use crate::marks::{is_marked, mark};
 use ilcode::{Code, Word, WordOperand};
 use iltypes::{Function, Operator, Value};
 use std::alloc::{AllocError, Global};
 
-/// What is stored to a variable or to a port, or what the current result is, as far as the words say
-/// it by themselves. FALSE counts as 0 and TRUE as 1.
-#[derive(Clone, Copy, PartialEq, Eq)]
-pub(crate) enum Content {
-    /// Nothing.
-    Nothing,
-    /// This value alone.
-    Only(i64),
-    /// Several values, or what only a scan shows.
-    Several,
-}
-
-impl Content {
-    /// What both store.
-    pub fn or(self, other: Content) -> Content {
-        if self == Content::Nothing || self == other {
-            return other;
-        }
-        if other == Content::Nothing {
-            self
-        } else {
-            Content::Several
-        }
-    }
-
-    /// The only value.
-    pub fn only(self) -> Option<i64> {
-        match self {
-            Content::Only(value) => Some(value),
-            _ => None,
-        }
-    }
-
-    /// A truth value, or its opposite; any other number is kept.
-    pub fn opposite_if(self, negated: bool) -> Content {
-        match self {
-            Content::Only(0) if negated => Content::Only(1),
-            Content::Only(1) if negated => Content::Only(0),
-            _ => self,
-        }
-    }
-}
-
-/// The value of an operand that is a constant.
-pub(crate) fn constant_of(code: &Code, operand: WordOperand) -> Content {
+/// The value of an operand that is a constant. FALSE counts as 0 and TRUE as 1.
+pub(crate) fn constant_of(code: &Code, operand: WordOperand) -> Option<i64> {
     let WordOperand::Constant(number) = operand else {
-        return Content::Several;
+        return None;
     };
-    match code.constants().get(usize::from(number)) {
-        Some(Value::Bool(is)) => Content::Only(i64::from(*is)),
-        Some(Value::Int(number)) => Content::Only(*number),
-        None => Content::Several,
+    match code.constants().get(usize::from(number))? {
+        Value::Bool(is) => Some(i64::from(*is)),
+        Value::Int(number) => Some(*number),
     }
 }
 
-/// What is known of the current result.
+/// What is known of the current result, or of what is stored.
 #[derive(Clone, Copy)]
 pub(crate) struct Current {
-    pub value: Content,
+    /// Its value, where the words say it by themselves.
+    pub value: Option<i64>,
     /// The slot from which it was loaded.
     pub origin: Option<usize>,
     /// Whether it was changed since then, as by ADD.
@@ -73,16 +31,21 @@ pub(crate) struct Current {
 
 /// Nothing is known.
 const UNKNOWN: Current = Current {
-    value: Content::Several,
+    value: None,
     origin: None,
     is_changed: false,
 };
 
 impl Current {
-    /// Once it is negated, where it is.
-    pub fn opposite_if(self, negated: bool) -> Current {
+    /// Once it is negated, where it is: a truth value becomes its opposite.
+    fn opposite_if(self, negated: bool) -> Current {
+        let value = match self.value {
+            Some(0) if negated => Some(1),
+            Some(1) if negated => Some(0),
+            value => value,
+        };
         Current {
-            value: self.value.opposite_if(negated),
+            value,
             origin: self.origin,
             is_changed: self.is_changed || negated,
         }
@@ -92,23 +55,9 @@ impl Current {
     /// changed.
     fn computed(self, is_changed: bool) -> Current {
         Current {
-            value: Content::Several,
+            value: None,
             origin: self.origin,
             is_changed: self.is_changed || is_changed,
-        }
-    }
-
-    /// After an operator.
-    fn applied(self, operator: Operator) -> Current {
-        match operator {
-            Operator::Add
-            | Operator::Sub
-            | Operator::Mul
-            | Operator::Div
-            | Operator::Mod
-            | Operator::Xor { .. } => self.computed(true),
-            Operator::Min | Operator::Max => self.computed(false),
-            _ => UNKNOWN,
         }
     }
 }
@@ -121,7 +70,7 @@ pub(crate) struct Way<'c> {
     trigger: Option<usize>,
     /// Whether a jump leads to a place.
     landings: Vec<bool>,
-    /// The number of the straight line, counted from 1. Along it nothing is jumped over.
+    /// The number of the straight line. Along it nothing is jumped over.
     pub stretch: usize,
     /// The furthest place that a jump before leads to.
     pub passed: usize,
@@ -149,26 +98,19 @@ impl<'c> Way<'c> {
             code,
             trigger,
             landings,
-            stretch: 1,
+            stretch: 0,
             passed: 0,
             result: UNKNOWN,
         })
     }
 
-    /// The value that an operand has in each scan.
-    fn value(&self, operand: WordOperand) -> Content {
-        match (operand, self.trigger) {
-            (WordOperand::Slot(slot), Some(trigger)) if usize::from(slot) == trigger => {
-                Content::Only(1)
-            }
-            _ => constant_of(self.code, operand),
-        }
-    }
-
-    /// Comes to a place: what is known of the result ends where a jump leads to, and where a program
-    /// or a function begins.
+    /// Comes to a place: what is known of the result ends where a jump leads to, and where a
+    /// program or a function begins. A way may come to the first place again.
     pub fn arrive(&mut self, place: usize) {
-        if is_marked(&self.landings, place) || self.code.is_start(place) {
+        if place == 0 {
+            self.passed = 0;
+        }
+        if place == 0 || is_marked(&self.landings, place) || self.code.is_start(place) {
             self.stretch = self.stretch.saturating_add(1);
             self.result = UNKNOWN;
         }
@@ -178,10 +120,21 @@ impl<'c> Way<'c> {
     pub fn go_on(&mut self, word: Word) {
         self.result = match word {
             Word::Load { negated, operand } => self.loaded(operand).opposite_if(negated),
-            Word::Apply(operator, _) => self.result.applied(operator),
-            Word::Transform(function) => self.result.computed(matches!(function, Function::Not)),
-            Word::Invoke(_) => self.result.computed(true),
-            Word::Call(_) | Word::Open(_) | Word::Close => UNKNOWN,
+            Word::Apply(
+                Operator::Add
+                | Operator::Sub
+                | Operator::Mul
+                | Operator::Div
+                | Operator::Mod
+                | Operator::Xor { .. },
+                _,
+            )
+            | Word::Transform(Function::Not)
+            | Word::Invoke(_) => self.result.computed(true),
+            Word::Apply(Operator::Min | Operator::Max, _) | Word::Transform(_) => {
+                self.result.computed(false)
+            }
+            Word::Apply(..) | Word::Call(_) | Word::Open(_) | Word::Close => UNKNOWN,
             _ => self.result,
         };
         if let Word::Jump { target, .. } = word {
@@ -190,16 +143,30 @@ impl<'c> Way<'c> {
     }
 
     /// What a load of an operand leaves.
-    pub fn loaded(&self, operand: WordOperand) -> Current {
-        let value = self.value(operand);
-        let origin = match (operand, value) {
-            (WordOperand::Slot(slot), Content::Several) => Some(usize::from(slot)),
-            _ => None,
-        };
-        Current {
-            value,
-            origin,
-            is_changed: false,
+    fn loaded(&self, operand: WordOperand) -> Current {
+        let mut loaded = UNKNOWN;
+        match operand {
+            WordOperand::Slot(slot) if self.trigger == Some(usize::from(slot)) => {
+                loaded.value = Some(1);
+            }
+            WordOperand::Slot(slot) => loaded.origin = Some(usize::from(slot)),
+            _ => loaded.value = constant_of(self.code, operand),
         }
+        loaded
+    }
+
+    /// What a word stores, where it does.
+    pub fn stored_by(&self, word: Word) -> Current {
+        let mut stored = UNKNOWN;
+        match word {
+            Word::Store { negated, .. } => stored = self.result.opposite_if(negated),
+            Word::Pass { operand, .. } | Word::Give { operand, .. } => {
+                stored = self.loaded(operand);
+            }
+            Word::Set(_) => stored.value = Some(1),
+            Word::Reset(_) => stored.value = Some(0),
+            _ => {}
+        }
+        stored
     }
 }

@@ -3,10 +3,10 @@
 
 ghost use Rattle.std.specs.Prelude.{◌<◌, length};
 
-use crate::current::{Content, Current, Way};
+use crate::current::{Current, Way};
 use crate::levels::{Driven, Level, Levels};
 use crate::task_names::{TaskNames, functions_in};
-use crate::uses::{line_at, operand_of, read_by};
+use crate::uses::{line_at, read_by, written_by};
 use ilblocks::{BlockKind, MOST_PORTS};
 use ilcode::{Code, Word, WordOperand};
 use ilcompile::Setup;
@@ -69,10 +69,13 @@ impl GlobalSlot {
 pub(crate) struct Usage {
     /// The line of the first word that reads it, or 0 where none does.
     pub read: usize,
-    /// What is stored to it.
-    pub content: Content,
+    /// Whether a word stores to it.
+    pub is_stored: bool,
+    /// The one value that all words store that do, as far as they say it by themselves: FALSE
+    /// counts as 0 and TRUE as 1. Where none stores it is 0.
+    pub value: Option<i64>,
     /// What the straight line of this number stored last, and the slot that has the value.
-    held: Content,
+    held: Option<i64>,
     stretch: usize,
     origin: Option<usize>,
     /// Whether a word stores what was computed from itself.
@@ -84,8 +87,9 @@ pub(crate) struct Usage {
 /// What no word names.
 const UNNAMED: Usage = Usage {
     read: 0,
-    content: Content::Nothing,
-    held: Content::Nothing,
+    is_stored: false,
+    value: Some(0),
+    held: None,
     stretch: 0,
     origin: None,
     moves: false,
@@ -93,11 +97,33 @@ const UNNAMED: Usage = Usage {
 };
 
 impl Usage {
-    /// Adds that the straight line stores this, which the slot has.
-    fn hold(&mut self, stretch: usize, held: Content, origin: Option<usize>) {
-        self.held = held;
-        self.stretch = stretch;
-        self.origin = origin;
+    /// Adds what a word stores here, at this place among what a code uses. S and R store where the
+    /// current result is TRUE.
+    fn store(&mut self, way: &Way, word: Word, place: usize) {
+        let Current {
+            value,
+            origin,
+            is_changed,
+        } = way.stored_by(word);
+        if !self.is_stored || self.value == value {
+            self.value = value;
+        } else {
+            self.value = None;
+        }
+        self.is_stored = true;
+        match origin {
+            Some(origin) if origin != place => self.follows = Some(origin),
+            Some(_) if is_changed => self.moves = true,
+            _ => {}
+        }
+        let is_conditional = matches!(word, Word::Set(_) | Word::Reset(_));
+        let condition = way.result.value;
+        if !is_conditional || condition != Some(0) {
+            let is_held = !is_conditional || condition.is_some();
+            self.held = if is_held { value } else { None };
+            self.origin = if is_changed { None } else { origin };
+            self.stretch = way.stretch;
+        }
     }
 }
 
@@ -107,16 +133,34 @@ pub(crate) struct BlockCalls {
     pub is_any: bool,
     /// Whether one surely has FALSE at the first port.
     pub is_false: bool,
-    /// Whether each scan calls it with FALSE at the first port, and whether with TRUE.
-    pub is_each_scan: (bool, bool),
+    /// Whether each scan calls it with FALSE at the first port.
+    pub is_always_false: bool,
+    /// Whether each scan calls it with TRUE there.
+    pub is_always_true: bool,
 }
 
 /// Nothing calls the block instance.
 const UNCALLED: BlockCalls = BlockCalls {
     is_any: false,
     is_false: false,
-    is_each_scan: (false, false),
+    is_always_false: false,
+    is_always_true: false,
 };
+
+impl BlockCalls {
+    /// Adds a call.
+    fn add(&mut self, call: &BlockCall) {
+        self.is_any = true;
+        match call.port(0) {
+            Some(0) => {
+                self.is_false = true;
+                self.is_always_false = self.is_always_false || call.is_always;
+            }
+            Some(1) => self.is_always_true = self.is_always_true || call.is_always,
+            _ => {}
+        }
+    }
+}
 
 /// A call of a block instance, with what is known of its ports there.
 #[derive(Clone, Copy)]
@@ -127,7 +171,7 @@ pub(crate) struct BlockCall {
     pub kind: BlockKind,
     /// The name of the block instance.
     pub name: Name,
-    ports: [Content; MOST_PORTS],
+    ports: [Option<i64>; MOST_PORTS],
     /// The slot whose value is LEVEL of a GEAR_LEVEL.
     pub level: Option<usize>,
     /// Whether no jump leads past the call.
@@ -137,7 +181,7 @@ pub(crate) struct BlockCall {
 impl BlockCall {
     /// The value of a port, where it is known.
     pub fn port(&self, port: usize) -> Option<i64> {
-        self.ports.get(port)?.only()
+        *self.ports.get(port)?
     }
 
     /// Whether the call may make a request.
@@ -268,7 +312,7 @@ impl<'p> TaskFacts<'p> {
     /// The level that a slot is, where the task stores it.
     pub fn stored_level(&self, global: GlobalSlot) -> Option<Level> {
         let driven = global.driven()?;
-        if self.slot(global.slot).content == Content::Nothing {
+        if !self.slot(global.slot).is_stored {
             return None;
         }
         Some(Level {
@@ -279,20 +323,22 @@ impl<'p> TaskFacts<'p> {
         })
     }
 
-    /// Looks at each word.
+    /// Looks at each word. What is known at a call rests on all that is stored, so the calls are
+    /// looked at on a second way.
     fn add_words(&mut self, alloc: Global) -> Result<(), AllocError> {
         let code = self.code;
         let mut way = Way::new(alloc, code, self.trigger_slot())?;
-        for place in 0..code.len() {
-            let word = code.word(place);
-            way.arrive(place);
-            self.add_word(&way, place, word);
-            if let Some(call) = self.call_at(&way, place, word) {
-                self.calls.push(call)?;
+        for with_calls in [false, true] {
+            for place in 0..code.len() {
+                let word = code.word(place);
+                way.arrive(place);
+                self.add_word(&way, place, word);
+                if with_calls {
+                    self.add_call(&way, place, word)?;
+                }
+                way.go_on(word);
             }
-            way.go_on(word);
         }
-        self.add_calls();
         Ok(())
     }
 
@@ -318,62 +364,30 @@ impl<'p> TaskFacts<'p> {
                 }
             }
         }
-        match word {
-            Word::Store { negated, variable } => {
-                self.store(way, operand_of(variable), way.result.opposite_if(negated));
-            }
-            Word::Set(variable) => self.set(way, operand_of(variable), true),
-            Word::Reset(variable) => self.set(way, operand_of(variable), false),
-            Word::Pass {
-                port,
-                block,
-                operand,
-            } => self.store(way, WordOperand::Port { port, block }, way.loaded(operand)),
-            Word::Give { operand, slot } => {
-                self.store(way, WordOperand::Slot(slot), way.loaded(operand));
-            }
-            _ => {}
-        }
-    }
-
-    /// Adds what is stored to a variable or a port.
-    fn store(&mut self, way: &Way, to: WordOperand, stored: Current) {
-        let place = place_of(self.code, to);
-        let Some(kept) = self.used.get_mut(place) else {
-            return;
-        };
-        let Current {
-            value,
-            origin,
-            is_changed,
-        } = stored;
-        kept.content = kept.content.or(value);
-        kept.hold(way.stretch, value, if is_changed { None } else { origin });
-        match origin {
-            Some(origin) if origin != place => kept.follows = Some(origin),
-            Some(_) if is_changed => kept.moves = true,
-            _ => {}
-        }
-    }
-
-    /// Adds that a variable or a port is set, or reset, where the current result is TRUE.
-    fn set(&mut self, way: &Way, to: WordOperand, is_set: bool) {
-        let value = way.result.value;
-        let place = place_of(self.code, to);
-        if let Some(kept) = self.used.get_mut(place) {
-            kept.content = kept.content.or(Content::Only(i64::from(is_set)));
-            if value != Content::Only(0) {
-                kept.hold(way.stretch, value.opposite_if(!is_set), None);
+        if let Some(operand) = written_by(word) {
+            let written = place_of(self.code, operand);
+            if let Some(kept) = self.used.get_mut(written) {
+                kept.store(way, word, written);
             }
         }
     }
 
-    /// The call of a block instance, where the word is one, with what the straight line stored.
-    fn call_at(&self, way: &Way, place: usize, word: Word) -> Option<BlockCall> {
+    /// Adds the call of a block instance, where the word is one.
+    fn add_call(&mut self, way: &Way, place: usize, word: Word) -> Result<(), AllocError> {
         let Word::Call(block) = word else {
-            return None;
+            return Ok(());
         };
-        let block = usize::from(block);
+        if let Some(call) = self.call_at(way, place, usize::from(block)) {
+            if let Some(kept) = self.blocks.get_mut(call.block) {
+                kept.add(&call);
+            }
+            self.calls.push(call)?;
+        }
+        Ok(())
+    }
+
+    /// The call of a block instance at a place, with what is known of its ports.
+    fn call_at(&self, way: &Way, place: usize, block: usize) -> Option<BlockCall> {
         let found = self.task.blocks().get(block)?;
         let level = self.port(block, LEVEL_PORT);
         Some(BlockCall {
@@ -383,11 +397,11 @@ impl<'p> TaskFacts<'p> {
             kind: found.kind,
             name: found.name,
             ports: [
-                self.held(way, block, 0),
-                self.held(way, block, 1),
-                self.held(way, block, 2),
-                self.held(way, block, 3),
-                self.held(way, block, 4),
+                self.known(way, block, 0),
+                self.known(way, block, 1),
+                self.known(way, block, 2),
+                self.known(way, block, 3),
+                self.known(way, block, 4),
             ],
             level: if level.stretch == way.stretch {
                 level.origin
@@ -398,63 +412,14 @@ impl<'p> TaskFacts<'p> {
         })
     }
 
-    /// What the straight line stored to a port.
-    fn held(&self, way: &Way, block: usize, port: usize) -> Content {
+    /// The value of a port at a call, where it is known: what the straight line stored to it, or
+    /// else the one value that all words of the code store to it, which is 0 at first.
+    fn known(&self, way: &Way, block: usize, port: usize) -> Option<i64> {
         let port = self.port(block, port);
         if port.stretch == way.stretch {
             port.held
         } else {
-            Content::Nothing
-        }
-    }
-
-    /// Adds how the calls use the block instances, once all words are looked at.
-    fn add_calls(&mut self) {
-        for number in 0..self.calls.len() {
-            let Some(found) = self.calls.get(number).copied() else {
-                return;
-            };
-            let mut call = found;
-            call.ports = [
-                self.known(&found, 0),
-                self.known(&found, 1),
-                self.known(&found, 2),
-                self.known(&found, 3),
-                self.known(&found, 4),
-            ];
-            if let Some(kept) = self.calls.get_mut(number) {
-                *kept = call;
-            }
-            if let Some(kept) = self.blocks.get_mut(call.block) {
-                kept.add(&call);
-            }
-        }
-    }
-
-    /// What is known of a port at a call: what the straight line stored to it, or else the one value
-    /// that all words of the code store to it, which is 0 at first.
-    fn known(&self, call: &BlockCall, port: usize) -> Content {
-        let held = call.ports.get(port).copied().unwrap_or(Content::Nothing);
-        match (held, self.port(call.block, port).content) {
-            (Content::Nothing, Content::Nothing) => Content::Only(0),
-            (Content::Nothing, stored) => stored,
-            (held, _) => held,
-        }
-    }
-}
-
-impl BlockCalls {
-    /// Adds a call.
-    fn add(&mut self, call: &BlockCall) {
-        let (is_false, is_true) = self.is_each_scan;
-        self.is_any = true;
-        match call.port(0) {
-            Some(0) => {
-                self.is_false = true;
-                self.is_each_scan = (is_false || call.is_always, is_true);
-            }
-            Some(1) => self.is_each_scan = (is_false, is_true || call.is_always),
-            _ => {}
+            port.value
         }
     }
 }

@@ -1,7 +1,6 @@
-//! Notes on global variables: what is used to no end, levels that no task stores, and variables that
-//! are likely meant as levels.
+//! Notes on global variables: what is used to no end, levels that no task stores, and variables
+//! that are likely meant as levels.
 
-use crate::current::Content;
 use crate::facts::{House, TaskFacts, Usage};
 use crate::kinds;
 use crate::note::{Added, Found, Note, NotePlace, Notes, note_at, note_on};
@@ -29,7 +28,7 @@ impl Use {
     /// Adds how a task uses the slot that it is there.
     pub fn add(&mut self, slot: Usage) {
         self.is_read = self.is_read || slot.read > 0;
-        self.is_stored = self.is_stored || slot.content != Content::Nothing;
+        self.is_stored = self.is_stored || slot.is_stored;
         self.tasks = self.tasks.saturating_add(1);
     }
 }

@@ -1,9 +1,9 @@
 //! What is known before a word, in words.
 
-use crate::spelling::SlotText;
 use crate::task_names::TaskNames;
-use crate::uses::{read_by, slot_read_by, slot_written_by};
-use ilcode::Word;
+use crate::uses::{read_by, written_by};
+use crate::words::{Part, PartText};
+use ilcode::{Word, WordOperand};
 use ilranges::{Entry, Known};
 use std::fmt;
 
@@ -16,19 +16,15 @@ pub struct KnownText<'a> {
 }
 
 impl KnownText<'_> {
-    /// Writes what is known of the variable that the word names, where it names one.
-    fn write_variable<W: fmt::Write>(&self, f: &mut fmt::Formatter<W>) -> fmt::Result {
-        let Some(slot) = slot_of(self.word) else {
-            return Ok(());
+    /// The variable that the word names, with what is known of it: what the word reads counts
+    /// before what it writes.
+    fn variable(&self) -> Option<(Part, Known)> {
+        let operand = read_by(self.word).or(written_by(self.word))?;
+        let WordOperand::Slot(slot) = operand else {
+            return None;
         };
-        let Some(known) = self.entry.slots.get(slot) else {
-            return Ok(());
-        };
-        let name = SlotText {
-            names: self.names,
-            slot,
-        };
-        write!(f, ", {name} {}", ValuesText { known })
+        let known = self.entry.slots.get(usize::from(slot))?;
+        Some((Part::Operand(operand), known))
     }
 }
 
@@ -38,16 +34,11 @@ impl fmt::Display for KnownText<'_> {
             Some(known) => write!(f, "result {}", ValuesText { known })?,
             None => f.write_str("no result")?,
         }
-        self.write_variable(f)
-    }
-}
-
-/// The slot that a word names: what it reads counts before what it writes.
-fn slot_of(word: Word) -> Option<usize> {
-    if read_by(word).is_some() {
-        slot_read_by(word)
-    } else {
-        slot_written_by(word)
+        let Some((part, known)) = self.variable() else {
+            return Ok(());
+        };
+        let names = self.names;
+        write!(f, ", {} {}", PartText { names, part }, ValuesText { known })
     }
 }
 
@@ -60,7 +51,7 @@ pub(crate) struct ValuesText {
 impl fmt::Display for ValuesText {
     fn fmt<W: fmt::Write>(&self, f: &mut fmt::Formatter<W>) -> fmt::Result {
         match self.known {
-            Known::Bool => write!(f, "BOOL"),
+            Known::Bool => f.write_str("BOOL"),
             Known::Int(range) => {
                 let least = range.lo;
                 let greatest = range.hi;

@@ -23,7 +23,7 @@ const GROUPS: usize = 16;
 const ADD_TO_GROUP: (i64, i64) = (18, 33);
 
 /// What a level or a command goes to.
-#[derive(Clone, Copy, PartialEq, Eq)]
+#[derive(Clone, Copy)]
 pub(crate) struct Driven {
     pub bus: u8,
     /// 0 to 63 a short address, 64 to 79 a group, 80 all gear.
@@ -92,7 +92,7 @@ pub(crate) struct Levels {
 }
 
 impl Levels {
-    /// The levels that tasks store, on so many buses.
+    /// The levels that tasks store, on the given number of buses.
     ///
     /// # Errors
     ///

@@ -2,12 +2,12 @@
 //! each word and which words make the bound of a scan, and who calls each function; and notes, of
 //! what is likely not meant, though nothing stands against it.
 //!
-//! What crosses the boundary: a setup, its source program, and lines on a writer. A [`WordText`] and
-//! a [`KnownText`] are written with the names of the text, which [`TaskNames`] has. What is known
-//! before a word ([`Entry`](ilranges::Entry)) and how long the ways from it are is what `ilverify`
-//! found, to be read first. All this is for people: the verdict is that of `ilverify`, and a note
-//! refuses nothing. What is printed is fixed by worked rows (crates/rows); of the code it is proved
-//! that it is safe and ends.
+//! What crosses the boundary: a setup, its source program, and lines on a writer. A [`WordText`]
+//! and a [`KnownText`] are written with the names of the text, which [`TaskNames`] has. What is
+//! known before a word ([`Entry`](ilranges::Entry)) and how long the ways from it are is what
+//! `ilverify` found, to be read first. All this is for people: the verdict is that of `ilverify`,
+//! and a note refuses nothing. What is printed is fixed by worked rows (crates/rows); of the code
+//! it is proved that it is safe and ends.
 //!
 //! ```text
 //! write_task(alloc, &mut out, &setup, 0)?;
@@ -36,7 +36,6 @@ mod pace_notes;
 mod quoted;
 mod range_notes;
 mod scenario_notes;
-mod spelling;
 mod stars;
 mod table;
 mod task_names;
@@ -44,7 +43,7 @@ mod text_notes;
 mod uses;
 mod words;
 
-pub use bodies::{write_deepest_calls, write_longest_calls};
+pub use bodies::{print_deepest_calls, print_longest_calls};
 pub use kinds::{NOTE_NAMES, is_note_name};
 pub use knowing::KnownText;
 pub use load::write_load;

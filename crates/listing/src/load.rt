@@ -1,7 +1,6 @@
 //! How many frames a bus may be asked for: in a second by the cyclic tasks, and by each event task
 //! for an event.
 
-use crate::current::Content;
 use crate::facts::{BlockCall, TaskFacts, facts_of};
 use crate::kinds;
 use crate::marks::{add_at, count_at};
@@ -164,8 +163,8 @@ fn levels_on(facts: &TaskFacts, bus: u8) -> u32 {
     count
 }
 
-/// The most halves of frames that requests to a bus come to on a path of a code. A function calls no
-/// block instance, so the paths are those of the programs, gone over from their last word to the
+/// The most halves of frames that requests to a bus come to on a path of a code. A function calls
+/// no block instance, so the paths are those of the programs, gone over from their last word to the
 /// first.
 fn most_halves(alloc: Global, facts: &TaskFacts, bus: u8) -> Result<u32, AllocError> {
     let code = facts.code;
@@ -200,7 +199,7 @@ fn halves_of(facts: &TaskFacts, call: &BlockCall, bus: u8) -> u32 {
     let frames = frames_of(call.kind);
     if facts.interval().is_none() || facts.block(call.block).is_false {
         frames.saturating_mul(2)
-    } else if facts.port(call.block, 0).content == Content::Only(1) {
+    } else if facts.port(call.block, 0).value == Some(1) {
         0
     } else {
         frames

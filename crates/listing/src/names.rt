@@ -1,6 +1,6 @@
 //! Places and names in notes.
 
-use ilplan::{DeclaredName, Plan, SlotOwner};
+use ilplan::DeclaredName;
 use ilsource::{LineColumn, Name};
 use std::alloc::{AllocError, Global};
 
@@ -43,20 +43,6 @@ impl LineStarts {
             .get(line.saturating_sub(1))
             .copied()
             .unwrap_or(0)
-    }
-}
-
-/// The name of a variable, as declared.
-pub(crate) fn name_of(plan: &Plan, owner: SlotOwner) -> Option<Name> {
-    match owner {
-        SlotOwner::Own { name, .. } => Some(name),
-        SlotOwner::Global(number) => {
-            if number < plan.globals() {
-                Some(plan.global(number).name)
-            } else {
-                None
-            }
-        }
     }
 }
 

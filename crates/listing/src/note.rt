@@ -87,7 +87,8 @@ pub(crate) type Added = Result<(), AllocError>;
 pub(crate) struct Notes {
     pub alloc: Global,
     pub all: Vec<Note>,
-    lines: LineStarts,
+    /// Where the lines of the text begin.
+    pub lines: LineStarts,
     /// For each byte of the text the number of the last rule that noted something there.
     noted: Vec<u8>,
     rule: u8,
@@ -112,11 +113,6 @@ impl Notes {
             rule: 0,
             is_cut: false,
         })
-    }
-
-    /// Where the lines of the text begin.
-    pub fn lines(&self) -> &LineStarts {
-        &self.lines
     }
 
     /// Begins a rule that notes each place once.

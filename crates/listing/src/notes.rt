@@ -47,8 +47,8 @@ pub struct NotesAsked<'a> {
 }
 
 /// Writes each note on a text, and on a scenario that is played with it where there is one: a line
-/// each, and `no notes` where there is none; or as JSON the members of a list, without its brackets.
-/// Whether a note is denied.
+/// each, and `no notes` where there is none; or as JSON the members of a list, without its
+/// brackets. Whether a note is denied.
 ///
 /// # Errors
 ///
@@ -61,23 +61,7 @@ pub fn write_notes<W: Write>(
     played: Option<Played>,
     asked: NotesAsked,
 ) -> io::Result<bool> {
-    write_all(alloc, out, &*setup, &*source, played, asked)
-}
-
-/// Writes the notes on a setup and its source program, which are lent for as long as each other.
-///
-/// # Errors
-///
-/// The writer's, or that the allocator is out of memory.
-fn write_all<'a, W: Write>(
-    alloc: Global,
-    out: &mut W,
-    setup: &'a Setup,
-    source: &'a Source,
-    played: Option<Played>,
-    asked: NotesAsked,
-) -> io::Result<bool> {
-    let house = house_of(alloc, setup, source)?;
+    let house = house_of(alloc, &*setup, &*source)?;
     let notes = notes_on(alloc, &house, played)?;
     print_notes(alloc, out, &house, &notes, asked)
 }
@@ -186,8 +170,8 @@ impl<'h, 'p, 'n, 'a> Printed<'h, 'p, 'n, 'a> {
         }
     }
 
-    /// Adds a note: `FILE:LINE:COLUMN: note NAME: MESSAGE` on a line, or an object of JSON, behind a
-    /// comma where it is not the first. No message has what JSON escapes.
+    /// Adds a note: `FILE:LINE:COLUMN: note NAME: MESSAGE` on a line, or an object of JSON, behind
+    /// a comma where it is not the first. No message has what JSON escapes.
     fn add_note(&self, page: &mut Page, number: usize, note: &Note) {
         let (file, at) = self.locate(note.place);
         if self.asked.is_json {
@@ -219,10 +203,10 @@ impl<'h, 'p, 'n, 'a> Printed<'h, 'p, 'n, 'a> {
         let file = self.asked.files.text;
         match place {
             NotePlace::Whole => (file, None),
-            NotePlace::Name(name) => (file, Some(self.notes.lines().at(name))),
+            NotePlace::Name(name) => (file, Some(self.notes.lines.at(name))),
             NotePlace::Line(line) => {
                 let text = self.house.source.text();
-                let col = first_column(text, self.notes.lines().start_of(line));
+                let col = first_column(text, self.notes.lines.start_of(line));
                 (file, Some(LineColumn { line, col }))
             }
             NotePlace::Scenario(line) => {

@@ -24,15 +24,15 @@ pub(crate) fn add_number_notes(notes: &mut Notes, house: &House) {
             let line = line_at(facts.code, place);
             notes.add_once(note_on_limits(facts.code, place, line));
             if let Some(time) = time_at(facts.code, place) {
-                let start = notes.lines().start_of(line);
+                let start = notes.lines.start_of(line);
                 notes.add_once(note_on_time(facts, house.source.text(), start, line, time));
             }
         }
     }
 }
 
-/// The note on the constants of a LIMIT whose first word stands at a place, where they are the wrong
-/// way round.
+/// The note on the constants of a LIMIT whose first word stands at a place, where they are the
+/// wrong way round.
 fn note_on_limits(code: &Code, place: usize, line: usize) -> Option<Note> {
     let next = place.saturating_add(1);
     let Word::Apply(Operator::Max, low) = code.get(place)? else {
@@ -41,8 +41,8 @@ fn note_on_limits(code: &Code, place: usize, line: usize) -> Option<Note> {
     let Word::Apply(Operator::Min, high) = code.get(next)? else {
         return None;
     };
-    let low = constant_of(code, low).only()?;
-    let high = constant_of(code, high).only()?;
+    let low = constant_of(code, low)?;
+    let high = constant_of(code, high)?;
     if line_at(code, next) != line || low <= high {
         return None;
     }
@@ -69,7 +69,7 @@ fn time_at(code: &Code, place: usize) -> Option<i64> {
     if port != TIME || !matches!(kind, BlockKind::Ton) {
         return None;
     }
-    constant_of(code, operand).only()
+    constant_of(code, operand)
 }
 
 /// The note on a time that a call on a line, which begins at `start`, gives to a timer; in

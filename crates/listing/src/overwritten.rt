@@ -3,11 +3,10 @@
 
 use crate::facts::{House, TaskFacts};
 use crate::kinds;
-use crate::names::name_of;
 use crate::note::{Added, Found, Note, NotePlace, Notes, note_at};
-use crate::uses::{line_at, slot_read_by};
-use ilcode::{Code, Target, Word};
-use ilplan::Plan;
+use crate::uses::{line_at, read_by};
+use ilcode::{Code, Target, Word, WordOperand};
+use ilplan::SlotOwner;
 use iltypes::Condition;
 use indexmap::IndexMap;
 use std::alloc::{AllocError, Global};
@@ -42,7 +41,7 @@ pub(crate) fn add_overwritten(notes: &mut Notes, house: &House) -> Added {
             if span.first < span.last && words <= left {
                 left = left.saturating_sub(words);
                 if let Some(lost) = lost_in(facts.code, &mut next, *span) {
-                    notes.add_once(note_on_lost(house.plan, facts, span.slot, lost));
+                    notes.add_once(note_on_lost(facts, span.slot, lost));
                 }
             }
         }
@@ -101,8 +100,10 @@ fn on_from(word: Word, next: &[Option<usize>], span: Span, behind: Option<usize>
                 _ => None,
             }
         }
-        _ if slot_read_by(word) == Some(span.slot) => None,
-        _ => behind,
+        _ => match read_by(word) {
+            Some(WordOperand::Slot(slot)) if usize::from(slot) == span.slot => None,
+            _ => behind,
+        },
     }
 }
 
@@ -126,8 +127,11 @@ fn stored_at(code: &Code, place: usize) -> Option<usize> {
 }
 
 /// The note on a store to a slot.
-fn note_on_lost(plan: &Plan, facts: &TaskFacts, slot: usize, lost: Lost) -> Option<Note> {
-    let name = name_of(plan, facts.task.slots().get(slot)?.variable)?;
+fn note_on_lost(facts: &TaskFacts, slot: usize, lost: Lost) -> Option<Note> {
+    let name = match facts.task.slots().get(slot)?.variable {
+        SlotOwner::Own { name, .. } => name,
+        SlotOwner::Global(_) => facts.global_at(slot)?.name,
+    };
     let at = NotePlace::Line(line_at(facts.code, lost.place));
     let next = Found::Count(line_at(facts.code, lost.next));
     note_at(&kinds::OVERWRITTEN, at, Found::Name(name), next)

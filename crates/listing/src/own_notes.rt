@@ -1,6 +1,5 @@
 //! Notes on the variables of functions and programs, each with how it is used.
 
-use crate::current::Content;
 use crate::facts::{House, TaskFacts};
 use crate::global_notes::note_on_use;
 use crate::kinds;
@@ -86,12 +85,7 @@ fn add_task(variables: &mut Variables, facts: &TaskFacts) -> Added {
             let first = slot.initial;
             let used = facts.slot(place);
             declare(variables, name, Role::Own { first })?;
-            add_use(
-                variables,
-                name,
-                used.content != Content::Nothing,
-                used.read > 0,
-            );
+            add_use(variables, name, used.is_stored, used.read > 0);
         }
     }
     Ok(())

@@ -1,7 +1,6 @@
 //! Notes on levels that change more often than is likely meant: at each scan of a fast task, and at
 //! each event whatever it says.
 
-use crate::current::Content;
 use crate::facts::{GlobalSlot, House, TaskFacts};
 use crate::kinds;
 use crate::note::{Found, Note, NotePlace, Notes, note_at, note_of};
@@ -41,8 +40,8 @@ fn note_on_fast(facts: &TaskFacts, global: GlobalSlot, interval: u32) -> Option<
     )
 }
 
-/// The note on an event task that changes a level by what it was, and does not look at what the event
-/// says; or on the information of another source that it looks at.
+/// The note on an event task that changes a level by what it was, and does not look at what the
+/// event says; or on the information of another source that it looks at.
 fn note_on_blind(plan: &Plan, facts: &TaskFacts) -> Option<Note> {
     let trigger = facts.trigger()?;
     if trigger >= plan.globals() {
@@ -97,13 +96,12 @@ fn note_on_blind(plan: &Plan, facts: &TaskFacts) -> Option<Note> {
 /// Whether a level is read and several values are stored to it.
 fn is_changed(facts: &TaskFacts, global: GlobalSlot) -> bool {
     let slot = facts.slot(global.slot);
-    global.driven().is_some() && slot.content == Content::Several && slot.read > 0
+    global.driven().is_some() && slot.value.is_none() && slot.read > 0
 }
 
 /// Whether a task has an edge that comes once: what it does behind that it does once.
 fn has_single_edge(facts: &TaskFacts) -> bool {
     facts.calls.iter().any(|call| {
-        matches!(call.kind, BlockKind::RTrig)
-            && facts.port(call.block, 0).content == Content::Only(1)
+        matches!(call.kind, BlockKind::RTrig) && facts.port(call.block, 0).value == Some(1)
     })
 }

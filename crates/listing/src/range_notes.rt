@@ -238,7 +238,7 @@ fn outcome_of(facts: &TaskFacts, word: Word, known: Known) -> Option<bool> {
     let Word::Apply(operator, operand) = word else {
         return None;
     };
-    let constant = constant_of(facts.code, operand).only()?;
+    let constant = constant_of(facts.code, operand)?;
     match (operator, known) {
         (Operator::And { negated }, _) if (constant == 1) == negated => Some(false),
         (Operator::Or { negated }, _) if (constant == 1) != negated => Some(true),
@@ -259,9 +259,9 @@ fn commands_gear(house: &House) -> bool {
     })
 }
 
-/// The note on a level that no store turns off, where it is one. One that has a single value in each
-/// scan is meant so, and so is one that moves, as where a button dims, or one of gear that another
-/// level drives as well.
+/// The note on a level that no store turns off, where it is one. One that has a single value in
+/// each scan is meant so, and so is one that moves, as where a button dims, or one of gear that
+/// another level drives as well.
 fn note_on_level(house: &House, number: usize, kept: Kept) -> Option<Note> {
     let Range { lo, hi } = kept.values;
     if lo < 1 || lo > 254 || kept.is_moved || lo == hi && kept.is_always {

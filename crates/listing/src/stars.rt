@@ -30,8 +30,8 @@ pub(crate) struct LongestPath {
     pub shares: Vec<Share>,
 }
 
-/// A longest path of a code. A function is called by those behind it alone, so the programs are gone
-/// over first, and then the functions from the last to the first.
+/// A longest path of a code. A function is called by those behind it alone, so the programs are
+/// gone over first, and then the functions from the last to the first.
 ///
 /// # Errors
 ///
@@ -72,8 +72,8 @@ pub(crate) fn longest_through(
 }
 
 impl LongestPath {
-    /// Adds the words of a path through a body, from its first word on, which the longest path takes
-    /// so many times.
+    /// Adds the words of a path through a body, from its first word on, which the longest path
+    /// takes the given number of times.
     fn follow(
         &mut self,
         code: &Code,

@@ -118,8 +118,8 @@ fn add_known(page: &mut Page, names: &TaskNames, pass: &Pass, word: Word) {
     }
 }
 
-/// Adds how long the longest paths are on both ways from a jump that has two, and in a function that
-/// is called.
+/// Adds how long the longest paths are on both ways from a jump that has two, and in a function
+/// that is called.
 fn add_ways(page: &mut Page, names: &TaskNames, ways: &LongestWays, place: usize, word: Word) {
     match word {
         Word::Jump { condition, target } if condition != Condition::Always => {

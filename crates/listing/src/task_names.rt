@@ -4,7 +4,7 @@ ghost use Rattle.std.specs.Prelude.{◌<◌, length};
 
 use crate::names::shown;
 use ilcode::Code;
-use ilplan::{DeclaredName, Plan, SlotName, SlotOwner, Task, UserFunction};
+use ilplan::{DeclaredName, Plan, SlotName, Task, UserFunction};
 use ilsource::Name;
 use std::alloc::{AllocError, Global};
 
@@ -67,26 +67,15 @@ impl<'a> TaskNames<'a> {
     /// The name of the variable in a slot, as declared: `instance.variable`, `function.variable`,
     /// and of a global variable its name alone. A function's result has the function's name.
     pub(crate) fn slot(&self, slot: usize) -> Option<SlotName<'a>> {
-        match self.task()?.slots().get(slot) {
-            Some(found) => self.variable(found.variable),
-            None => self.function_slot(slot),
+        let plan = self.plan;
+        if self.task < plan.tasks() && slot < plan.task(self.task).slots().len() {
+            return Some(plan.slot_name(self.task, slot));
         }
-    }
-
-    /// The name of a variable of the task.
-    fn variable(&self, variable: SlotOwner) -> Option<SlotName<'a>> {
-        match variable {
-            SlotOwner::Global(number) => {
-                if number >= self.plan.globals() {
-                    return None;
-                }
-                Some(SlotName {
-                    instance: None,
-                    variable: self.plan.global_name(number),
-                })
-            }
-            SlotOwner::Own { instance, name } => Some(self.name_within(instance, name)),
-        }
+        let bodies = self.code.functions();
+        let number = bodies.iter().rposition(|body| body.first <= slot)?;
+        let function = self.user_function(number)?;
+        let own = slot.saturating_sub(bodies.get(number)?.first);
+        Some(self.name_within(function.name(), name_in(function, own)?))
     }
 
     /// The name of what stands in an instance or in a function.
@@ -97,37 +86,24 @@ impl<'a> TaskNames<'a> {
         }
     }
 
-    /// The name of the variable of a function in a slot.
-    fn function_slot(&self, slot: usize) -> Option<SlotName<'a>> {
-        let bodies = self.code.functions();
-        for number in 0..bodies.len() {
-            let body = bodies[number];
-            if let Some(own) = slot.checked_sub(body.first) {
-                if own < body.slots {
-                    return self.own_variable(number, own);
-                }
-            }
-        }
-        None
-    }
-
-    /// The name of the variable of this number of a function, which has this number in the code.
-    fn own_variable(&self, function: usize, own: usize) -> Option<SlotName<'a>> {
-        let found = self.user_function(function)?;
-        Some(self.name_within(found.name(), name_in(found, own)?))
-    }
-
     /// The name of a block instance, as declared.
     pub(crate) fn block(&self, block: usize) -> Option<SlotName<'a>> {
         let found = self.task()?.blocks().get(block)?;
         Some(self.name_within(found.instance, found.name))
     }
 
-    /// The name of a port of a block instance.
-    pub(crate) fn port(&self, block: usize, port: usize) -> Option<DeclaredName<'a>> {
-        let kind = self.task()?.blocks().get(block)?.kind;
-        let bytes = kind.ports().get(port)?.name.spelling();
-        Some(DeclaredName { bytes })
+    /// The names of a block instance and of a port of it.
+    pub(crate) fn port(
+        &self,
+        block: usize,
+        port: usize,
+    ) -> Option<(SlotName<'a>, DeclaredName<'a>)> {
+        let found = self.task()?.blocks().get(block)?;
+        let bytes = found.kind.ports().get(port)?.name.spelling();
+        Some((
+            self.name_within(found.instance, found.name),
+            DeclaredName { bytes },
+        ))
     }
 }
 

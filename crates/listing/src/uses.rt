@@ -22,32 +22,17 @@ pub(crate) fn read_by(word: Word) -> Option<WordOperand> {
     }
 }
 
-/// The slot that a word reads.
-pub(crate) fn slot_read_by(word: Word) -> Option<usize> {
-    match read_by(word) {
-        Some(WordOperand::Slot(slot)) => Some(usize::from(slot)),
-        _ => None,
-    }
-}
-
-/// The slot that a word writes.
-pub(crate) fn slot_written_by(word: Word) -> Option<usize> {
+/// The variable or the port that a word writes, as an operand.
+pub(crate) fn written_by(word: Word) -> Option<WordOperand> {
     match word {
-        Word::Store {
-            variable: Target::Slot(slot),
-            ..
+        Word::Store { variable, .. } | Word::Set(variable) | Word::Reset(variable) => {
+            match variable {
+                Target::Slot(slot) => Some(WordOperand::Slot(slot)),
+                Target::Port { port, block } => Some(WordOperand::Port { port, block }),
+            }
         }
-        | Word::Set(Target::Slot(slot))
-        | Word::Reset(Target::Slot(slot))
-        | Word::Give { slot, .. } => Some(usize::from(slot)),
+        Word::Pass { port, block, .. } => Some(WordOperand::Port { port, block }),
+        Word::Give { slot, .. } => Some(WordOperand::Slot(slot)),
         _ => None,
-    }
-}
-
-/// What a store writes, as an operand.
-pub(crate) fn operand_of(target: Target) -> WordOperand {
-    match target {
-        Target::Slot(slot) => WordOperand::Slot(slot),
-        Target::Port { port, block } => WordOperand::Port { port, block },
     }
 }

@@ -1,9 +1,9 @@
 //! Words as they are written.
 
-use crate::spelling::{SlotText, function_text, is_return, jump_text, operator_text};
 use crate::task_names::TaskNames;
-use crate::uses::operand_of;
-use ilcode::{Word, WordOperand};
+use crate::uses::{read_by, written_by};
+use ilcode::{Code, Word, WordOperand};
+use iltypes::{Condition, Function, Operator};
 use std::fmt;
 
 /// A word of a task's code, as it could stand in a text; a jump leads to the number of a word, and
@@ -14,124 +14,133 @@ pub struct WordText<'a> {
     pub word: Word,
 }
 
-/// How a word is written that has one operand or variable, and that.
-fn named(word: Word) -> Option<(&'static str, WordOperand)> {
-    match word {
-        Word::Load { negated, operand } => Some((if negated { "LDN" } else { "LD" }, operand)),
-        Word::Apply(applied, operand) => Some((operator_text(applied), operand)),
-        Word::Store { negated, variable } => {
-            Some((if negated { "STN" } else { "ST" }, operand_of(variable)))
-        }
-        Word::Set(variable) => Some(("S", operand_of(variable))),
-        Word::Reset(variable) => Some(("R", operand_of(variable))),
-        _ => None,
-    }
-}
-
-impl WordText<'_> {
-    /// What an operand is.
-    fn operand(&self, operand: WordOperand) -> OperandText<'_> {
-        OperandText {
-            names: self.names,
-            operand,
-        }
-    }
-
-    /// Writes what a variable or a port is given.
-    fn write_given<W: fmt::Write>(
-        &self,
-        f: &mut fmt::Formatter<W>,
-        to: WordOperand,
-        given: WordOperand,
-    ) -> fmt::Result {
-        write!(f, "{} := {}", self.operand(to), self.operand(given))
-    }
-
-    /// Writes a jump.
-    fn write_jump<W: fmt::Write>(
-        &self,
-        f: &mut fmt::Formatter<W>,
-        name: &str,
-        target: usize,
-    ) -> fmt::Result {
-        if is_return(self.names.code, target) {
-            write!(f, "{name}")
-        } else {
-            write!(f, "{name} {target}")
-        }
-    }
-
-    /// Writes a call of a function.
-    fn write_invoke<W: fmt::Write>(
-        &self,
-        f: &mut fmt::Formatter<W>,
-        function: usize,
-    ) -> fmt::Result {
-        match self.names.function(function) {
-            Some(name) => write!(f, "CALL {name}"),
-            None => write!(f, "CALL {function}"),
-        }
-    }
-}
-
 impl fmt::Display for WordText<'_> {
     fn fmt<W: fmt::Write>(&self, f: &mut fmt::Formatter<W>) -> fmt::Result {
-        if let Some((name, operand)) = named(self.word) {
-            return write!(f, "{name} {}", self.operand(operand));
-        }
-        match self.word {
-            Word::Transform(applied) => f.write_str(function_text(applied)),
-            Word::Pass {
-                port,
-                block,
-                operand,
-            } => self.write_given(f, WordOperand::Port { port, block }, operand),
-            Word::Give { operand, slot } => self.write_given(f, WordOperand::Slot(slot), operand),
-            Word::Call(block) => match self.names.block(usize::from(block)) {
-                Some(name) => write!(f, "CAL {name}"),
-                None => f.write_str("CAL ?"),
-            },
-            Word::Open(opened) => write!(f, "{}(", operator_text(opened)),
-            Word::Jump { condition, target } => {
-                let name = jump_text(self.names.code, condition, target as usize);
-                self.write_jump(f, name, target as usize)
-            }
-            Word::Invoke(function) => self.write_invoke(f, usize::from(function)),
-            _ => f.write_str(")"),
-        }
+        let names = self.names;
+        let (first, between, last) = parts_of(names.code, self.word);
+        let first = PartText { names, part: first };
+        let last = PartText { names, part: last };
+        write!(f, "{first}{between}{last}")
     }
 }
 
-/// What a word names.
+/// A part of a word.
 #[derive(Clone, Copy)]
-struct OperandText<'a> {
-    names: &'a TaskNames<'a>,
-    operand: WordOperand,
+pub(crate) enum Part {
+    Text(&'static str),
+    Operand(WordOperand),
+    Block(u16),
+    Function(u16),
+    /// The number of the word to which a jump leads.
+    Place(u32),
 }
 
-impl OperandText<'_> {
-    /// Writes a port.
-    fn write_port<W: fmt::Write>(
+/// Nothing more.
+const NOTHING: Part = Part::Text("");
+
+/// What a word is written with, and what stands between both.
+fn parts_of(code: &Code, word: Word) -> (Part, &'static str, Part) {
+    let (written, read) = (written_by(word), read_by(word));
+    if let (Some(to), Some(given)) = (written, read) {
+        return (Part::Operand(to), " := ", Part::Operand(given));
+    }
+    let verb = Part::Text(verb_of(code, word));
+    if let Some(operand) = written.or(read) {
+        return (verb, " ", Part::Operand(operand));
+    }
+    match word {
+        Word::Call(block) => (verb, " ", Part::Block(block)),
+        Word::Invoke(function) => (verb, " ", Part::Function(function)),
+        Word::Open(_) => (verb, "(", NOTHING),
+        Word::Jump { target, .. } if !is_return(code, target) => (verb, " ", Part::Place(target)),
+        _ => (verb, "", NOTHING),
+    }
+}
+
+/// The word by which a word of a code begins; none where it gives something.
+fn verb_of(code: &Code, word: Word) -> &'static str {
+    match word {
+        Word::Load { negated: false, .. } => "LD",
+        Word::Load { negated: true, .. } => "LDN",
+        Word::Store { negated: false, .. } => "ST",
+        Word::Store { negated: true, .. } => "STN",
+        Word::Set(_) => "S",
+        Word::Reset(_) => "R",
+        Word::Apply(operator, _) | Word::Open(operator) => operator_text(operator),
+        Word::Transform(Function::Not) => "NOT",
+        Word::Transform(Function::Abs) => "ABS",
+        Word::Transform(Function::Convert(_)) => "conversion",
+        Word::Call(_) => "CAL",
+        Word::Invoke(_) => "CALL",
+        Word::Jump { condition, target } => jump_text(condition, is_return(code, target)),
+        _ => ")",
+    }
+}
+
+/// How an operator is written.
+fn operator_text(operator: Operator) -> &'static str {
+    match operator {
+        Operator::And { negated: false } => "AND",
+        Operator::And { negated: true } => "ANDN",
+        Operator::Or { negated: false } => "OR",
+        Operator::Or { negated: true } => "ORN",
+        Operator::Xor { negated: false } => "XOR",
+        Operator::Xor { negated: true } => "XORN",
+        Operator::Add => "ADD",
+        Operator::Sub => "SUB",
+        Operator::Mul => "MUL",
+        Operator::Div => "DIV",
+        Operator::Mod => "MOD",
+        Operator::Gt => "GT",
+        Operator::Ge => "GE",
+        Operator::Eq => "EQ",
+        Operator::Ne => "NE",
+        Operator::Le => "LE",
+        Operator::Lt => "LT",
+        Operator::Min => "MIN",
+        Operator::Max => "MAX",
+    }
+}
+
+/// Whether a jump to a place is a return: where a program or a function begins, and past the last
+/// word, the one before ends.
+fn is_return(code: &Code, target: u32) -> bool {
+    let place = target as usize;
+    place >= code.len() || code.is_start(place)
+}
+
+/// How a jump is written.
+fn jump_text(condition: Condition, is_return: bool) -> &'static str {
+    match (condition, is_return) {
+        (Condition::Always, true) => "RET",
+        (Condition::IfTrue, true) => "RETC",
+        (Condition::IfFalse, true) => "RETCN",
+        (Condition::Always, false) => "JMP",
+        (Condition::IfTrue, false) => "JMPC",
+        (Condition::IfFalse, false) => "JMPCN",
+    }
+}
+
+/// A part of a word, with the names of the text.
+#[derive(Clone, Copy)]
+pub(crate) struct PartText<'a> {
+    pub names: &'a TaskNames<'a>,
+    pub part: Part,
+}
+
+impl PartText<'_> {
+    /// Writes an operand: a variable in a slot by its name, or by the slot's number where it has
+    /// none.
+    fn write_operand<W: fmt::Write>(
         &self,
         f: &mut fmt::Formatter<W>,
-        block: usize,
-        port: usize,
+        operand: WordOperand,
     ) -> fmt::Result {
-        match (self.names.block(block), self.names.port(block, port)) {
-            (Some(name), Some(port)) => write!(f, "{name}.{port}"),
-            _ => f.write_str("?"),
-        }
-    }
-}
-
-impl fmt::Display for OperandText<'_> {
-    fn fmt<W: fmt::Write>(&self, f: &mut fmt::Formatter<W>) -> fmt::Result {
-        match self.operand {
-            WordOperand::Slot(slot) => {
-                let names = self.names;
-                let slot = usize::from(slot);
-                write!(f, "{}", SlotText { names, slot })
-            }
+        match operand {
+            WordOperand::Slot(slot) => match self.names.slot(usize::from(slot)) {
+                Some(name) => write!(f, "{name}"),
+                None => write!(f, "slot {slot}"),
+            },
             WordOperand::Constant(number) => {
                 match self.names.code.constants().get(usize::from(number)) {
                     Some(value) => write!(f, "{value}"),
@@ -139,8 +148,29 @@ impl fmt::Display for OperandText<'_> {
                 }
             }
             WordOperand::Port { port, block } => {
-                self.write_port(f, usize::from(block), usize::from(port))
+                match self.names.port(usize::from(block), usize::from(port)) {
+                    Some((name, port)) => write!(f, "{name}.{port}"),
+                    None => f.write_str("?"),
+                }
             }
+        }
+    }
+}
+
+impl fmt::Display for PartText<'_> {
+    fn fmt<W: fmt::Write>(&self, f: &mut fmt::Formatter<W>) -> fmt::Result {
+        match self.part {
+            Part::Text(text) => f.write_str(text),
+            Part::Operand(operand) => self.write_operand(f, operand),
+            Part::Block(block) => match self.names.block(usize::from(block)) {
+                Some(name) => write!(f, "{name}"),
+                None => f.write_str("?"),
+            },
+            Part::Function(function) => match self.names.function(usize::from(function)) {
+                Some(name) => write!(f, "{name}"),
+                None => write!(f, "{function}"),
+            },
+            Part::Place(place) => write!(f, "{place}"),
         }
     }
 }

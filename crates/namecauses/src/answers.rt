@@ -11,7 +11,7 @@ use std::alloc::AllocError;
 /// How many names of the text are tried at most.
 const MOST_TRIED: usize = 8;
 
-impl FaultPlace<'_> {
+impl FaultPlace<'_, '_> {
     /// What is said as an answer, with the first change that helps.
     pub(crate) fn answer(&self, said: &Said) -> Result<FaultAnswer, AllocError> {
         let answer = FaultAnswer {

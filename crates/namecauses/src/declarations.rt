@@ -78,7 +78,7 @@ const OUTSIDE_RANGE: Advice = Advice {
     line: "level : USINT (0..254) := 100;",
 };
 
-/// What is said of a bad declaration, or of a call that doesn't fit it.
+/// What is said of a bad declaration, or of a call that does not fit it.
 pub(crate) fn said_of_declaration(place: &FaultPlace) -> Said {
     let said = match place.standing {
         Standing::Task(_, task) => Some(Said::of(of_task(task))),

@@ -14,11 +14,8 @@
 mod addresses;
 mod answers;
 mod declarations;
+mod depths;
 mod facts;
-mod faults;
-mod faults_of_configuration;
-mod faults_of_declarations;
-mod faults_of_lines;
 mod name_answers;
 mod name_causes;
 mod name_habits;
@@ -26,8 +23,8 @@ mod other_faults;
 mod said;
 mod standing;
 mod tokens;
+mod told;
 mod unknown_names;
-mod written_twice;
 
 pub use name_answers::answer_name;
 pub use other_faults::{NamedFault, OtherFaults};

@@ -2,16 +2,16 @@
 
 use crate::addresses::said_of_address;
 use crate::declarations::said_of_declaration;
+use crate::depths::depth_at;
 use crate::name_causes::{
     BACKWARD_JUMP, NO_TASK, SHARED_ADDRESS, UNKNOWN_LABEL, WRITTEN_TWICE, advice_at, too_many,
 };
 use crate::said::{Change, Fact, Said, Slot};
-use crate::standing::{FaultPlace, depth_at};
+use crate::standing::FaultPlace;
 use crate::tokens::{Role, same_before};
 use crate::unknown_names::said_of_unknown;
 use curing::{AskedText, FaultAnswer, Surroundings};
-use ilscope::NameCause;
-use ilsource::Source;
+use ilscope::{NameCause, Scope};
 use iltext::parse;
 use std::alloc::{AllocError, Global};
 
@@ -30,20 +30,14 @@ pub fn answer_name(
     let Ok(source) = parse(alloc, asked.text) else {
         return Err(AllocError);
     };
-    let place = FaultPlace::of(alloc, asked, &source, at)?;
+    let scope = Scope::of(alloc, &source, asked.binding)?;
+    let place = FaultPlace::of(alloc, asked, &scope, at)?;
     place.answer(&said_of(&place, cause)?)
 }
 
 /// What is wrong, of a cause at a place of a text.
-pub(crate) fn what_of(
-    alloc: Global,
-    asked: &AskedText,
-    source: &Source,
-    at: usize,
-    cause: NameCause,
-) -> Result<String, AllocError> {
-    let place = FaultPlace::of(alloc, asked, source, at)?;
-    let said = said_of(&place, cause)?;
+pub(crate) fn what_of(place: &FaultPlace, cause: NameCause) -> Result<String, AllocError> {
+    let said = said_of(place, cause)?;
     place.filled(&said, said.advice.what)
 }
 
@@ -52,7 +46,7 @@ fn said_of(place: &FaultPlace, cause: NameCause) -> Result<Said, AllocError> {
     if cause != NameCause::TooMany {
         return Ok(said_at(place, cause));
     }
-    let (number, depth) = depth_at(place.alloc, place.source, place.spot.at)?;
+    let (number, depth) = depth_at(place.alloc, place.scope, place.spot.at)?;
     Ok(Said::of(too_many(place.standing, number, depth)))
 }
 
@@ -99,7 +93,7 @@ fn twice(place: &FaultPlace) -> Said {
 /// What is said of an instance without a task: it could have the first.
 fn without_task(place: &FaultPlace) -> Said {
     let said = Said::of(&NO_TASK);
-    let tasks = match place.source.configuration() {
+    let tasks = match place.scope.source().configuration() {
         Some(configuration) => configuration.tasks(),
         None => &[],
     };

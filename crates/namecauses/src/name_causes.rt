@@ -173,7 +173,7 @@ const OPERANDS: Advice = Advice {
     line: "blend 100, 25",
 };
 
-/// What is said of too much, of a function with so many above it and this depth.
+/// What is said of too much, of a function with the given number above it and this depth.
 pub(crate) fn too_many(standing: Standing, number: usize, depth: usize) -> &'static Advice {
     match standing {
         Standing::Task(number, _) if number >= MOST_TASKS => &TASKS,
@@ -189,15 +189,39 @@ pub(crate) fn too_many(standing: Standing, number: usize, depth: usize) -> &'sta
 pub(crate) fn advice_at(place: &FaultPlace, cause: NameCause) -> &'static Advice {
     let is_shared = place.function_named().is_some();
     match (cause, place.standing) {
-        (NameCause::Unknown, Standing::Used(_, Purpose::Invoke, _)) => &NO_INSTRUCTION,
-        (NameCause::Unknown, Standing::Used(true, ..)) => &NOT_OF_FUNCTION,
-        (NameCause::WritesInput, Standing::Used(true, ..)) => &STORED_INPUT,
+        (
+            NameCause::Unknown,
+            Standing::Used {
+                purpose: Purpose::Invoke,
+                ..
+            },
+        ) => &NO_INSTRUCTION,
+        (
+            NameCause::Unknown,
+            Standing::Used {
+                is_in_function: true,
+                ..
+            },
+        ) => &NOT_OF_FUNCTION,
+        (
+            NameCause::WritesInput,
+            Standing::Used {
+                is_in_function: true,
+                ..
+            },
+        ) => &STORED_INPUT,
         (NameCause::Twice, Standing::Function(..)) => &SHARED_NAME,
         (NameCause::Twice, Standing::Type(_) | Standing::Program) if is_shared => &SHARED_NAME,
         (NameCause::Twice, Standing::Input(..) | Standing::Own(_)) => &GIVEN_TWICE,
         (NameCause::BadDeclaration, Standing::Function(false, _)) => &NO_INPUT,
         (NameCause::BadDeclaration, Standing::Own(Declared::Blocks(_))) => &BLOCK_INSTANCE,
-        (NameCause::BadDeclaration, Standing::Used(_, Purpose::Invoke, _)) => &OPERANDS,
+        (
+            NameCause::BadDeclaration,
+            Standing::Used {
+                purpose: Purpose::Invoke,
+                ..
+            },
+        ) => &OPERANDS,
         _ => advice_of(cause),
     }
 }

@@ -1,7 +1,11 @@
 //! What stands at a place of a text.
 
+ghost use Rattle.std.specs.Prelude.{IsSome, IsTrue};
+ghost use Rattle.ilscope.specs.Declarations.{body_at};
+
 use curing::{AskedText, Spot};
-use ilscope::Names;
+use ilblocks::BlockKind;
+use ilscope::{BodyNumber, Scope};
 use ilsource::{
     Configuration, Constant, Declaration, Declared, Element, Line, Name, Operand, Program, Purpose,
     Source, SourceFunction, Specification, Symbol, TaskDeclaration,
@@ -11,10 +15,10 @@ use std::alloc::{AllocError, Global};
 
 /// The place of a text at which a fault of names stands.
 #[derive(Clone, Copy)]
-pub(crate) struct FaultPlace<'a> {
+pub(crate) struct FaultPlace<'a, 's> {
     pub alloc: Global,
     pub asked: &'a AskedText<'a>,
-    pub source: &'a Source,
+    pub scope: &'a Scope<'s>,
     pub spot: Spot<'a>,
     pub standing: Standing,
 }
@@ -38,76 +42,131 @@ pub(crate) enum Standing {
     Own(Declared),
     /// A name that a program declares.
     Declared(Declared),
-    /// What a line uses; whether it is one of a function.
-    Used(bool, Purpose, Symbol),
+    /// What a line uses.
+    Used {
+        is_in_function: bool,
+        /// Where its instruction stands, in or out of parentheses.
+        instruction: usize,
+        purpose: Purpose,
+        symbol: Symbol,
+    },
     Other,
 }
 
-impl<'a> FaultPlace<'a> {
+impl<'a, 's> FaultPlace<'a, 's> {
     /// This place of a text.
     pub(crate) fn of(
         alloc: Global,
         asked: &'a AskedText<'a>,
-        source: &'a Source,
+        scope: &'a Scope<'s>,
         at: usize,
-    ) -> Result<FaultPlace<'a>, AllocError> {
+    ) -> Result<FaultPlace<'a, 's>, AllocError> {
         Ok(FaultPlace {
             alloc,
             asked,
-            source,
+            scope,
             spot: Spot::of(asked.text, at),
-            standing: standing_at(alloc, source, at)?,
+            standing: standing_at(alloc, scope.source(), at)?,
         })
     }
 
-    /// What the program in which the place stands declares a name as: a block instance, where it is
-    /// one too. In a function there is nothing.
-    pub(crate) fn declared_as(&self, name: &[u8]) -> Option<Declared> {
-        let Some(Element::Program(program)) = element_at(self.source, self.spot.at) else {
-            return None;
-        };
-        let mut found: Option<Declared> = None;
-        for declaration in program.declarations() {
-            let is_named = name_among(declaration.names(), self.spot.text, name).is_some();
-            if is_named && !matches!(found, Some(Declared::Blocks(_))) {
-                found = Some(declaration.declared_kind());
-            }
+    /// The name at the place.
+    pub(crate) fn name(&self) -> Name {
+        Name {
+            from: self.spot.at,
+            to: self.spot.found_to(),
         }
-        found
+    }
+
+    /// The kind of the block instance that has a name in the program in which the place stands.
+    pub(crate) fn block_named(&self, name: Name) -> Option<BlockKind> {
+        let program = self.program()?;
+        if !is_there(self.scope, program) {
+            return None;
+        }
+        let (_, kind) = self.scope.block(program, name)?;
+        Some(kind)
+    }
+
+    /// Whether a variable has a name in the program in which the place stands, or an external.
+    pub(crate) fn is_variable(&self, name: Name) -> bool {
+        let Some(program) = self.program() else {
+            return false;
+        };
+        is_there(self.scope, program)
+            && (self.scope.variable_number(program, name).is_some()
+                || self.scope.external_number(program, name).is_some())
+    }
+
+    /// Whether the program in which the place stands declares a name with a type that there is not,
+    /// so that a function block may be meant.
+    pub(crate) fn has_unknown_type(&self, name: Name) -> bool {
+        let Some(Element::Program(program)) = element_at(self.scope.source(), self.spot.at) else {
+            return false;
+        };
+        program.declarations().iter().any(|declaration| {
+            let mut names = declaration.names().iter();
+            names.any(|one| one.is_same(name, self.spot.text))
+                && self.is_of_unknown_type(declaration.declared_kind())
+        })
+    }
+
+    /// Whether the text has no type of the name that variables are declared with.
+    fn is_of_unknown_type(&self, declared: Declared) -> bool {
+        let Declared::Variables {
+            specification: Specification::Named(name),
+            ..
+        } = declared
+        else {
+            return false;
+        };
+        let mut elements = self.scope.source().elements().iter();
+        !elements.any(|element| match element {
+            Element::DerivedType(one) => one.name.is_same(name, self.spot.text),
+            _ => false,
+        })
     }
 
     /// The global variable that has the name at the place.
     pub(crate) fn global_named(&self) -> Option<Name> {
-        for global in self.source.configuration()?.globals() {
-            let found = name_among(global.names(), self.spot.text, self.spot.token());
-            if found.is_some() {
-                return found;
-            }
-        }
-        None
+        let number = self.scope.global_number(self.name())?;
+        Some(self.scope.globals().get(number)?.name)
     }
 
     /// The first function that has the name at the place.
-    pub(crate) fn function_named(&self) -> Option<&'a SourceFunction> {
-        for element in self.source.elements() {
-            if let Element::Function(function) = element {
-                if name_among(&[function.name()], self.spot.text, self.spot.token()).is_some() {
-                    return Some(function);
-                }
-            }
+    pub(crate) fn function_named(&self) -> Option<&'s SourceFunction> {
+        let number = self.scope.function_number(self.name())?;
+        Some(self.scope.functions().get(number)?.function())
+    }
+
+    /// Whether the first function that has the name at the place has no input.
+    pub(crate) fn lacks_inputs(&self) -> bool {
+        match self.function_named() {
+            Some(function) => function.inputs().is_empty(),
+            None => false,
         }
-        None
+    }
+
+    /// The program in which the place stands.
+    fn program(&self) -> Option<BodyNumber> {
+        let Some(Element::Program(program)) = element_at(self.scope.source(), self.spot.at) else {
+            return None;
+        };
+        let from = program.name().from;
+        let mut programs = self.scope.programs().iter();
+        let number = programs.position(|one| one.program().name().from == from)?;
+        Some(BodyNumber::Program(number))
     }
 }
 
-/// The first of some names that is spelled so, letter case aside.
-fn name_among(names: &[Name], text: &[u8], spelled: &[u8]) -> Option<Name> {
-    for name in names {
-        if name.text(text).eq_ignore_ascii_case(spelled) {
-            return Some(*name);
-        }
+/// Whether there is a program or a function of this number.
+fn is_there(scope: &Scope, body: BodyNumber) -> bool
+    ensures { IsTrue result → IsSome (body_at scope.now.tree body) }
+{
+    match body {
+        BodyNumber::Program(number) => scope.programs().get(number).is_some(),
+        BodyNumber::Function(number) => scope.functions().get(number).is_some(),
     }
-    None
 }
 
 /// What stands at a place.
@@ -140,7 +199,7 @@ fn element_at(source: &Source, at: usize) -> Option<&Element> {
 }
 
 /// The name of a type, a function or a program.
-pub(crate) fn name_of(element: &Element) -> Name {
+fn name_of(element: &Element) -> Name {
     match element {
         Element::DerivedType(declared) => declared.name,
         Element::Function(function) => function.name(),
@@ -213,7 +272,12 @@ fn used_at(
     for used in &uses_of(alloc, lines)? {
         if let Operand::Name(symbol) = used.operand {
             if stands_at(symbol, at) {
-                return Ok(Standing::Used(is_in_function, used.purpose, symbol));
+                return Ok(Standing::Used {
+                    is_in_function,
+                    instruction: used.at,
+                    purpose: used.purpose,
+                    symbol,
+                });
             }
         }
     }
@@ -244,55 +308,4 @@ fn configured_at(configuration: &Configuration, at: usize) -> Option<Standing> {
     let mut instances = configuration.instances().iter();
     let number = instances.position(|instance| instance.name.from == at)?;
     Some(Standing::Instance(number))
-}
-
-/// How many functions stand above the one whose name stands at a place, and how deep it is: one
-/// more than the deepest that it calls.
-///
-/// # Errors
-///
-/// The allocator is out of memory.
-pub(crate) fn depth_at(
-    alloc: Global,
-    source: &Source,
-    at: usize,
-) -> Result<(usize, usize), AllocError> {
-    let mut depths = Names::new(alloc);
-    let mut number: usize = 0;
-    for element in source.elements() {
-        if let Element::Function(function) = element {
-            let depth = depth_of(alloc, source, &depths, function)?;
-            if function.name().from == at {
-                return Ok((number, depth));
-            }
-            let name = lower_case(alloc, function.name().text(source.text()))?;
-            depths.add(alloc, &name, depth)?;
-            number = number.saturating_add(1);
-        }
-    }
-    Ok((0, 0))
-}
-
-/// How deep a function is, below functions of these depths.
-fn depth_of(
-    alloc: Global,
-    source: &Source,
-    depths: &Names<usize>,
-    function: &SourceFunction,
-) -> Result<usize, AllocError> {
-    let mut deepest: usize = 0;
-    for used in &uses_of(alloc, function.lines())? {
-        if let Operand::Name(Symbol::Function(called)) = used.operand {
-            let name = lower_case(alloc, called.text(source.text()))?;
-            deepest = deepest.max(depths.get(&name).unwrap_or(0));
-        }
-    }
-    Ok(deepest.saturating_add(1))
-}
-
-/// The bytes with letters in lower case.
-pub(crate) fn lower_case(alloc: Global, text: &[u8]) -> Result<Vec<u8>, AllocError> {
-    text.iter()
-        .map(|byte| byte.to_ascii_lowercase())
-        .collect(alloc)
 }

@@ -9,7 +9,7 @@ use crate::tokens::type_behind;
 use curing::{Advice, Spot, Surroundings, content_len};
 use ilblocks::BlockKind;
 use ilscope::NameCause;
-use ilsource::{Declared, Symbol};
+use ilsource::Symbol;
 use iltokens::{Keyword, keyword_of};
 
 const NO_TYPE: Advice = Advice {
@@ -192,12 +192,13 @@ fn undeclared(place: &FaultPlace) -> Option<Said> {
         return Some(Said::of(&NO_PORT).with_fact(Fact::Ports(kind)));
     }
     let is_first = spot.first_word() == spot.token();
-    let (advice, word) = match (place.declared_as(spot.token()), is_first) {
-        (Some(Declared::Blocks(_)), true) => (&NO_CALL, "CAL "),
-        (Some(Declared::Blocks(_)), false) => return Some(Said::of(&NO_VARIABLE)),
-        (Some(_), true) => (&NO_INSTRUCTION, "LD "),
-        (Some(_), false) => return Some(Said::of(&NO_BLOCK)),
-        (None, _) => return no_external(place),
+    let name = place.name();
+    let (advice, word) = match (place.block_named(name), place.is_variable(name)) {
+        (Some(_), _) if is_first => (&NO_CALL, "CAL "),
+        (Some(_), _) => return Some(Said::of(&NO_VARIABLE)),
+        (None, true) if is_first => (&NO_INSTRUCTION, "LD "),
+        (None, true) => return Some(Said::of(&NO_BLOCK)),
+        (None, false) => return no_external(place),
     };
     Some(Said::of(advice).with_change(Change::Put(spot.at, spot.at, word)))
 }
@@ -216,13 +217,14 @@ fn misspelled(spot: &Spot) -> Option<&'static Advice> {
 
 /// The kind of the block instance of which a line has a port here.
 fn block_with_port(place: &FaultPlace) -> Option<BlockKind> {
-    let Standing::Used(_, _, Symbol::Port { block, .. }) = place.standing else {
+    let Standing::Used {
+        symbol: Symbol::Port { block, .. },
+        ..
+    } = place.standing
+    else {
         return None;
     };
-    match place.declared_as(block.text(place.spot.text))? {
-        Declared::Blocks(kind) => Some(kind),
-        _ => None,
-    }
+    place.block_named(block)
 }
 
 /// What is said of a global variable that the program does not name in VAR_EXTERNAL.

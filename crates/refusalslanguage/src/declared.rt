@@ -1,8 +1,10 @@
 //! Declarations and their faults.
 
-ghost use Rattle.std.specs.Prelude.{◌≡◌, pos, Some};
+ghost use Rattle.std.specs.Prelude.{◌≡◌, pos, None, Some};
 
-use ildeclared::{DeclaredTypes, Found, NameCause, declared_type, fault_of, lesser_of};
+use ildeclared::{
+    DeclaredTypes, Found, NameCause, declared_type, fault_of, found_where, lesser_of,
+};
 use ilsource::{Declared, Name, Specification};
 use iltypes::{IntegerType, Value};
 
@@ -47,5 +49,27 @@ pub fn empty_subrange_is_a_fault(lower: &[u8], types: &DeclaredTypes, name: Name
         },
         initial: None,
     };
-    fault_of(lower, types, &[name], declared)
+    fault_of(lower, types, &[name], declared, None)
+}
+
+/// `a_fault_found_again`: the fault that was found last was found once more.
+pub fn fault_is_not_found_again() -> Option<Found>
+    ensures { result ≡ None }
+{
+    let last = Found {
+        at: 5,
+        cause: NameCause::Twice,
+    };
+    found_where(true, last.at, last.cause, Some(last))
+}
+
+/// `one_fault_at_a_place`: a fault with a greater cause at the place of the last one was left out.
+pub fn greater_cause_there_is_next() -> Option<Found>
+    ensures { result ≡ Some (record { at = 5; cause = NameCause.BadDeclaration }) }
+{
+    let last = Found {
+        at: 5,
+        cause: NameCause::Twice,
+    };
+    found_where(true, 5, NameCause::BadDeclaration, Some(last))
 }

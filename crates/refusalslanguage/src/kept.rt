@@ -39,8 +39,8 @@ pub fn torn_file_is_refused(alloc: Global, bytes: &[u8]) -> Result<Kept, KeptFau
     Kept::parse(alloc, bytes)
 }
 
-/// `input_word_kept`, `zero_is_a_value_of_each_type`, `used_though_left_out`: a number was used for a
-/// variable that is TRUE or FALSE.
+/// `input_word_kept`, `zero_is_a_value_of_each_type`, `used_though_left_out`: a number was used for
+/// a variable that is TRUE or FALSE.
 pub fn value_of_another_type_is_left_out(
     alloc: Global,
     plan: &Plan,
@@ -172,8 +172,8 @@ pub fn variable_of_an_instance_is_kept(
     kept_values(alloc, plan, globals, tasks)
 }
 
-/// `the_last_of_another_instance`, `begins_with_its_ports_alone`, `the_start_of_another_instance`: a
-/// block instance began with another state than all that was kept of it.
+/// `the_last_of_another_instance`, `begins_with_its_ports_alone`, `the_start_of_another_instance`:
+/// a block instance began with another state than all that was kept of it.
 pub fn instance_begins_as_kept(
     alloc: Global,
     plan: &Plan,
@@ -209,8 +209,8 @@ pub fn instance_without_a_part_begins_anew(
     first_values_of(alloc, plan, kept)
 }
 
-/// `parts_that_begin_are_left_out`: what was kept of a block instance was reported, though it begins
-/// with it.
+/// `parts_that_begin_are_left_out`: what was kept of a block instance was reported, though it
+/// begins with it.
 pub fn parts_with_which_an_instance_begins_are_not_left_out(
     alloc: Global,
     plan: &Plan,

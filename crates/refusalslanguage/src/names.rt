@@ -1,18 +1,18 @@
 //! Texts whose names are at fault.
 
-ghost use Rattle.std.specs.Prelude.{◌≡◌, ◌≢◌, IfErr, OnOk, Some, slice_get};
+ghost use Rattle.std.specs.Prelude.{◌≡◌, ◌≢◌, IfErr, IfOk, OnOk, Some, slice_get};
 ghost use Rattle.limits.specs.Limits.{most_words};
-ghost use Rattle.ildeclared.specs.Faults.{SomeOf};
+ghost use Rattle.ildeclared.specs.Faults.{Beyond, IsLeast, SomeOf};
 ghost use Rattle.ilscope.specs.Declarations.{declared_functions};
 ghost use Rattle.ilscope.specs.Reports.{ReportsLeast};
 ghost use Rattle.ilsyms.specs.Faults.{AreTooDeep, IsFault, all_word_places, depths_of};
 ghost use Rattle.ilsyms.specs.Tasks.{tasks_of};
 
 use ilplan::Plan;
-use ilscope::NameFault;
+use ilscope::{Found, NameFault, Scope};
 use ilsource::Source;
-use ilsyms::resolve;
-use std::alloc::Global;
+use ilsyms::{next_fault, resolve};
+use std::alloc::{AllocError, Global};
 use wordlines::Binding;
 
 /// `a_function_that_another_calls_is_not_counted`, `words_of_starting_values_are_not_counted`: a
@@ -57,4 +57,19 @@ pub fn first_fault_is_reported(
     ensures { IfErr result (λ reported. reported ≢ NameFault.Memory → reported ≡ fault) }
 {
     resolve(alloc, source, binding)
+}
+
+/// `the_least_fault_found_again`: behind a fault one was found that does not come after it, or not
+/// the first of those that do.
+pub fn next_fault_is_found(
+    alloc: Global,
+    scope: &Scope<'_>,
+    last: Found,
+    next: Found,
+) -> Result<Option<Found>, AllocError>
+    requires { IsLeast (Beyond (Some last) (IsFault scope.now.tree scope.now.wiring))
+        next.at next.cause }
+    ensures { IfOk result (λ found. found ≡ Some next) }
+{
+    next_fault(alloc, scope, Some(last))
 }

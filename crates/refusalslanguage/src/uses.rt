@@ -44,7 +44,7 @@ pub fn store_to_an_input_is_found(
     ensures { IfOk result (λ found.
         found ≡ Some (record { at = place; cause = NameCause.WritesInput })) }
 {
-    fault_at_uses(alloc, scope)
+    fault_at_uses(alloc, scope, None)
 }
 
 /// `an_operand_counted_one_off`: the first fault is a call with a wrong number of operands, and
@@ -60,7 +60,7 @@ pub fn call_with_wrong_operands_is_found(
     ensures { IfOk result (λ found.
         found ≡ Some (record { at = place; cause = NameCause.BadDeclaration })) }
 {
-    fault_of_lines(alloc, scope)
+    fault_of_lines(alloc, scope, None)
 }
 
 /// `a_jump_back_is_unknown`: a jump back was one to an unknown label.
@@ -75,7 +75,7 @@ pub fn jump_back_is_found(
     ensures { IfOk result (λ found.
         found ≡ Some (record { at = place; cause = NameCause.BackwardJump })) }
 {
-    fault_of_lines(alloc, scope)
+    fault_of_lines(alloc, scope, None)
 }
 
 /// `a_function_calls_itself`: a function was called that is not declared above the call.

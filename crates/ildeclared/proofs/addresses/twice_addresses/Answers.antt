@@ -3,7 +3,7 @@ use Rattle.std.proofs.lemmas.List.{take_all}
 use Rattle.std.specs.HashSet.{contains}
 use Rattle.ilsource.specs.declared.address.DirectAddress.{DirectAddress}
 use Rattle.ildeclared.specs.AddressSteps.{same_key}
-use Rattle.ildeclared.specs.Faults.{IsAddressTwice, IsLeastOf, OfCause}
+use Rattle.ildeclared.specs.Faults.{IsAddressTwice, IsNextOf, OfCause}
 use Rattle.ildeclared.specs.declared.fault.NameCause.TheVariants.{Twice}
 use Rattle.ildeclared.proofs.TwiceAddresses.{seen_more, twice_more}
 use Rattle.ildeclared.proofs.addresses.twice_addresses.Goals as goal
@@ -17,7 +17,8 @@ loop-address-preserved c =
           c.in_ok-is_new.ensures.updates.0 c.loop-address.invariant.seen;
       least =
           rw c.lesser_of-least.ensures
-          (twice_more c.args.addresses.now c.loop-address.address-index _ c.loop-address-test.true c.in_ok-is_new.is_new
+          (twice_more c.args.addresses.now c.loop-address.address-index _ c.loop-address-test.true c.args.after
+          c.in_ok-is_new.is_new
           c.key_of.result c.loop-address.least c.found_where.result c.key_of.ensures
           (c.in_ok-is_new.ensures.added ∙ ap not (c.loop-address.invariant.seen c.key_of.result))
           c.loop-address.invariant.least c.found_where.ensures);
@@ -25,6 +26,6 @@ loop-address-preserved c =
 
 pub returns : goal.returns
 returns c =
-    subst (λ (xs : List DirectAddress). IsLeastOf (OfCause Twice (IsAddressTwice xs)) c.loop-address.least)
+    subst (λ (xs : List DirectAddress). IsNextOf c.args.after (OfCause Twice (IsAddressTwice xs)) c.loop-address.least)
     (take_all c.loop-address.address-index c.args.addresses.now c.loop-address-test.false)
     c.loop-address.invariant.least

@@ -7,6 +7,6 @@ use Rattle.ildeclared.proofs.functions.blocks_at.Goals as goal
 
 pub returns : goal.returns
 returns c =
-    found_same BadDeclaration (λ place. IsTrue c.are_blocks.result × (place ≡ c.in_ok-name.name.now.from))
+    found_same c.args.after BadDeclaration (λ place. IsTrue c.are_blocks.result × (place ≡ c.in_ok-name.name.now.from))
     (λ place. AreBlocksIn place c.args.declaration.now) c.found_where.result (λ place. search rules)
     c.found_where.ensures

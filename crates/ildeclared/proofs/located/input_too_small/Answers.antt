@@ -8,7 +8,8 @@ use Rattle.ildeclared.proofs.located.input_too_small.Goals as goal
 
 pub returns : goal.returns
 returns c =
-    found_same InputRangeTooSmall (λ place. IsTrue c.lacks_input-lacks.result × (place ≡ c.in_ok-address.address.at))
+    found_same c.args.after InputRangeTooSmall (λ place. IsTrue c.lacks_input-lacks.result ×
+    (place ≡ c.in_ok-address.address.at))
     (λ place. IsInputTooSmallIn (types_in c.args.lower.now c.args.types.now) place c.args.global.now)
     c.found_where.result
     (λ place. search rules) c.found_where.ensures

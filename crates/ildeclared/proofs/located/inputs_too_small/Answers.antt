@@ -7,13 +7,15 @@ use Rattle.ildeclared.proofs.located.inputs_too_small.Goals as goal
 pub loop-global-preserved : goal.loop-global-preserved
 loop-global-preserved c =
     rw c.lesser_of-least.ensures
-    (item_of_cause InputRangeTooSmall (λ x place. IsInputTooSmallIn (types_in c.args.lower.now c.args.types.now)
+    (item_of_cause c.args.after InputRangeTooSmall (λ x place. IsInputTooSmallIn
+    (types_in c.args.lower.now c.args.types.now)
     place x) c.args.globals.now c.loop-global.global-index _
     c.global-item.result c.loop-global.least c.input_too_small.result c.loop-global-test.true c.global-item.is
     c.loop-global.invariant c.input_too_small.ensures)
 
 pub returns : goal.returns
 returns c =
-    whole_of_cause InputRangeTooSmall (λ x place. IsInputTooSmallIn (types_in c.args.lower.now c.args.types.now)
+    whole_of_cause c.args.after InputRangeTooSmall (λ x place. IsInputTooSmallIn
+    (types_in c.args.lower.now c.args.types.now)
     place x) c.args.globals.now c.loop-global.global-index c.loop-global.least
     c.loop-global-test.false c.loop-global.invariant

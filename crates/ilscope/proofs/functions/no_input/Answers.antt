@@ -27,7 +27,7 @@ returns c =
     let at_name : c.name.result.from ≡ f.function.name.from =
     ap (λ (n : Name). n.from) (c.name.ensures ∙ ap (λ (g : WrittenFunction). g.name) c.function.ensures.value)
     in
-    found_same BadDeclaration (λ place. IsTrue c.is_empty.result × (place ≡ c.name.result.from))
+    found_same c.args.after BadDeclaration (λ place. IsTrue c.is_empty.result × (place ≡ c.name.result.from))
     (λ place. HasNoInput place f) c.found_where.result
     (λ place. (
       (λ h. (none_there f.inputs c.is_empty.result is h.0, h.1 ∙ at_name)),

@@ -5,5 +5,5 @@ use Rattle.ilscope.proofs.numbers.element_given_twice.Goals as goal
 
 pub returns : goal.returns
 returns c =
-    moved_twice c.args.lower.now c.args.lower.now c.deref.result.now (map name_of c.args.elements.now)
+    moved_twice c.args.after c.args.lower.now c.args.lower.now c.deref.result.now (map name_of c.args.elements.now)
     c.in_ok-twice.twice refl (c.deref.ensures.value ∙ c.in_ok-names.ensures) c.in_ok-twice.ensures.twice

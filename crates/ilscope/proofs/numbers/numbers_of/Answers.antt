@@ -3,7 +3,7 @@ use Rattle.std.specs.Prelude.{bytes_eq}
 use Rattle.std.proofs.lemmas.List.{take_all}
 use Rattle.ilsource.specs.Names.{text_of}
 use Rattle.ilsource.specs.declared.name.Name.{Name}
-use Rattle.ildeclared.specs.Faults.{IsLeastOf, OfCause}
+use Rattle.ildeclared.specs.Faults.{IsNextOf, OfCause}
 use Rattle.ildeclared.specs.declared.fault.NameCause.TheVariants.{Twice}
 use Rattle.ilscope.specs.Faults.{IsTwiceIn}
 use Rattle.ilscope.specs.Tables.{first_at}
@@ -24,7 +24,8 @@ loop-number-preserved c =
           c.in_ok-again.ensures.numbers c.loop-number.invariant.numbers;
       twice =
           rw c.lesser_of-least.ensures
-          (twice_more spelled c.args.names.now c.loop-number.number first c.loop-number-test.true c.loop-number.numbers
+          (twice_more spelled c.args.names.now c.loop-number.number first c.loop-number-test.true c.args.after
+          c.loop-number.numbers
           c.loop-number.least c.in_ok-again.again
           c.loop-number.invariant.numbers c.loop-number.invariant.twice c.in_ok-again.ensures.twice);
     }
@@ -37,5 +38,6 @@ returns-clause-numbers c key =
 
 pub returns-clause-twice : goal.returns-clause-twice
 returns-clause-twice c =
-    subst (λ (ns : List Name). IsLeastOf (OfCause Twice (IsTwiceIn (text_of c.args.lower.now) ns)) c.loop-number.least)
+    subst (λ (ns : List Name). IsNextOf c.args.after (OfCause Twice (IsTwiceIn (text_of c.args.lower.now) ns))
+    c.loop-number.least)
     (take_all c.loop-number.number c.args.names.now c.loop-number-test.false) c.loop-number.invariant.twice

@@ -2,7 +2,7 @@ use Rattle.std.proofs.Common.{◌≡◌, ℕ, List, map, take}
 use Rattle.std.specs.Prelude.{bytes_eq}
 use Rattle.std.specs.Map.{lookup}
 use Rattle.ilsource.specs.Names.{text_of}
-use Rattle.ildeclared.specs.Faults.{IsLeastOf, OfCause}
+use Rattle.ildeclared.specs.Faults.{IsNextOf, OfCause}
 use Rattle.ildeclared.specs.declared.fault.NameCause.TheVariants.{Twice}
 use Rattle.ilscope.specs.Faults.{IsTwiceIn}
 use Rattle.ilscope.specs.Tables.{first_at}
@@ -12,5 +12,5 @@ abbrev pub invariant-loop-number : goal.invariant-loop-number
 invariant-loop-number l = record {
   numbers : (key : List ℕ)
       → lookup (bytes_eq key) l.numbers ≡ first_at (bytes_eq key) (map (text_of l.lower) (take l.number l.names));
-  twice : IsLeastOf (OfCause Twice (IsTwiceIn (text_of l.lower) (take l.number l.names))) l.least;
+  twice : IsNextOf l.after (OfCause Twice (IsTwiceIn (text_of l.lower) (take l.number l.names))) l.least;
 }

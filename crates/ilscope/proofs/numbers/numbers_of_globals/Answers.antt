@@ -2,7 +2,7 @@ use Rattle.std.proofs.Common.{◌∙◌, List, subst}
 use Rattle.std.specs.Prelude.{IfOk}
 use Rattle.ilsource.specs.Names.{text_of}
 use Rattle.ilsource.specs.declared.name.Name.{Name}
-use Rattle.ildeclared.specs.Faults.{IsLeastOf, OfCause}
+use Rattle.ildeclared.specs.Faults.{IsNextOf, OfCause}
 use Rattle.ildeclared.specs.declared.fault.NameCause.TheVariants.{Twice}
 use Rattle.ilscope.specs.Faults.{IsTwiceIn}
 use Rattle.ilscope.proofs.numbers.numbers_of_globals.Goals as goal
@@ -10,5 +10,5 @@ use Rattle.ilscope.proofs.numbers.numbers_of_globals.Goals as goal
 pub returns-clause-twice : goal.returns-clause-twice
 returns-clause-twice c =
     let AreTwice = λ (names : List Name). IfOk c.numbers_of.result (λ r.
-    IsLeastOf (OfCause Twice (IsTwiceIn (text_of c.args.lower.now) names)) r.1) in
+    IsNextOf c.args.after (OfCause Twice (IsTwiceIn (text_of c.args.lower.now) names)) r.1) in
     subst AreTwice (c.deref.ensures.value ∙ c.in_ok-names.ensures) c.numbers_of.ensures.twice

@@ -9,7 +9,7 @@ use Rattle.ilscope.proofs.other_types.other_in.Goals as goal
 pub loop-external-preserved : goal.loop-external-preserved
 loop-external-preserved c =
     rw c.lesser_of-least.ensures
-    (item_of_cause BadDeclaration (λ (x : DeclaredExternal) place. AreOther x.value_type
+    (item_of_cause c.args.after BadDeclaration (λ (x : DeclaredExternal) place. AreOther x.value_type
     (option_and_then (λ number. unwrap_or (slice_get c.args.globals.now number) None)
     (kept_under c.args.lower.now c.args.numbers.now x.name)) × (place ≡ x.name.from)) c.args.externals.now
     c.loop-external.external-index _
@@ -18,7 +18,7 @@ loop-external-preserved c =
 
 pub returns : goal.returns
 returns c =
-    whole_of_cause BadDeclaration (λ (x : DeclaredExternal) place. AreOther x.value_type
+    whole_of_cause c.args.after BadDeclaration (λ (x : DeclaredExternal) place. AreOther x.value_type
     (option_and_then (λ number. unwrap_or (slice_get c.args.globals.now number) None)
     (kept_under c.args.lower.now c.args.numbers.now x.name)) × (place ≡ x.name.from)) c.args.externals.now
     c.loop-external.external-index c.loop-external.least

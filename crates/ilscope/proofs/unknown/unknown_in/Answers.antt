@@ -8,7 +8,7 @@ use Rattle.ilscope.proofs.unknown.unknown_in.Goals as goal
 pub loop-external-preserved : goal.loop-external-preserved
 loop-external-preserved c =
     rw c.lesser_of-least.ensures
-    (item_of_cause Unknown (λ (x : DeclaredExternal) place. IsUnknownName
+    (item_of_cause c.args.after Unknown (λ (x : DeclaredExternal) place. IsUnknownName
     (kept_under c.args.lower.now c.args.globals.now) place x.name) c.args.externals.now
     c.loop-external.external-index _
     c.external-item.result c.loop-external.least c.unknown_name.result c.loop-external-test.true c.external-item.is
@@ -16,7 +16,7 @@ loop-external-preserved c =
 
 pub returns : goal.returns
 returns c =
-    whole_of_cause Unknown (λ (x : DeclaredExternal) place. IsUnknownName
+    whole_of_cause c.args.after Unknown (λ (x : DeclaredExternal) place. IsUnknownName
     (kept_under c.args.lower.now c.args.globals.now) place x.name) c.args.externals.now
     c.loop-external.external-index c.loop-external.least
     c.loop-external-test.false c.loop-external.invariant

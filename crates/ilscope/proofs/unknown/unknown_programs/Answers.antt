@@ -8,7 +8,7 @@ use Rattle.ilscope.proofs.unknown.unknown_programs.Goals as goal
 pub loop-instance-preserved : goal.loop-instance-preserved
 loop-instance-preserved c =
     rw c.lesser_of-least.ensures
-    (more_of_cause Unknown (λ (x : InstanceDeclaration) place. IsUnknownName
+    (more_of_cause c.args.after Unknown (λ (x : InstanceDeclaration) place. IsUnknownName
     (kept_under c.args.lower.now c.args.programs.now) place x.program) c.args.instances.now
     c.loop-instance.instance-index _
     c.loop-instance.least c.unknown_name.result c.loop-instance-test.true c.loop-instance.invariant
@@ -16,7 +16,7 @@ loop-instance-preserved c =
 
 pub returns : goal.returns
 returns c =
-    whole_of_cause Unknown (λ (x : InstanceDeclaration) place. IsUnknownName
+    whole_of_cause c.args.after Unknown (λ (x : InstanceDeclaration) place. IsUnknownName
     (kept_under c.args.lower.now c.args.programs.now) place x.program) c.args.instances.now
     c.loop-instance.instance-index c.loop-instance.least
     c.loop-instance-test.false c.loop-instance.invariant

@@ -7,12 +7,14 @@ use Rattle.ilscope.proofs.unknown.unknown_tasks.Goals as goal
 pub loop-instance-preserved : goal.loop-instance-preserved
 loop-instance-preserved c =
     rw c.lesser_of-least.ensures
-    (more_of_cause Unknown (λ x place. IsUnknownTaskOf (kept_under c.args.lower.now c.args.tasks.now) place x)
+    (more_of_cause c.args.after Unknown (λ x place. IsUnknownTaskOf (kept_under c.args.lower.now c.args.tasks.now)
+    place x)
     c.args.instances.now c.loop-instance.instance-index _
     c.loop-instance.least c.unknown_of.result c.loop-instance-test.true c.loop-instance.invariant c.unknown_of.ensures)
 
 pub returns : goal.returns
 returns c =
-    whole_of_cause Unknown (λ x place. IsUnknownTaskOf (kept_under c.args.lower.now c.args.tasks.now) place x)
+    whole_of_cause c.args.after Unknown (λ x place. IsUnknownTaskOf (kept_under c.args.lower.now c.args.tasks.now)
+    place x)
     c.args.instances.now c.loop-instance.instance-index c.loop-instance.least
     c.loop-instance-test.false c.loop-instance.invariant

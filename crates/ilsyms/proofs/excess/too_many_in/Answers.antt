@@ -48,7 +48,7 @@ returns c =
     let slots = c.deref.ensures.value ∙ have.slots in
     let words = ap (λ (ws : List (List ℕ)). words_in ws given) c.requires.words ∙ words_same tree given in
     rw (c.lesser_of.ensures, c.lesser_of-declared.ensures, c.lesser_of-written.ensures)
-    (least_in_task tree is c.slot_past.result c.block_past.result c.all_words_past.result
+    (least_in_task tree is c.args.after c.slot_past.result c.block_past.result c.all_words_past.result
     c.args.task.now.counted.excess c.exceeding.result c.exceeding-2.result c.exceeding-3.result c.exceeding-4.result
     (c.slot_past.ensures
     ∙ (λ i. slice_get (map (λ s. place_of_slot tree s.variable) (slots i)

@@ -1,9 +1,9 @@
 use Rattle.std.proofs.Common.{◌≡◌, List, sym, ◌∙◌, subst, arith}
 use Rattle.std.proofs.lemmas.List.{take_all}
 use Rattle.std.proofs.lemmas.Option.{get_or_from_slice_get}
-use Rattle.ildeclared.specs.Faults.{IsLeastOf, OfCause, SomeOf}
+use Rattle.ildeclared.specs.Faults.{IsNextOf, OfCause, SomeOf}
 use Rattle.ildeclared.specs.declared.fault.NameCause.TheVariants.{TooMany}
-use Rattle.ildeclared.proofs.Least.{got_below, least_of_more, of_one_cause}
+use Rattle.ildeclared.proofs.Least.{got_below, next_of_more, of_one_cause}
 use Rattle.ilsyms.specs.Faults.{IsTooManyIn}
 use Rattle.ilsyms.specs.Tasks.{NamedProgram, SourceTask, tasks_of}
 use Rattle.ilsyms.proofs.PlanTasks.{the_task, they_are}
@@ -27,10 +27,12 @@ loop-task-preserved c =
     c.task-item.is in
     let found = the_task tree i given are in
     rw c.lesser_of-least.ensures
-    (least_of_more (λ (t : SourceTask). OfCause TooMany (λ at. IsTooManyIn tree at t.instances)) (tasks_of tree) i
+    (next_of_more c.args.after (λ (t : SourceTask). OfCause TooMany (λ at. IsTooManyIn tree at t.instances))
+    (tasks_of tree) i
     found.0 c.loop-task.least c.too_many_in.result (got_below (tasks_of tree) i found.0 found.1)
     (sym (get_or_from_slice_get (tasks_of tree) i found.0 found.0 found.1)) c.loop-task.invariant
-    (subst (λ (is : List NamedProgram). IsLeastOf (OfCause TooMany (λ at. IsTooManyIn tree at is)) c.too_many_in.result)
+    (subst (λ (is : List NamedProgram). IsNextOf c.args.after (OfCause TooMany (λ at. IsTooManyIn tree at is))
+    c.too_many_in.result)
     (they_are tree i given are found.0 found.1) c.too_many_in.ensures))
 
 pub returns : goal.returns
@@ -38,8 +40,8 @@ returns c =
     let tree = c.args.scope.now.tree in
     let many = as_many_parts tree c.args.tasks.now c.requires.tasks in
     let last = c.loop-task-test.false in
-    of_one_cause TooMany (λ (t : SourceTask) place. IsTooManyIn tree place t.instances) (tasks_of tree)
+    of_one_cause c.args.after TooMany (λ (t : SourceTask) place. IsTooManyIn tree place t.instances) (tasks_of tree)
     c.loop-task.least
-    (subst (λ (ts : List SourceTask). IsLeastOf (λ place cause. SomeOf
+    (subst (λ (ts : List SourceTask). IsNextOf c.args.after (λ place cause. SomeOf
     (λ t. OfCause TooMany (λ at. IsTooManyIn tree at t.instances) place cause) ts) c.loop-task.least)
     (take_all c.loop-task.task-index (tasks_of tree) (omega (arith, many, last))) c.loop-task.invariant)

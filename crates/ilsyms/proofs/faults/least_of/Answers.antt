@@ -1,3 +1,4 @@
+use Rattle.ildeclared.proofs.FoundOrder.{first_next}
 use Rattle.ildeclared.proofs.Least.{both_least}
 use Rattle.ilscope.specs.Faults.{IsFaultOfDeclarations}
 use Rattle.ilsyms.specs.Faults.{IsFaultOfUse}
@@ -8,4 +9,4 @@ returns c =
     let tree = c.args.scope.now.tree in
     rw c.lesser_of.ensures
     (both_least (IsFaultOfDeclarations tree c.args.scope.now.wiring) (IsFaultOfUse tree) c.least.result
-    c.in_ok-used.used c.least.ensures c.in_ok-used.ensures)
+    c.in_ok-used.used c.least.ensures (first_next (IsFaultOfUse tree) c.in_ok-used.used c.in_ok-used.ensures))

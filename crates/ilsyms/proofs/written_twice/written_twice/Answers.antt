@@ -2,7 +2,7 @@ use Rattle.std.proofs.Common.{◌≡◌, ◌<◌, List, get_or, length, sym, ap,
 use Rattle.std.specs.List.{enumerate_from}
 use Rattle.std.proofs.lemmas.List.{take_all}
 use Rattle.std.proofs.lemmas.List.FromFn.{length-enumerate_from}
-use Rattle.ildeclared.specs.Faults.{IsLeastOf, OfCause, SomeOf}
+use Rattle.ildeclared.specs.Faults.{IsNextOf, OfCause, SomeOf}
 use Rattle.ildeclared.specs.declared.fault.NameCause.TheVariants.{WrittenTwice}
 use Rattle.ildeclared.specs.declared.global.DeclaredGlobal.{DeclaredGlobal}
 use Rattle.ildeclared.proofs.Least.{of_one_cause}
@@ -25,7 +25,7 @@ loop-number-preserved c =
     let count = c.in_ok-sets.ensures.count in
     let there : c.loop-number.number < length c.in_ok-sets.sets.items = omega (arith, below, count) in
     rw c.lesser_of-least.ensures
-    (two_more tree tasks c.requires c.in_ok-sets.sets.items c.in_ok-sets.ensures.sets c.loop-number.number
+    (two_more tree tasks c.requires c.in_ok-sets.sets.items c.in_ok-sets.ensures.sets c.args.after c.loop-number.number
     c.global-item.result c.index.result.now c.loop-number.least c.fault_of_global.result below is
     (rw c.index.ensures
     (set_at (StoresBefore tree tasks (length (declared_programs tree))) c.in_ok-sets.sets.items c.in_ok-sets.sets.items
@@ -39,7 +39,8 @@ returns c =
     let many = length-enumerate_from 0 (globals_of tree) in
     let size = ap (λ (gs : List DeclaredGlobal). length gs) c.globals-global-items.ensures.value in
     let last = c.loop-number-test.false in
-    of_one_cause WrittenTwice (λ g place. AreTwoStoring tree g.0 × (place ≡ g.1.name.from)) numbered c.loop-number.least
-    (subst (λ gs. IsLeastOf (λ place cause. SomeOf (λ g. OfCause WrittenTwice
+    of_one_cause c.args.after WrittenTwice (λ g place. AreTwoStoring tree g.0 × (place ≡ g.1.name.from)) numbered
+    c.loop-number.least
+    (subst (λ gs. IsNextOf c.args.after (λ place cause. SomeOf (λ g. OfCause WrittenTwice
     (λ at. AreTwoStoring tree g.0 × (at ≡ g.1.name.from)) place cause) gs) c.loop-number.least)
     (take_all c.loop-number.number numbered (omega (arith, many, size, last))) c.loop-number.invariant)

@@ -4,9 +4,9 @@ use Rattle.ilsource.specs.declared.instruction.Line.{Line}
 use Rattle.ilsource.specs.Names.{folded}
 use Rattle.ilsource.specs.declared.name.Name.{Name}
 use Rattle.ilsource.specs.declared.symbol.Symbol.{Symbol}
-use Rattle.ildeclared.specs.Faults.{IsLeastOf, OfCause, SomeOf}
+use Rattle.ildeclared.specs.Faults.{IsNextOf, OfCause, SomeOf}
 use Rattle.ildeclared.specs.declared.fault.NameCause.TheVariants.{Twice}
-use Rattle.ildeclared.proofs.Least.{least_of_more, of_one_cause}
+use Rattle.ildeclared.proofs.Least.{next_of_more, of_one_cause}
 use Rattle.ilscope.specs.Faults.{IsTwiceIn}
 use Rattle.iluses.specs.Faults.{ports_given}
 use Rattle.iluses.proofs.arguments.given_twice.Goals as goal
@@ -15,17 +15,18 @@ pub loop-line-preserved : goal.loop-line-preserved
 loop-line-preserved c =
     let text = c.args.scope.now.tree.text in
     rw c.lesser_of-least.ensures
-    (least_of_more (λ (line : Line Symbol Name). OfCause Twice (IsTwiceIn (folded text) (ports_given line.instruction)))
+    (next_of_more c.args.after (λ (line : Line Symbol Name). OfCause Twice
+    (IsTwiceIn (folded text) (ports_given line.instruction)))
     c.args.lines.now c.loop-line.line-index c.line-item.result c.loop-line.least c.in_ok-again.again
     c.loop-line-test.true c.line-item.is c.loop-line.invariant c.in_ok-again.ensures)
 
 pub returns : goal.returns
 returns c =
     let text = c.args.scope.now.tree.text in
-    of_one_cause Twice
+    of_one_cause c.args.after Twice
     (λ (line : Line Symbol Name) place. IsTwiceIn (folded text) (ports_given line.instruction) place) c.args.lines.now
     c.loop-line.least
-    (subst (λ (ls : List (Line Symbol Name)). IsLeastOf
+    (subst (λ (ls : List (Line Symbol Name)). IsNextOf c.args.after
     (λ place cause. SomeOf
     (λ line. OfCause Twice (IsTwiceIn (folded text) (ports_given line.instruction)) place cause) ls) c.loop-line.least)
     (take_all c.loop-line.line-index c.args.lines.now c.loop-line-test.false) c.loop-line.invariant)

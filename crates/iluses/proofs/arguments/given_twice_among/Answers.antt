@@ -3,7 +3,7 @@ use Rattle.std.proofs.lemmas.List.{take_all}
 use Rattle.ilsource.specs.declared.arguments.Argument.{Argument}
 use Rattle.ilsource.specs.Names.{folded}
 use Rattle.ilsource.specs.declared.symbol.Symbol.{Symbol}
-use Rattle.ildeclared.specs.Faults.{IsLeastOf, OfCause}
+use Rattle.ildeclared.specs.Faults.{IsNextOf, OfCause}
 use Rattle.ildeclared.specs.declared.fault.NameCause.TheVariants.{Twice}
 use Rattle.ilscope.specs.Faults.{IsTwiceIn}
 use Rattle.iluses.proofs.ArgumentPorts.{given, given_more, given_twice_more}
@@ -20,12 +20,12 @@ loop-number-preserved c =
       twice =
           rw c.lesser_of-least.ensures
           (given_twice_more text c.args.arguments.now c.loop-number.number _ c.loop-number-test.true
-          c.port_in.result c.port_in.ensures c.loop-number.given c.loop-number.least
+          c.port_in.result c.port_in.ensures c.args.after c.loop-number.given c.loop-number.least
           c.in_ok-again.again c.loop-number.invariant.known c.loop-number.invariant.twice c.in_ok-again.ensures.twice);
     }
 
 pub returns : goal.returns
 returns c =
-    subst (λ (xs : List (Argument Symbol)). IsLeastOf
+    subst (λ (xs : List (Argument Symbol)). IsNextOf c.args.after
     (OfCause Twice (IsTwiceIn (folded c.args.scope.now.tree.text) (given xs))) c.loop-number.least)
     (take_all c.loop-number.number c.args.arguments.now c.loop-number-test.false) c.loop-number.invariant.twice

@@ -1,6 +1,6 @@
 use Rattle.std.proofs.Common.{take}
 use Rattle.ilsource.specs.Names.{folded}
-use Rattle.ildeclared.specs.Faults.{IsLeastOf, OfCause}
+use Rattle.ildeclared.specs.Faults.{IsNextOf, OfCause}
 use Rattle.ildeclared.specs.declared.fault.NameCause.TheVariants.{Twice}
 use Rattle.ilscope.specs.Faults.{IsTwiceIn}
 use Rattle.iluses.proofs.ArgumentPorts.{given, AreKnown}
@@ -9,6 +9,6 @@ use Rattle.iluses.proofs.arguments.given_twice_among.Given as goal
 abbrev pub invariant-loop-number : goal.invariant-loop-number
 invariant-loop-number l = record {
   known : AreKnown l.fn.scope.tree.text (given (take l.number l.fn.arguments)) l.given;
-  twice : IsLeastOf
+  twice : IsNextOf l.fn.after
       (OfCause Twice (IsTwiceIn (folded l.fn.scope.tree.text) (given (take l.number l.fn.arguments)))) l.least;
 }

@@ -4,7 +4,7 @@ use Rattle.ilsource.specs.declared.instruction.Line.{Line}
 use Rattle.ilsource.specs.Names.{folded}
 use Rattle.ilsource.specs.declared.name.Name.{Name}
 use Rattle.ilsource.specs.declared.symbol.Symbol.{Symbol}
-use Rattle.ildeclared.specs.Faults.{IsLeastOf, OfCause}
+use Rattle.ildeclared.specs.Faults.{IsNextOf, OfCause}
 use Rattle.ildeclared.specs.declared.fault.NameCause.TheVariants.{Twice}
 use Rattle.ilscope.specs.Faults.{IsTwiceIn}
 use Rattle.iluses.specs.Faults.{labels_of}
@@ -24,7 +24,7 @@ loop-number-preserved c =
           rw c.lesser_of-least.ensures
           (labels_twice_more text c.args.lines.now c.loop-number.number c.index-lines-number.result
           c.loop-number-test.true
-          c.index-lines-number.is c.loop-number.numbers c.loop-number.least c.in_ok-again.again
+          c.index-lines-number.is c.args.after c.loop-number.numbers c.loop-number.least c.in_ok-again.again
           c.loop-number.invariant.numbers
           c.loop-number.invariant.twice c.in_ok-again.ensures.twice);
     }
@@ -36,6 +36,6 @@ returns-clause-numbers c =
 
 pub returns-clause-twice : goal.returns-clause-twice
 returns-clause-twice c =
-    subst (λ (ls : List (Line Symbol Name)). IsLeastOf
+    subst (λ (ls : List (Line Symbol Name)). IsNextOf c.args.after
     (OfCause Twice (IsTwiceIn (folded c.args.scope.now.tree.text) (labels_of ls))) c.loop-number.least)
     (take_all c.loop-number.number c.args.lines.now c.loop-number-test.false) c.loop-number.invariant.twice

@@ -1,6 +1,6 @@
 use Rattle.std.proofs.Common.{take}
 use Rattle.ilsource.specs.Names.{folded}
-use Rattle.ildeclared.specs.Faults.{IsLeastOf, OfCause}
+use Rattle.ildeclared.specs.Faults.{IsNextOf, OfCause}
 use Rattle.ildeclared.specs.declared.fault.NameCause.TheVariants.{Twice}
 use Rattle.ilscope.specs.Faults.{IsTwiceIn}
 use Rattle.iluses.specs.Faults.{labels_of}
@@ -10,6 +10,6 @@ use Rattle.iluses.proofs.labels.number_labels.Given as goal
 abbrev pub invariant-loop-number : goal.invariant-loop-number
 invariant-loop-number l = record {
   numbers : AreNumbered l.fn.scope.tree.text (take l.number l.fn.lines) l.numbers;
-  twice : IsLeastOf
+  twice : IsNextOf l.fn.after
       (OfCause Twice (IsTwiceIn (folded l.fn.scope.tree.text) (labels_of (take l.number l.fn.lines)))) l.least;
 }

@@ -2,8 +2,8 @@ use Rattle.std.proofs.Common.{◌≡◌, ◌<◌, List, length, get_or, ap, sym,
 use Rattle.std.proofs.lemmas.List.{take_all}
 use Rattle.std.specs.Prelude.{option_map}
 use Rattle.ilsource.specs.Programs.{WrittenFunction}
-use Rattle.ildeclared.specs.Faults.{IsLeastOf, SomeOf}
-use Rattle.ildeclared.proofs.Least.{got_at, least_of_more}
+use Rattle.ildeclared.specs.Faults.{IsNextOf, SomeOf}
+use Rattle.ildeclared.proofs.Least.{got_at, next_of_more}
 use Rattle.ilscope.specs.Declarations.{as_program, declared_functions, DeclaredFunction}
 use Rattle.iluses.specs.Faults.{IsFaultOfBody}
 use Rattle.iluses.proofs.lines.fault_in_functions.Goals as goal
@@ -16,7 +16,8 @@ loop-number-preserved c =
     let below : c.loop-number.number < length functions = rw (sym listed) c.loop-number-test.true in
     let found : c.function-item.result ≡ get_or functions c.loop-number.number _ = rw (sym listed) c.function-item.is in
     rw c.lesser_of-least.ensures
-    (least_of_more (λ (f : DeclaredFunction). IsFaultOfBody tree (as_program f)) functions c.loop-number.number
+    (next_of_more c.args.after (λ (f : DeclaredFunction). IsFaultOfBody tree (as_program f)) functions
+    c.loop-number.number
     c.function-item.result c.loop-number.least c.in_ok-fault.fault below found c.loop-number.invariant
     (c.in_ok-fault.ensures (as_program c.function-item.result)
     (ap (λ o. option_map as_program o)
@@ -26,7 +27,7 @@ loop-number-preserved c =
 pub returns : goal.returns
 returns c =
     let tree = c.args.scope.now.tree in
-    subst (λ (fs : List DeclaredFunction). IsLeastOf
+    subst (λ (fs : List DeclaredFunction). IsNextOf c.args.after
     (λ place cause. SomeOf (λ f. IsFaultOfBody tree (as_program f) place cause) fs) c.loop-number.least)
     (take_all c.loop-number.number (declared_functions tree)
     (rw (sym c.functions-function-items.ensures.value) c.loop-number-test.false))

@@ -1,6 +1,6 @@
 use Rattle.ildeclared.specs.Faults.{OfCause}
 use Rattle.ildeclared.specs.declared.fault.NameCause.TheVariants.{Twice}
-use Rattle.ildeclared.proofs.Least.{both_least}
+use Rattle.ildeclared.proofs.Least.{both_next}
 use Rattle.iluses.specs.Faults.{IsFaultOfLabels, IsGivenTwiceIn}
 use Rattle.iluses.proofs.lines.fault_in_lines.Goals as goal
 
@@ -8,5 +8,6 @@ pub returns : goal.returns
 returns c =
     let text = c.args.scope.now.tree.text in
     rw c.lesser_of.ensures
-    (both_least (IsFaultOfLabels text c.args.lines.now) (OfCause Twice (IsGivenTwiceIn text c.args.lines.now))
+    (both_next c.args.after (IsFaultOfLabels text c.args.lines.now)
+    (OfCause Twice (IsGivenTwiceIn text c.args.lines.now))
     c.in_ok-labels.labels c.in_ok-ports.ports c.in_ok-labels.ensures c.in_ok-ports.ensures)

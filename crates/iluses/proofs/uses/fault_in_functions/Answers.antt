@@ -4,8 +4,8 @@ use Rattle.ilsource.specs.Programs.{WrittenFunction}
 use Rattle.ilsource.specs.declared.instruction.Line.{Line}
 use Rattle.ilsource.specs.declared.name.Name.{Name}
 use Rattle.ilsource.specs.declared.symbol.Symbol.{Symbol}
-use Rattle.ildeclared.specs.Faults.{IsLeastOf, SomeOf}
-use Rattle.ildeclared.proofs.Least.{got_at, least_of_more}
+use Rattle.ildeclared.specs.Faults.{IsNextOf, SomeOf}
+use Rattle.ildeclared.proofs.Least.{got_at, next_of_more}
 use Rattle.ilscope.specs.Declarations.{declared_functions, DeclaredFunction}
 use Rattle.iluses.specs.Faults.{IsFaultInFunction}
 use Rattle.iluses.specs.Uses.{uses_of}
@@ -25,7 +25,7 @@ loop-number-preserved c =
     (c.lines.ensures.value ∙ ap (λ (w : WrittenFunction). w.lines) c.function.ensures.value)
     in
     rw c.lesser_of-least.ensures
-    (least_of_more (λ (f : DeclaredFunction). IsFaultInFunction tree f) functions c.loop-number.number
+    (next_of_more c.args.after (λ (f : DeclaredFunction). IsFaultInFunction tree f) functions c.loop-number.number
     c.function-item.result c.loop-number.least c.fault_in_function-fault.result below found c.loop-number.invariant
     (c.fault_in_function-fault.ensures c.function-item.result
     (got_at functions c.loop-number.number c.function-item.result below found) used))
@@ -33,7 +33,7 @@ loop-number-preserved c =
 pub returns : goal.returns
 returns c =
     let tree = c.args.scope.now.tree in
-    subst (λ (fs : List DeclaredFunction). IsLeastOf
+    subst (λ (fs : List DeclaredFunction). IsNextOf c.args.after
     (λ place cause. SomeOf (λ f. IsFaultInFunction tree f place cause) fs) c.loop-number.least)
     (take_all c.loop-number.number (declared_functions tree)
     (rw (sym c.functions-function-items.ensures.value) c.loop-number-test.false))

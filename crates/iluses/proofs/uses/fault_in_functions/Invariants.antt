@@ -1,12 +1,12 @@
 use Rattle.std.proofs.Common.{take}
-use Rattle.ildeclared.specs.Faults.{IsLeastOf, SomeOf}
+use Rattle.ildeclared.specs.Faults.{IsNextOf, SomeOf}
 use Rattle.ilscope.specs.Declarations.{declared_functions}
 use Rattle.iluses.specs.Faults.{IsFaultInFunction}
 use Rattle.iluses.proofs.uses.fault_in_functions.Given as goal
 
 abbrev pub invariant-loop-number : goal.invariant-loop-number
 invariant-loop-number l =
-    IsLeastOf
+    IsNextOf l.fn.after
     (λ place cause.
     SomeOf (λ f. IsFaultInFunction l.fn.scope.tree f place cause)
     (take l.number (declared_functions l.fn.scope.tree)))

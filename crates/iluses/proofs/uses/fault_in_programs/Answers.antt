@@ -5,8 +5,8 @@ use Rattle.ilsource.specs.declared.symbol.Symbol.{Symbol}
 use Rattle.ilsource.specs.Programs.{Written}
 use Rattle.ilsource.specs.declared.instruction.Line.{Line}
 use Rattle.ilsource.specs.declared.name.Name.{Name}
-use Rattle.ildeclared.specs.Faults.{IsLeastOf, SomeOf}
-use Rattle.ildeclared.proofs.Least.{got_at, least_of_more}
+use Rattle.ildeclared.specs.Faults.{IsNextOf, SomeOf}
+use Rattle.ildeclared.proofs.Least.{got_at, next_of_more}
 use Rattle.ilscope.specs.Declarations.{declared_programs, DeclaredProgram}
 use Rattle.iluses.specs.Faults.{IsFaultAtUses}
 use Rattle.iluses.specs.Uses.{uses_of}
@@ -26,10 +26,11 @@ loop-number-preserved c =
     (c.lines.ensures.value ∙ ap (λ (w : Written). w.lines) c.program.ensures.value)
     in
     rw c.lesser_of-least.ensures
-    (least_of_more (λ (p : DeclaredProgram). IsFaultAtUses tree p (uses_of p.program.lines))
+    (next_of_more c.args.after (λ (p : DeclaredProgram). IsFaultAtUses tree p (uses_of p.program.lines))
     programs c.loop-number.number c.program-item.result c.loop-number.least c.fault_in_uses.result below found
     c.loop-number.invariant
-    (subst (λ (us : List (Use Symbol)). IsLeastOf (IsFaultAtUses tree c.program-item.result us) c.fault_in_uses.result)
+    (subst (λ (us : List (Use Symbol)). IsNextOf c.args.after (IsFaultAtUses tree c.program-item.result us)
+    c.fault_in_uses.result)
     used
     (c.fault_in_uses.ensures c.program-item.result
     (got_at programs c.loop-number.number c.program-item.result below found))))
@@ -38,7 +39,7 @@ pub returns : goal.returns
 returns c =
     let tree = c.args.scope.now.tree in
     let programs = declared_programs c.args.scope.now.tree in
-    subst (λ (ps : List DeclaredProgram). IsLeastOf
+    subst (λ (ps : List DeclaredProgram). IsNextOf c.args.after
     (λ place cause. SomeOf (λ p. IsFaultAtUses tree p (uses_of p.program.lines) place cause) ps)
     c.loop-number.least)
     (take_all c.loop-number.number programs

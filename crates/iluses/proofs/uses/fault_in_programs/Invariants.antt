@@ -1,5 +1,5 @@
 use Rattle.std.proofs.Common.{take}
-use Rattle.ildeclared.specs.Faults.{IsLeastOf, SomeOf}
+use Rattle.ildeclared.specs.Faults.{IsNextOf, SomeOf}
 use Rattle.ilscope.specs.Declarations.{declared_programs}
 use Rattle.iluses.specs.Faults.{IsFaultAtUses}
 use Rattle.iluses.specs.Uses.{uses_of}
@@ -7,7 +7,7 @@ use Rattle.iluses.proofs.uses.fault_in_programs.Given as goal
 
 abbrev pub invariant-loop-number : goal.invariant-loop-number
 invariant-loop-number l =
-    IsLeastOf
+    IsNextOf l.fn.after
     (λ place cause.
     SomeOf (λ p. IsFaultAtUses l.fn.scope.tree p (uses_of p.program.lines) place cause)
     (take l.number (declared_programs l.fn.scope.tree)))

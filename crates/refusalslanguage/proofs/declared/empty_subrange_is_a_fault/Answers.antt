@@ -9,6 +9,7 @@ use Rattle.ildeclared.specs.Faults.{IsFaultIn, IsLeast, IsNotAfter}
 use Rattle.ildeclared.specs.Kept.{types_in}
 use Rattle.ildeclared.specs.declared.fault.NameCause.{NameCause}
 use Rattle.ildeclared.specs.declared.fault.NameCause.TheVariants.{BadDeclaration}
+use Rattle.ildeclared.proofs.FoundOrder.{first_next}
 use Rattle.ilscope.proofs.OneFault.{one_least}
 use Rattle.refusalslanguage.proofs.declared.empty_subrange_is_a_fault.Goals as goal
 
@@ -32,4 +33,5 @@ returns c =
     let types = types_in c.args.lower.now c.args.types.now in
     let name = c.args.name in
     one_least (IsFaultIn types (from_9_to_3 name)) c.fault_of.result
-    (Some (record { at = name.from; cause = BadDeclaration })) c.fault_of.ensures (empty types name)
+    (Some (record { at = name.from; cause = BadDeclaration }))
+    (first_next (IsFaultIn types (from_9_to_3 name)) c.fault_of.result c.fault_of.ensures) (empty types name)

@@ -1,8 +1,9 @@
-use Rattle.std.proofs.Common.{◌≡◌, ℕ, Some}
+use Rattle.std.proofs.Common.{◌≡◌, ℕ, None, Some}
 use Rattle.ildeclared.specs.declared.fault.NameCause.{NameCause}
 use Rattle.ildeclared.specs.declared.fault.NameCause.TheVariants.{BackwardJump}
 use Rattle.ildeclared.specs.declared.found.Found.{Found}
-use Rattle.ildeclared.specs.Faults.{IsLeastOf, SomeOf}
+use Rattle.ildeclared.specs.Faults.{IsNextOf, SomeOf}
+use Rattle.ildeclared.proofs.FoundOrder.{first_next}
 use Rattle.ilscope.proofs.OneFault.{one_least}
 use Rattle.ilscope.specs.Declarations.{bodies_of}
 use Rattle.iluses.specs.Faults.{IsFaultOfBody}
@@ -14,5 +15,5 @@ returns c =
     let tree = c.args.scope.now.tree in
     let faults : ℕ → NameCause → Type 0 = λ at cause. SomeOf (λ p. IsFaultOfBody tree p at cause) (bodies_of tree) in
     let fault : Found = record { at = c.args.place; cause = BackwardJump } in
-    if_ok (IsLeastOf faults) (λ found. found ≡ Some fault) c.fault_of_lines.result c.fault_of_lines.ensures
-    (λ found least. one_least faults found (Some fault) least c.requires)
+    if_ok (IsNextOf None faults) (λ found. found ≡ Some fault) c.fault_of_lines.result c.fault_of_lines.ensures
+    (λ found next. one_least faults found (Some fault) (first_next faults found next) c.requires)

@@ -1,8 +1,9 @@
-use Rattle.std.proofs.Common.{◌≡◌, ℕ, Some}
+use Rattle.std.proofs.Common.{◌≡◌, ℕ, None, Some}
 use Rattle.ildeclared.specs.declared.fault.NameCause.{NameCause}
 use Rattle.ildeclared.specs.declared.fault.NameCause.TheVariants.{WritesInput}
 use Rattle.ildeclared.specs.declared.found.Found.{Found}
-use Rattle.ildeclared.specs.Faults.{IsLeastOf}
+use Rattle.ildeclared.specs.Faults.{IsNextOf}
+use Rattle.ildeclared.proofs.FoundOrder.{first_next}
 use Rattle.ilscope.proofs.OneFault.{one_least}
 use Rattle.iluses.specs.Faults.{IsFaultOfUses}
 use Rattle.refusalslanguage.proofs.Results.{if_ok}
@@ -12,5 +13,5 @@ pub returns : goal.returns
 returns c =
     let faults : ℕ → NameCause → Type 0 = IsFaultOfUses c.args.scope.now.tree in
     let fault : Found = record { at = c.args.place; cause = WritesInput } in
-    if_ok (IsLeastOf faults) (λ found. found ≡ Some fault) c.fault_at_uses.result c.fault_at_uses.ensures
-    (λ found least. one_least faults found (Some fault) least c.requires)
+    if_ok (IsNextOf None faults) (λ found. found ≡ Some fault) c.fault_at_uses.result c.fault_at_uses.ensures
+    (λ found next. one_least faults found (Some fault) (first_next faults found next) c.requires)

@@ -19,7 +19,7 @@ returns c front h =
       c.in_ok-push.ensures.items,
       c.in_ok-push-2.ensures.items,
     )
-    (function_added c.args.lower.now front old.types old.programs.items old.variable_numbers.items
+    (function_added c.args.after c.args.lower.now front old.types old.programs.items old.variable_numbers.items
     old.block_numbers.items old.external_numbers.items old.functions.items old.own_numbers.items old.least its.twice
     c.fault_of_function-fault.result c.args.function.now its.scope its.own_numbers h
     (says.scope ∙ ap (λ (n : ℕ). with_inputs types_above n c.args.function.now) many) says.own

@@ -1,6 +1,6 @@
 use Rattle.std.proofs.Common.{◌≡◌, ℕ, List, ap, arith, length, subst, ◌∙◌}
 use Rattle.ilsource.specs.Programs.{DeclaredNames}
-use Rattle.ildeclared.specs.Faults.{IsLeastOf, SomeOf, IsFaultIn}
+use Rattle.ildeclared.specs.Faults.{IsNextOf, SomeOf, IsFaultIn}
 use Rattle.ildeclared.specs.Kept.{types_in}
 use Rattle.ilscope.specs.Declarations.{with_declared}
 use Rattle.ilscope.proofs.OneMore.{program_added}
@@ -24,12 +24,12 @@ returns c front h =
       c.in_ok-add_numbers.ensures.blocks,
       c.in_ok-add_numbers.ensures.externals,
     )
-    (program_added c.args.lower.now front old.types old.programs.items old.variable_numbers.items
+    (program_added c.args.after c.args.lower.now front old.types old.programs.items old.variable_numbers.items
     old.block_numbers.items old.external_numbers.items old.functions.items old.own_numbers.items old.least its.twice
     fault c.args.program.now its.scope
     its.variable_numbers its.block_numbers its.external_numbers h
     (says.scope ∙ ap (λ (n : ℕ). with_declared types_above n c.args.program.now) many)
     says.variables says.blocks says.externals says.twice
-    (subst (λ (ds : List DeclaredNames). IsLeastOf
+    (subst (λ (ds : List DeclaredNames). IsNextOf c.args.after
     (λ place cause. SomeOf (λ d. IsFaultIn types_above d place cause) ds) fault) c.declarations.ensures
     c.fault_of_all-fault.ensures))

@@ -9,7 +9,8 @@ loop-element-preserved c =
     let elements = c.args.elements.now in
     let new = c.add.new.self in
     subst
-    (λ (es : List Element). IsGathered c.args.lower.now es new.types new.programs.items new.variable_numbers.items
+    (λ (es : List Element). IsGathered c.args.after c.args.lower.now es new.types new.programs.items
+    new.variable_numbers.items
     new.block_numbers.items new.external_numbers.items new.functions.items new.own_numbers.items new.least)
     (sym (take_more elements c.loop-element.element-index c.element-item.result c.loop-element-test.true
     c.element-item.is))

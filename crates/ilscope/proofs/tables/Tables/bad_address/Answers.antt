@@ -4,11 +4,11 @@ use Rattle.ilsource.specs.SourceTrees.{Tree}
 use Rattle.ilsource.specs.declared.address.DirectAddress.{DirectAddress}
 use Rattle.ilsource.specs.declared.configuration.TaskDeclaration.{TaskDeclaration}
 use Rattle.ilsource.specs.declared.name.Name.{Name}
-use Rattle.ildeclared.specs.Faults.{IsBadAddressAt, IsLeastOf, OfCause, SomeOf}
+use Rattle.ildeclared.specs.Faults.{IsBadAddressAt, IsNextOf, OfCause, SomeOf}
 use Rattle.ildeclared.specs.Kept.{kept_under}
 use Rattle.ildeclared.specs.declared.fault.NameCause.TheVariants.{BadAddress}
 use Rattle.ildeclared.specs.declared.global.DeclaredGlobal.{DeclaredGlobal}
-use Rattle.ildeclared.proofs.Least.{either_least}
+use Rattle.ildeclared.proofs.Least.{either_next}
 use Rattle.ilscope.specs.Configured.{global_named, global_number, globals_of, task_declarations}
 use Rattle.ilscope.specs.Faults.{IsBadAddress, IsNoTrigger, IsNoTriggerOf}
 use Rattle.ilscope.proofs.LookedUp.{moved, names_are}
@@ -35,18 +35,19 @@ returns c =
     ∙ ap (λ (gs : List DeclaredGlobal). named_by (global_number tree) gs)
     (c.as_slice-3.ensures.value ∙ c.self.invariant.global_variables)
     in
-    let addresses : IsLeastOf (OfCause BadAddress (IsBadAddress c.args.self.now wiring)) address =
-    subst (λ (all : List DirectAddress). IsLeastOf
+    let addresses : IsNextOf c.args.after (OfCause BadAddress (IsBadAddress c.args.self.now wiring)) address =
+    subst (λ (all : List DirectAddress). IsNextOf c.args.after
     (OfCause BadAddress (λ place. SomeOf (IsBadAddressAt wiring place) all))
     address) (c.as_slice.ensures.value ∙ c.in_ok-addresses.ensures) c.bad_addresses-address.ensures
     in
-    let triggers : IsLeastOf (OfCause BadAddress (IsNoTrigger tree)) trigger =
+    let triggers : IsNextOf c.args.after (OfCause BadAddress (IsNoTrigger tree)) trigger =
     moved (λ (n : Name → Option DeclaredGlobal) (ts : List TaskDeclaration).
-    IsLeastOf (OfCause BadAddress (λ place. SomeOf (IsNoTriggerOf n place) ts)) trigger)
+    IsNextOf c.args.after (OfCause BadAddress (λ place. SomeOf (IsNoTriggerOf n place) ts)) trigger)
     (named_by (kept_under lower inside.global_numbers) c.as_slice-3.result.now) (global_named tree)
     c.tasks_of.result.now (task_declarations tree) named c.tasks_of.ensures c.no_triggers-trigger.ensures
     in
     rw c.lesser_of.ensures
-    (either_least BadAddress (IsBadAddress c.args.self.now wiring) (IsNoTrigger c.args.self.now) address trigger
+    (either_next c.args.after BadAddress (IsBadAddress c.args.self.now wiring) (IsNoTrigger c.args.self.now) address
+    trigger
     addresses
-    (subst (λ (t : Tree). IsLeastOf (OfCause BadAddress (IsNoTrigger t)) trigger) c.self.view_is triggers))
+    (subst (λ (t : Tree). IsNextOf c.args.after (OfCause BadAddress (IsNoTrigger t)) trigger) c.self.view_is triggers))

@@ -6,12 +6,12 @@ use Rattle.ilsource.specs.SourceTrees.{Tree}
 use Rattle.ilsource.specs.declared.configuration.TaskDeclaration.{TaskDeclaration}
 use Rattle.ilsource.specs.declared.name.Name.{Name}
 use Rattle.ildeclared.specs.DataTypes.{TypeNames}
-use Rattle.ildeclared.specs.Faults.{IsBadlyLocatedIn, IsLeastOf, OfCause, SomeOf}
+use Rattle.ildeclared.specs.Faults.{IsBadlyLocatedIn, IsNextOf, OfCause, SomeOf}
 use Rattle.ildeclared.specs.Kept.{kept_under, types_in}
 use Rattle.ildeclared.specs.Order.{lesser_of_two}
 use Rattle.ildeclared.specs.declared.fault.NameCause.TheVariants.{BadDeclaration}
 use Rattle.ildeclared.specs.declared.global.DeclaredGlobal.{DeclaredGlobal}
-use Rattle.ildeclared.proofs.Least.{either_least}
+use Rattle.ildeclared.proofs.Least.{either_next}
 use Rattle.ilscope.specs.Configured.{declared_globals_of, global_number, globals_of, task_declarations, types_of_text}
 use Rattle.ilscope.specs.Configured.{values_of_global}
 use Rattle.ilscope.specs.Declarations.{DeclaredFunction, DeclaredProgram, declared_functions, declared_programs}
@@ -45,37 +45,40 @@ returns c =
     let types : types_in lower inside.types ≡ types_of_text tree =
     ap (λ (l : List ℕ). types_in l inside.types) c.as_slice-lower.ensures.value ∙ c.self.invariant.meant
     in
-    let externals : IsLeastOf (OfCause BadDeclaration (IsOtherExternal tree)) external =
+    let externals : IsNextOf c.args.after (OfCause BadDeclaration (IsOtherExternal tree)) external =
     moved (λ (v : Name → Option IlType) (ps : List DeclaredProgram).
-    IsLeastOf (OfCause BadDeclaration (λ place. SomeOf (IsOtherExternalIn v place) ps)) external)
+    IsNextOf c.args.after (OfCause BadDeclaration (λ place. SomeOf (IsOtherExternalIn v place) ps)) external)
     (values_by (kept_under lower inside.global_numbers) c.as_slice.result.now) (values_of_global tree)
     c.as_slice-2.result.now (declared_programs tree) values
     (c.as_slice-2.ensures.value ∙ c.self.invariant.declared) c.other_externals-external.ensures
     in
-    let of_located : IsLeastOf (OfCause BadDeclaration (IsBadlyLocated tree)) located =
+    let of_located : IsNextOf c.args.after (OfCause BadDeclaration (IsBadlyLocated tree)) located =
     moved (λ (t : TypeNames) (ds : List DeclaredGlobals).
-    IsLeastOf (OfCause BadDeclaration (λ place. SomeOf (IsBadlyLocatedIn t place) ds)) located)
+    IsNextOf c.args.after (OfCause BadDeclaration (λ place. SomeOf (IsBadlyLocatedIn t place) ds)) located)
     (types_in lower inside.types) (types_of_text tree) c.declared_globals.result.now (declared_globals_of tree) types
     c.declared_globals.ensures c.badly_located-located.ensures
     in
     let tasks =
-    subst (λ (ts : List TaskDeclaration). IsLeastOf (OfCause BadDeclaration (λ place. SomeOf (IsBadTaskAt place) ts))
+    subst (λ (ts : List TaskDeclaration). IsNextOf c.args.after
+    (OfCause BadDeclaration (λ place. SomeOf (IsBadTaskAt place) ts))
     task) c.tasks_of.ensures c.bad_tasks-task.ensures
     in
-    let functions : IsLeastOf (OfCause BadDeclaration (λ place. SomeOf (IsBadFunction place) (declared_functions tree)))
+    let functions : IsNextOf c.args.after (OfCause BadDeclaration
+    (λ place. SomeOf (IsBadFunction place) (declared_functions tree)))
     function =
-    subst (λ (fs : List DeclaredFunction). IsLeastOf (OfCause BadDeclaration (λ place. SomeOf (IsBadFunction place) fs))
+    subst (λ (fs : List DeclaredFunction). IsNextOf c.args.after
+    (OfCause BadDeclaration (λ place. SomeOf (IsBadFunction place) fs))
     function) (c.as_slice-3.ensures.value ∙ c.self.invariant.functions_declared) c.bad_functions-function.ensures
     in
     rw (c.lesser_of-3.ensures, c.lesser_of-2.ensures, c.lesser_of.ensures)
-    (subst (λ (t : Tree). IsLeastOf (OfCause BadDeclaration (IsBadInConfiguration t))
+    (subst (λ (t : Tree). IsNextOf c.args.after (OfCause BadDeclaration (IsBadInConfiguration t))
     (lesser_of_two external (lesser_of_two located (lesser_of_two task function)))) c.self.view_is
-    (either_least BadDeclaration (IsOtherExternal tree)
+    (either_next c.args.after BadDeclaration (IsOtherExternal tree)
     (λ at. IsBadlyLocated tree at ⊎ (SomeOf (IsBadTaskAt at) (task_declarations tree)
     ⊎ SomeOf (IsBadFunction at) (declared_functions tree))) external
     (lesser_of_two located (lesser_of_two task function)) externals
-    (either_least BadDeclaration (IsBadlyLocated tree)
+    (either_next c.args.after BadDeclaration (IsBadlyLocated tree)
     (λ at. SomeOf (IsBadTaskAt at) (task_declarations tree) ⊎ SomeOf (IsBadFunction at) (declared_functions tree))
     located (lesser_of_two task function) of_located
-    (either_least BadDeclaration (λ at. SomeOf (IsBadTaskAt at) (task_declarations tree))
+    (either_next c.args.after BadDeclaration (λ at. SomeOf (IsBadTaskAt at) (task_declarations tree))
     (λ at. SomeOf (IsBadFunction at) (declared_functions tree)) task function tasks functions))))

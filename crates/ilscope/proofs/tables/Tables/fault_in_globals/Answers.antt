@@ -2,7 +2,7 @@ use Rattle.std.proofs.Common.{◌≡◌, ◌∙◌, ap, List, ℕ, subst}
 use Rattle.ilsource.specs.Configurations.{DeclaredGlobals}
 use Rattle.ilsource.specs.SourceTrees.{Tree}
 use Rattle.ildeclared.specs.DataTypes.{TypeNames}
-use Rattle.ildeclared.specs.Faults.{IsLeastOf, SomeOf, IsFaultIn}
+use Rattle.ildeclared.specs.Faults.{IsNextOf, SomeOf, IsFaultIn}
 use Rattle.ildeclared.specs.Globals.{as_variables}
 use Rattle.ildeclared.specs.Kept.{types_in}
 use Rattle.ilscope.specs.Configured.{declared_globals_of, types_of_text}
@@ -20,9 +20,9 @@ returns c =
     c.declared_globals.ensures ∙ ap (λ (t : Tree). declared_globals_of t) c.self.view_is
     in
     subst
-    (λ (t : TypeNames). IsLeastOf (λ place cause. SomeOf (λ d. IsFaultIn t (as_variables d) place cause)
+    (λ (t : TypeNames). IsNextOf c.args.after (λ place cause. SomeOf (λ d. IsFaultIn t (as_variables d) place cause)
     (declared_globals_of c.args.self.now)) c.fault_of_globals.result)
     types_path
-    (subst (λ (ds : List DeclaredGlobals). IsLeastOf (λ place cause. SomeOf (λ d. IsFaultIn
+    (subst (λ (ds : List DeclaredGlobals). IsNextOf c.args.after (λ place cause. SomeOf (λ d. IsFaultIn
     (types_in c.deref.result.now inside.types) (as_variables d) place cause) ds) c.fault_of_globals.result)
     globals_path c.fault_of_globals.ensures)

@@ -1,10 +1,10 @@
 use Rattle.std.proofs.Common.{◌∙◌, ap, List, subst, ◌⊎◌}
 use Rattle.ilsource.specs.SourceTrees.{Tree}
 use Rattle.ilsource.specs.declared.configuration.InstanceDeclaration.{InstanceDeclaration}
-use Rattle.ildeclared.specs.Faults.{IsLeastOf, OfCause, SomeOf}
+use Rattle.ildeclared.specs.Faults.{IsNextOf, OfCause, SomeOf}
 use Rattle.ildeclared.specs.Order.{lesser_of_two}
 use Rattle.ildeclared.specs.declared.fault.NameCause.TheVariants.{Unknown, Twice, BadAddress, NoTask, BadDeclaration}
-use Rattle.ildeclared.proofs.Least.{both_least}
+use Rattle.ildeclared.proofs.Least.{both_next}
 use Rattle.ilscope.specs.Configured.{instance_declarations}
 use Rattle.ilscope.specs.Faults.{HasNoTask, HasNoTaskAt, IsBadAddress, IsNoTrigger}
 use Rattle.ilscope.specs.ScopeSteps.{IsBadInConfiguration, IsFaultInGlobals, IsFaultOfInput, IsTwiceInConfiguration}
@@ -25,8 +25,9 @@ returns c =
     let Bad = OfCause BadDeclaration (IsBadInConfiguration tree) in
     let Addresses = OfCause BadAddress (λ at. IsBadAddress tree c.args.binding.now at ⊎ IsNoTrigger tree at) in
     let Lacking = OfCause NoTask (HasNoTask tree) in
-    let without : IsLeastOf Lacking lacking =
-    subst (λ (is : List InstanceDeclaration). IsLeastOf (OfCause NoTask (λ place. SomeOf (HasNoTaskAt place) is))
+    let without : IsNextOf c.args.after Lacking lacking =
+    subst (λ (is : List InstanceDeclaration). IsNextOf c.args.after
+    (OfCause NoTask (λ place. SomeOf (HasNoTaskAt place) is))
     lacking) (c.instances_of.ensures ∙ ap (λ (t : Tree). instance_declarations t) c.self.view_is)
     c.without_task-lacking.ensures
     in
@@ -38,12 +39,13 @@ returns c =
       c.lesser_of.ensures,
       c.lesser_of-located.ensures,
     )
-    (both_least _ _ (lesser_of_two globals unknown)
+    (both_next c.args.after _ _ (lesser_of_two globals unknown)
     (lesser_of_two (lesser_of_two twice bad) (lesser_of_two (lesser_of_two address input) lacking))
-    (both_least (IsFaultInGlobals tree) (OfCause Unknown (IsUnknownNamed tree)) globals unknown
+    (both_next c.args.after (IsFaultInGlobals tree) (OfCause Unknown (IsUnknownNamed tree)) globals unknown
     c.fault_in_globals.ensures c.unknown_name.ensures)
-    (both_least _ _ (lesser_of_two twice bad) (lesser_of_two (lesser_of_two address input) lacking)
-    (both_least Twices Bad twice bad c.in_ok-given_twice.ensures c.bad_declaration.ensures)
-    (both_least _ _ (lesser_of_two address input) lacking
-    (both_least Addresses (IsFaultOfInput tree) address input c.in_ok-bad_address.ensures c.fault_of_input.ensures)
+    (both_next c.args.after _ _ (lesser_of_two twice bad) (lesser_of_two (lesser_of_two address input) lacking)
+    (both_next c.args.after Twices Bad twice bad c.in_ok-given_twice.ensures c.bad_declaration.ensures)
+    (both_next c.args.after _ _ (lesser_of_two address input) lacking
+    (both_next c.args.after Addresses (IsFaultOfInput tree) address input c.in_ok-bad_address.ensures
+    c.fault_of_input.ensures)
     without)))

@@ -2,11 +2,11 @@ use Rattle.std.proofs.Common.{◌≡◌, ◌∙◌, ap, ℕ, List, subst}
 use Rattle.ilsource.specs.Configurations.{DeclaredGlobals}
 use Rattle.ilsource.specs.SourceTrees.{Tree}
 use Rattle.ildeclared.specs.DataTypes.{TypeNames}
-use Rattle.ildeclared.specs.Faults.{IsInputGivenIn, IsInputTooSmallIn, IsLeastOf, OfCause, SomeOf}
+use Rattle.ildeclared.specs.Faults.{IsInputGivenIn, IsInputTooSmallIn, IsNextOf, OfCause, SomeOf}
 use Rattle.ildeclared.specs.Kept.{types_in}
 use Rattle.ildeclared.specs.Order.{lesser_of_two}
 use Rattle.ildeclared.specs.declared.fault.NameCause.TheVariants.{InputRangeTooSmall, WritesInput}
-use Rattle.ildeclared.proofs.Least.{both_least}
+use Rattle.ildeclared.proofs.Least.{both_next}
 use Rattle.ilscope.specs.Configured.{declared_globals_of, types_of_text}
 use Rattle.ilscope.specs.Faults.{IsInputGiven, IsInputTooSmall}
 use Rattle.ilscope.specs.ScopeSteps.{IsFaultOfInput}
@@ -23,18 +23,20 @@ returns c =
     let types : types_in lower inside.types ≡ types_of_text tree =
     ap (λ (l : List ℕ). types_in l inside.types) c.as_slice.ensures.value ∙ c.self.invariant.meant
     in
-    let of_small : IsLeastOf (OfCause InputRangeTooSmall (IsInputTooSmall tree)) small =
+    let of_small : IsNextOf c.args.after (OfCause InputRangeTooSmall (IsInputTooSmall tree)) small =
     moved (λ (t : TypeNames) (ds : List DeclaredGlobals).
-    IsLeastOf (OfCause InputRangeTooSmall (λ place. SomeOf (IsInputTooSmallIn t place) ds)) small)
+    IsNextOf c.args.after (OfCause InputRangeTooSmall (λ place. SomeOf (IsInputTooSmallIn t place) ds)) small)
     (types_in lower inside.types) (types_of_text tree) c.declared_globals-globals.result.now (declared_globals_of tree)
     types c.declared_globals-globals.ensures c.inputs_too_small-small.ensures
     in
-    let of_given : IsLeastOf (OfCause WritesInput (IsInputGiven tree)) given =
-    subst (λ (ds : List DeclaredGlobals). IsLeastOf (OfCause WritesInput (λ place. SomeOf (IsInputGivenIn place) ds))
+    let of_given : IsNextOf c.args.after (OfCause WritesInput (IsInputGiven tree)) given =
+    subst (λ (ds : List DeclaredGlobals). IsNextOf c.args.after
+    (OfCause WritesInput (λ place. SomeOf (IsInputGivenIn place) ds))
     given) c.declared_globals-globals.ensures c.inputs_given.ensures
     in
     rw c.lesser_of.ensures
-    (subst (λ (t : Tree). IsLeastOf (IsFaultOfInput t) (lesser_of_two small given)) c.self.view_is
-    (both_least (OfCause InputRangeTooSmall (IsInputTooSmall tree)) (OfCause WritesInput (IsInputGiven tree)) small
+    (subst (λ (t : Tree). IsNextOf c.args.after (IsFaultOfInput t) (lesser_of_two small given)) c.self.view_is
+    (both_next c.args.after (OfCause InputRangeTooSmall (IsInputTooSmall tree))
+    (OfCause WritesInput (IsInputGiven tree)) small
     given
     of_small of_given))

@@ -4,9 +4,9 @@ use Rattle.ilsource.specs.SourceTrees.{Tree}
 use Rattle.ilsource.specs.declared.address.DirectAddress.{DirectAddress}
 use Rattle.ilsource.specs.declared.configuration.InstanceDeclaration.{InstanceDeclaration}
 use Rattle.ilsource.specs.declared.name.Name.{Name}
-use Rattle.ildeclared.specs.Faults.{IsAddressTwice, IsLeastOf, OfCause}
+use Rattle.ildeclared.specs.Faults.{IsAddressTwice, IsNextOf, OfCause}
 use Rattle.ildeclared.specs.declared.fault.NameCause.TheVariants.{Twice}
-use Rattle.ildeclared.proofs.Least.{either_least}
+use Rattle.ildeclared.proofs.Least.{either_next}
 use Rattle.ilscope.specs.Configured.{addresses_of, instance_declarations}
 use Rattle.ilscope.specs.Faults.{IsTwiceIn}
 use Rattle.ilscope.proofs.FilledTables.{spelled_is}
@@ -30,17 +30,18 @@ returns c =
     c.as_slice-2.ensures.value ∙ c.in_ok-names.ensures
     ∙ ap (λ (is : List InstanceDeclaration). map (λ i. i.name) is) c.instances_of.ensures
     in
-    let instances : IsLeastOf (OfCause Twice (IsTwiceIn (folded tree.text) (instance_names tree))) instance =
-    moved (λ (s : Name → List ℕ) (ns : List Name). IsLeastOf (OfCause Twice (IsTwiceIn s ns)) instance)
+    let instances : IsNextOf c.args.after (OfCause Twice (IsTwiceIn (folded tree.text) (instance_names tree)))
+    instance =
+    moved (λ (s : Name → List ℕ) (ns : List Name). IsNextOf c.args.after (OfCause Twice (IsTwiceIn s ns)) instance)
     (text_of lower) (folded tree.text) c.as_slice-2.result.now (instance_names tree) spelled names
     c.in_ok-instance.ensures.twice
     in
-    let addresses : IsLeastOf (OfCause Twice (IsAddressTwice (addresses_of c.args.self.now))) address =
-    subst (λ (all : List DirectAddress). IsLeastOf (OfCause Twice (IsAddressTwice all)) address)
+    let addresses : IsNextOf c.args.after (OfCause Twice (IsAddressTwice (addresses_of c.args.self.now))) address =
+    subst (λ (all : List DirectAddress). IsNextOf c.args.after (OfCause Twice (IsAddressTwice all)) address)
     (c.as_slice-3.ensures.value ∙ c.in_ok-addresses.ensures) c.in_ok-address.ensures
     in
     rw c.lesser_of.ensures
-    (either_least Twice (IsTwiceIn (folded c.args.self.now.text) (instance_names c.args.self.now))
+    (either_next c.args.after Twice (IsTwiceIn (folded c.args.self.now.text) (instance_names c.args.self.now))
     (IsAddressTwice (addresses_of c.args.self.now)) instance address
-    (subst (λ (t : Tree). IsLeastOf (OfCause Twice (IsTwiceIn (folded t.text) (instance_names t))) instance)
+    (subst (λ (t : Tree). IsNextOf c.args.after (OfCause Twice (IsTwiceIn (folded t.text) (instance_names t))) instance)
     c.self.view_is instances) addresses)

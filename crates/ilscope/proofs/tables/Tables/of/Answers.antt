@@ -3,7 +3,7 @@ use Rattle.std.specs.Prelude.{flat_map}
 use Rattle.ilsource.specs.Names.{text_of}
 use Rattle.ilsource.specs.SourceTrees.{Tree}
 use Rattle.ilsource.specs.declared.source.Element.{Element}
-use Rattle.ildeclared.specs.Faults.{IsLeastOf, OfCause}
+use Rattle.ildeclared.specs.Faults.{IsNextOf, OfCause}
 use Rattle.ildeclared.specs.Globals.{globals_in, value_types_in}
 use Rattle.ildeclared.specs.Kept.{types_in}
 use Rattle.ildeclared.specs.declared.fault.NameCause.TheVariants.{Twice}
@@ -24,7 +24,7 @@ invariant_of-tables c =
     let says = c.in_ok-configured.ensures in
     let lower_is : lower ≡ lowered tree.text = c.in_ok-lower.ensures ∙ ap lowered c.text.ensures.value in
     let gathered =
-    moved_gathered c.deref.result.now lower c.elements.result.now tree.elements g.types g.programs.items
+    moved_gathered c.args.after c.deref.result.now lower c.elements.result.now tree.elements g.types g.programs.items
     g.variable_numbers.items g.block_numbers.items g.external_numbers.items g.functions.items g.own_numbers.items
     g.least c.deref.ensures.value
     c.elements.ensures c.in_ok-gathered.ensures.gathered
@@ -43,7 +43,8 @@ invariant_of-tables c =
       parts.functions,
       parts.own_numbers,
     )
-    (filled tree lower g.types g.programs.items g.variable_numbers.items g.block_numbers.items g.external_numbers.items
+    (filled c.args.after tree lower g.types g.programs.items g.variable_numbers.items g.block_numbers.items
+    g.external_numbers.items
     g.functions.items g.own_numbers.items g.least lower_is gathered configured.globals.items
     configured.value_types.items configured.global_numbers
     configured.task_numbers elements.program_numbers elements.function_numbers
@@ -72,23 +73,23 @@ returns-clause-least c =
     let says = c.in_ok-configured.ensures in
     let lower_is : lower ≡ lowered tree.text = c.in_ok-lower.ensures ∙ ap lowered c.text.ensures.value in
     let gathered =
-    moved_gathered c.deref.result.now lower c.elements.result.now tree.elements g.types g.programs.items
+    moved_gathered c.args.after c.deref.result.now lower c.elements.result.now tree.elements g.types g.programs.items
     g.variable_numbers.items g.block_numbers.items g.external_numbers.items g.functions.items g.own_numbers.items
     g.least c.deref.ensures.value
     c.elements.ensures c.in_ok-gathered.ensures.gathered
     in
     let tasks = task_declarations tree in
     rw (c.lesser_of-found.ensures, c.into_parts-types.ensures.least, c.lesser_of.ensures)
-    (found_in_tables tree lower g.types g.programs.items g.variable_numbers.items g.block_numbers.items
+    (found_in_tables c.args.after tree lower g.types g.programs.items g.variable_numbers.items g.block_numbers.items
     g.external_numbers.items g.functions.items g.own_numbers.items g.least lower_is gathered configured.globals.items
     elements.element_twice
     configured.configured_twice
     (says.globals
     ∙ ap (λ (l : List ℕ). flat_map (globals_in (types_in l g.types)) (declared_globals_of tree))
     c.deref-2.ensures.value)
-    (moved_twice c.deref.result.now lower (map name_of c.elements.result.now) (map name_of tree.elements)
+    (moved_twice c.args.after c.deref.result.now lower (map name_of c.elements.result.now) (map name_of tree.elements)
     elements.element_twice c.deref.ensures.value (ap (λ (es : List Element). map name_of es) c.elements.ensures)
     c.in_ok-gathered.ensures.twice)
-    (subst (λ (l : List ℕ). IsLeastOf (OfCause Twice
+    (subst (λ (l : List ℕ). IsNextOf c.args.after (OfCause Twice
     (IsGlobalOrTaskTwice (text_of l) configured.globals.items tasks)) configured.configured_twice)
     c.deref-2.ensures.value says.twice))
