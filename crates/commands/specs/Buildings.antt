@@ -56,7 +56,7 @@ pub record IsLivedOut {B C : Type 0} (binding text : List ℕ) (file : Option (L
       left
   pub meant : AreAsMeant (tree_of loaded.0 text kept setup loaded.2) loaded.0.buses left.left.plant.history
 
--- there is no memory for what is written beside it; that a file can't be written stands against no building
+-- there is no memory for what is written beside it; that a file cannot be written stands against no building
 abbrev pub IsUnobserved : List ℕ → List ℕ → Halted → Type 0
 IsUnobserved binding text (halts.Text stop) = IsStopUnder binding text stop
 IsUnobserved binding text (halts.Building stop) = ⊥
@@ -130,7 +130,7 @@ pub record IsLiveServed {B C : Type 0} (gives : List ℕ → List ℕ → Type 0
   pub cut : IsCutWhereAsked options.ends_on_down came_to
   pub told : IsToldWhereBegun is_told binding text file came_to
 
--- the binding isn't read; or it is, and the text isn't; or both are, and the file of kept values is there and isn't
+-- the binding is not read; or it is, and the text is not; or both are, and the file of kept values is there and is not
 -- read
 abbrev pub IsFirstLiveUnread : (List ℕ → List ℕ → Type 0) → (List ℕ → DiskFault → Type 0) → LiveFiles
     → Option (List ℕ) → List ℕ → DiskFault → Type 0
@@ -140,7 +140,7 @@ IsFirstLiveUnread gives fails files keep path why =
     × (((path ≡ files.text.now) × fails path why)
     ⊎ (((text : List ℕ) × gives files.text.now text) × IsKeepWithheld fails keep path why)))
 
--- the first of the named files that isn't read is reported; of a failure of the writer nothing is said
+-- the first of the named files that is not read is reported; of a failure of the writer nothing is said
 abbrev pub IsLiveUnread : (List ℕ → List ℕ → Type 0) → (List ℕ → DiskFault → Type 0) → LiveFiles → Option (List ℕ)
     → Unserved → Type 0
 IsLiveUnread gives fails files keep (NotRead path why) = IsFirstLiveUnread gives fails files keep path.now why

@@ -63,7 +63,7 @@ IsCodeServed gives takes files name to before after status =
     (binding : Option (List ℕ)) × (text : List ℕ) × AreRead gives files binding text
     × (IsWritten takes binding text name to before after status ⊎ IsStopped binding text name before after status)
 
--- the file at this path doesn't take the code file
+-- the file at this path does not take the code file
 pub record IsRefused (gives : List ℕ → List ℕ → Type 0) (refuses : List ℕ → DiskFault → Type 0) (files : Files)
     (name : Option (List ℕ)) (path : List ℕ) (why : DiskFault) : Type 0 where
   pub binding : Option (List ℕ)
@@ -73,7 +73,7 @@ pub record IsRefused (gives : List ℕ → List ℕ → Type 0) (refuses : List 
   pub under : IsCodeUnder binding text name code
   pub refused : refuses path why
 
--- the first of the named files that isn't read is reported, or that the code file isn't written; of a failure of the
+-- the first of the named files that is not read is reported, or that the code file is not written; of a failure of the
 -- writer nothing is said
 abbrev pub IsCodeUnserved : (List ℕ → List ℕ → Type 0) → (List ℕ → DiskFault → Type 0) → (List ℕ → DiskFault → Type 0)
     → Files → Option (List ℕ) → List ℕ → Unserved → Type 0
@@ -82,7 +82,7 @@ IsCodeUnserved gives fails refuses files name to (NotWritten path why) =
     (path.now ≡ to) × IsRefused gives refuses files name to why
 IsCodeUnserved gives fails refuses files name to (NotPrinted error) = ⊤
 
--- that the file at a path isn't written is reported
+-- that the file at a path is not written is reported
 abbrev pub IsNotWritten : (List ℕ → DiskFault → Type 0) → List ℕ → Unserved → Type 0
 IsNotWritten refuses path (NotWritten named why) = (named.now ≡ path) × refuses path why
 IsNotWritten refuses path (NotRead named why) = ⊥
@@ -100,7 +100,7 @@ pub record IsCodeJudged (gives : List ℕ → List ℕ → Type 0) (path : List 
   pub line : Appends before after (ended (printed answer))
   pub ends : status ≡ status_of_code_answer answer
 
--- that the file isn't read is reported; of a failure of the writer nothing is said
+-- that the file is not read is reported; of a failure of the writer nothing is said
 abbrev pub IsUnjudged : (List ℕ → DiskFault → Type 0) → List ℕ → Unserved → Type 0
 IsUnjudged fails path (NotRead named why) = (named.now ≡ path) × fails path why
 IsUnjudged fails path (NotWritten named why) = ⊥

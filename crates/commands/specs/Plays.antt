@@ -173,8 +173,8 @@ pub record IsPlayed (gives : List ℕ → List ℕ → Type 0) (files : PlayFile
 
 -- ---- files that are not read
 
--- the binding at this path isn't read; or it is, and the text at this path isn't; or both are, and the scenario at this
--- path isn't; or all three are, and the file of kept values at this path isn't
+-- the binding at this path is not read; or it is, and the text at this path is not; or both are, and the scenario at
+-- this path is not; or all three are, and the file of kept values at this path is not
 abbrev pub IsFirstFileUnread : (List ℕ → List ℕ → Type 0) → (List ℕ → DiskFault → Type 0) → PlayFiles → List ℕ → DiskFault
     → Type 0
 IsFirstFileUnread gives fails files path why =
@@ -186,7 +186,7 @@ IsFirstFileUnread gives fails files path why =
     ⊎ (((scenario : List ℕ) × gives files.scenario.now scenario)
     × (option_copied files.keep ≡ Some path) × fails path why)))))
 
--- the first of the named files that isn't read is reported; of a failure of the writer nothing is said
+-- the first of the named files that is not read is reported; of a failure of the writer nothing is said
 abbrev pub IsUnplayed : (List ℕ → List ℕ → Type 0) → (List ℕ → DiskFault → Type 0) → PlayFiles → Unserved → Type 0
 IsUnplayed gives fails files (NotRead path why) = IsFirstFileUnread gives fails files path.now why
 IsUnplayed gives fails files (NotWritten path why) = ⊥

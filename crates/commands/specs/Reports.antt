@@ -81,7 +81,7 @@ variable_line made number =
     (slot_at made.setup.plan made.task number)
     (slice_get made.left.slots number)
 
--- the line of what stands against a text; that a task isn't there is said on standard error, of which nothing is said
+-- the line of what stands against a text; that a task is not there is said on standard error, of which nothing is said
 -- here
 abbrev pub stop_text : Stop → List ℕ
 stop_text (NoTask asked) = []

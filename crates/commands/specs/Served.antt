@@ -26,20 +26,20 @@ pub record IsServed (gives : List ℕ → List ℕ → Type 0) (inquiry : Inquir
   pub text_given : gives (files_of inquiry).text.now bytes
   pub report : IsReport inquiry binding bytes before after status
 
--- the binding at this path isn't read; or it is, and the text at this path isn't
+-- the binding at this path is not read; or it is, and the text at this path is not
 abbrev pub IsFirstUnread : (List ℕ → List ℕ → Type 0) → (List ℕ → DiskFault → Type 0) → Files → List ℕ → DiskFault → Type 0
 IsFirstUnread gives fails files path why =
     ((option_copied files.binding ≡ Some path) × fails path why)
     ⊎ (((binding : Option (List ℕ)) × IsGiven gives (option_copied files.binding) binding)
     × (path ≡ files.text.now) × fails path why)
 
--- the first of the named files that isn't read is reported; of a failure of the writer nothing is said
+-- the first of the named files that is not read is reported; of a failure of the writer nothing is said
 abbrev pub IsUnserved : (List ℕ → List ℕ → Type 0) → (List ℕ → DiskFault → Type 0) → Inquiry → Unserved → Type 0
 IsUnserved gives fails inquiry (NotRead path why) = IsFirstUnread gives fails (files_of inquiry) path.now why
 IsUnserved gives fails inquiry (NotWritten path why) = ⊥
 IsUnserved gives fails inquiry (NotPrinted error) = ⊤
 
--- that the file at a path isn't read is reported
+-- that the file at a path is not read is reported
 abbrev pub IsNotRead : (List ℕ → DiskFault → Type 0) → List ℕ → Unserved → Type 0
 IsNotRead fails path (NotRead named why) = (named.now ≡ path) × fails path why
 IsNotRead fails path (NotWritten named why) = ⊥

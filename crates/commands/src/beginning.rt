@@ -49,7 +49,7 @@ impl Beginning {
 pub enum KeptNote {
     /// None was asked for, or none was read.
     NoFile,
-    /// It isn't used.
+    /// It is not used.
     Unused(KeptFault),
     /// It is used, but for these values. It says when they were kept, unless it is of version 1.
     Used(Option<KeptAt>, Vec<LeftOut>),
@@ -84,7 +84,7 @@ fn date_of(at: KeptAt) -> Timestamp {
 ///
 /// # Errors
 ///
-/// It is there and can't be read, or memory is refused while it is read.
+/// It is there and cannot be read, or memory is refused while it is read.
 pub(crate) fn kept_at<'a, D: Disk>(
     alloc: Global,
     disk: &D,

@@ -4,9 +4,9 @@ use std::alloc::Global;
 use std::io;
 use std::io::Write;
 
-/// A writer that passes on of a play the moments at which something was heard, handed or changed, or
-/// went wrong. A moment is a line `tick N` with the lines up to the next one; a quiet one has beside it
-/// only lines on scans that were taken and committed.
+/// A writer that passes on of a play the moments at which something was heard, handed or changed,
+/// or went wrong. A moment is a line `tick N` with the lines up to the next one; a quiet one has
+/// beside it only lines on scans that were taken and committed.
 #[derive(Drop)]
 pub(crate) struct Brief<'w, W> {
     to: &'w mut W,

@@ -19,14 +19,14 @@ use std::alloc::Global;
 use std::io;
 use std::io::{BufWriter, Write};
 
-/// Reads the files that are named, the binding before the text, and writes the code file of the task
-/// of this name, or without a name of the only one, to a path, or prints what stands against that; the
-/// writer, which then has that line, and how the program ends. `complaints` gets the line of a task
-/// that isn't there.
+/// Reads the files that are named, the binding before the text, and writes the code file of the
+/// task of this name, or without a name of the only one, to a path, or prints what stands against
+/// that; the writer, which then has that line, and how the program ends. `complaints` gets the line
+/// of a task that is not there.
 ///
 /// # Errors
 ///
-/// The first file that isn't read, that the code file isn't written, or the writer's error.
+/// The first file that is not read, that the code file is not written, or the writer's error.
 pub fn serve_code<'a, D: Disk, W: Write + Drop, E: Write>(
     alloc: Global,
     disk: &D,
@@ -103,7 +103,7 @@ fn write_at<'a, D: Disk>(disk: &D, path: &'a str, bytes: &[u8]) -> Result<(), Un
 ///
 /// # Errors
 ///
-/// That the file isn't read, or the writer's error.
+/// That the file is not read, or the writer's error.
 pub fn serve_check_code<'a, D: Disk, W: Write + Drop>(
     alloc: Global,
     disk: &D,

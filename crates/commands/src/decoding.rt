@@ -22,7 +22,7 @@ const STANDARD_INPUT_FILE: &str = "/dev/stdin";
 ///
 /// # Errors
 ///
-/// Standard input can't be read, or the writer's error.
+/// Standard input cannot be read, or the writer's error.
 pub(crate) fn serve_log<'a, R: Files, W: Write + Drop>(
     rt: &R,
     alloc: Global,
@@ -51,7 +51,7 @@ fn decode_lines<'a, R: Read + Drop, W: Write>(
     Ok(())
 }
 
-/// Standard input isn't read, for this reason.
+/// Standard input is not read, for this reason.
 fn unread<'a>(why: DiskFault) -> Unserved<'a> {
     let path = STANDARD_INPUT;
     Unserved::NotRead { path, why }
@@ -64,8 +64,8 @@ fn write_line<W: Write>(alloc: Global, to: &mut W, line: &str) -> io::Result<()>
 }
 
 /// A line of a log, with what the frames in it say. A line of frames alone is a line for each, as
-/// `frame` prints them; of any other the frames are said behind it that stand behind `send`, `event`,
-/// `heard` or `hand`. A line with a parenthesis says them already.
+/// `frame` prints them; of any other the frames are said behind it that stand behind `send`,
+/// `event`, `heard` or `hand`. A line with a parenthesis says them already.
 #[derive(Clone, Copy)]
 struct DecodedLine<'a>(&'a str);
 

@@ -3,13 +3,14 @@
 //! files.
 //!
 //! What crosses the boundary: the words of a command line, the bytes of files on a [`Disk`], lines
-//! on a writer, and an [`ExitStatus`]. `commandline` reads the words; [`serve`] reads the files that
-//! they name, has `answers` answer what they hold, and prints it (specs/Reports.antt);
-//! [`serve_play`] plays, [`serve_run`] runs, and [`serve_look`] plays and draws; [`serve_live`] runs a
-//! building; [`serve_code`] writes a code file, and [`serve_check_code`] judges one. The outermost definitions are `IsServed`
-//! (specs/Served.antt), `IsPlayed` (specs/Plays.antt), `IsRunServed` (specs/Runs.antt),
-//! `IsLiveServed` (specs/Buildings.antt), and `IsCodeServed` and `IsCodeJudged` (specs/CodeFiles.antt). No contract can say which bytes the machine's disk
-//! gives, or what becomes of those that its disk and its terminal take. `run` does all of it over a
+//! on a writer, and an [`ExitStatus`]. `commandline` reads the words; [`serve`] reads the files
+//! that they name, has `answers` answer what they hold, and prints it (specs/Reports.antt);
+//! [`serve_play`] plays, [`serve_run`] runs, and [`serve_look`] plays and draws; [`serve_live`]
+//! runs a building; [`serve_code`] writes a code file, and [`serve_check_code`] judges one. The
+//! outermost definitions are `IsServed` (specs/Served.antt), `IsPlayed` (specs/Plays.antt),
+//! `IsRunServed` (specs/Runs.antt), `IsLiveServed` (specs/Buildings.antt), and `IsCodeServed` and
+//! `IsCodeJudged` (specs/CodeFiles.antt). No contract can say which bytes the machine's disk gives,
+//! or what becomes of those that its disk and its terminal take. `run` does all of it over a
 //! runtime.
 //!
 //! ```text

@@ -1,4 +1,4 @@
-//! How the program ends where a building doesn't run.
+//! How the program ends where a building does not run.
 
 ghost use Rattle.std.specs.Prelude.{◌≡◌};
 ghost use Rattle.commands.specs.Buildings.{status_of_live_stop};

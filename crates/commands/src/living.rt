@@ -64,8 +64,8 @@ impl<'a> From<LiveStop<'a>> for Halted<'a> {
 /// What a building came to: what it left, or what stands against running it.
 pub type LiveEnd<'a, B, C> = Result<LiveLeft<B, C>, Halted<'a>>;
 
-/// Who is told what is about to run, and why a building doesn't run. Whether it can be told changes
-/// nothing.
+/// Who is told what is about to run, and why a building does not run. Whether it can be told
+/// changes nothing.
 pub trait Notice {
     ghost use Rattle.commands.specs.declared.beginning.KeptNote.{KeptNote};
 
@@ -76,7 +76,7 @@ pub trait Notice {
     ///
     /// # Errors
     ///
-    /// It can't be told.
+    /// It cannot be told.
     fn begins(&self, note: &KeptNote) -> io::Result<()>
         ensures { is_told self.now note.now };
 
@@ -84,14 +84,14 @@ pub trait Notice {
     ///
     /// # Errors
     ///
-    /// It can't be told.
+    /// It cannot be told.
     fn departs<B: Bus, C: Clock>(&self, departure: &Departure<B, C>) -> io::Result<()>;
 
-    /// The building doesn't run.
+    /// The building does not run.
     ///
     /// # Errors
     ///
-    /// It can't be told.
+    /// It cannot be told.
     fn halts(&self, stop: &LiveStop) -> io::Result<()>;
 }
 
@@ -102,14 +102,14 @@ pub struct Grounds<'g, S: Site, N: Notice> {
     pub notice: &'g N,
 }
 
-/// Reads the files that are named, the binding before the text and that before the kept values, opens
-/// the lines of the buses, runs the building and prints what it came to; the writer, which then has
-/// every line, and what it came to.
+/// Reads the files that are named, the binding before the text and that before the kept values,
+/// opens the lines of the buses, runs the building and prints what it came to; the writer, which
+/// then has every line, and what it came to.
 ///
 /// # Errors
 ///
-/// The first file that isn't read, where kept values count only for lack of memory; or the writer's
-/// error.
+/// The first file that is not read, where kept values count only for lack of memory; or the
+/// writer's error.
 pub fn serve_live<
     'a,
     D: Disk,
@@ -307,7 +307,7 @@ fn begun_of(alloc: Global, pages: &LivePages) -> Result<Beginning, Stop>
     beginning_of(alloc, &pages.binding, &pages.text, pages.kept.as_ref())
 }
 
-/// Who writes beside a building what its options ask for. A file of kept values that isn't used is
+/// Who writes beside a building what its options ask for. A file of kept values that is not used is
 /// put aside.
 ///
 /// # Errors
@@ -353,7 +353,8 @@ fn used_bytes<'p>(note: &KeptNote, pages: &'p LivePages) -> Option<&'p [u8]> {
     }
 }
 
-/// Has written what is left beside a building that ran. Of one that doesn't run nothing is written.
+/// Has written what is left beside a building that ran. Of one that does not run nothing is
+/// written.
 fn finish_after<S: Storage, R: Wait, B: Bus, C: Clock>(
     observer: &BuildingObserver<S, R>,
     end: &LiveEnd<B, C>,
@@ -363,7 +364,7 @@ fn finish_after<S: Storage, R: Wait, B: Bus, C: Clock>(
     }
 }
 
-/// The path of a file of kept values that isn't used.
+/// The path of a file of kept values that is not used.
 fn aside<'a>(note: &KeptNote, path: Option<&'a str>) -> Option<&'a str> {
     match note {
         KeptNote::Unused(_) => path,

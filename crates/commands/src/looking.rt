@@ -3,7 +3,7 @@
 
 use crate::beginning::KeptNote;
 use crate::pages::{Pages, read_pages};
-use crate::playing::start_watched;
+use crate::playing::start;
 use crate::reading::Disk;
 use crate::serving::Unserved;
 use crate::unknown::write_unwatchable;
@@ -18,7 +18,7 @@ use simbus::{Scenario, SimBus};
 use std::alloc::{AllocError, Global};
 use std::io;
 use std::io::{BufWriter, Write};
-use watching::{Watch, are_watchable};
+use watching::are_watchable;
 
 /// The most events of a history that is looked at.
 const LIMIT: u32 = 100_000;
@@ -34,15 +34,15 @@ enum Undrawn {
 
 /// Reads the files that are named, the binding before the text, that before the scenario and that
 /// before the kept values, plays the scenario and prints a picture of what happened, with a row for
-/// each variable that is watched, as SVG or as lines for a terminal; the writer, which then has all of
-/// it, and how the program ends. Where the picture goes to a file, the writer has nothing, and what
-/// stands against playing goes to the standard error, as does what became of the file of kept values.
-/// Names that are watched and that no variable has go there too; then nothing is played. What is
-/// printed is by rows alone.
+/// each variable that is watched, as SVG or as lines for a terminal; the writer, which then has all
+/// of it, and how the program ends. Where the picture goes to a file, the writer has nothing, and
+/// what stands against playing goes to the standard error, as does what became of the file of kept
+/// values. Names that are watched and that no variable has go there too; then nothing is played.
+/// What is printed is by rows alone.
 ///
 /// # Errors
 ///
-/// The first file that isn't read, that the picture isn't written, or the writer's error.
+/// The first file that is not read, that the picture is not written, or the writer's error.
 pub fn serve_look<'a, D: Disk, W: Write + Drop, E: Eprint>(
     alloc: Global,
     disk: &D,
@@ -153,8 +153,8 @@ fn write_picture<W: Write>(
     }
 }
 
-/// Plays the scenario; the picture of it that is asked for and how the program ends, or why there is
-/// none.
+/// Plays the scenario; the picture of it that is asked for and how the program ends, or why there
+/// is none.
 ///
 /// # Errors
 ///
@@ -167,15 +167,21 @@ fn draw<E: Eprint>(
     options: LookOptions,
     watches: &[&str],
 ) -> io::Result<Result<(Picture, ExitStatus), Undrawn>> {
-    match start_watched(alloc, pages, LIMIT, watches) {
-        Ok((mut installation, scenario, note, watch)) => {
+    match start(alloc, pages, LIMIT) {
+        Ok((mut installation, scenario, note)) => {
             if !are_watchable(installation.plant().setup().plan(), watches) {
                 let lines = unknown(alloc, installation.plant(), watches)?;
                 return Ok(Err(Undrawn::Unknown(lines)));
             }
             let _told = tell(errors, &note);
             let bus = options.bus;
-            let (mut picture, status) = draw_all(alloc, &mut installation, &scenario, watch, bus)?;
+            let (mut picture, status) = draw_all(
+                alloc,
+                &mut installation,
+                &scenario,
+                watches,
+                bus,
+            )?;
             picture.name = name_of(alloc, files, options)?;
             Ok(Ok((part_of(alloc, picture, options)?, status)))
         }
@@ -200,10 +206,10 @@ fn draw_all(
     alloc: Global,
     installation: &mut Installation<SimBus>,
     scenario: &Scenario,
-    watch: Option<Watch>,
+    watches: &[&str],
     bus: Option<u32>,
 ) -> io::Result<(Picture, ExitStatus)> {
-    let mut drawing = Drawing::new(alloc, installation.plant().setup().plan(), scenario, watch)?;
+    let mut drawing = Drawing::new(alloc, installation.plant(), scenario, watches)?;
     let ending = play_on(alloc, installation, scenario, &mut drawing)?;
     let mut notes = Vec::new(alloc);
     write_absent(&mut notes, bus, installation.plant().setup().plan().buses())?;
@@ -213,7 +219,7 @@ fn draw_all(
     Ok((picture, status))
 }
 
-/// Writes that a bus isn't there, where one is asked for that isn't among so many.
+/// Writes that a bus is not there, where one is asked for that is not among so many.
 fn write_absent<W: Write>(out: &mut W, bus: Option<u32>, buses: u8) -> io::Result<()> {
     match bus {
         Some(bus) if bus >= u32::from(buses) => {

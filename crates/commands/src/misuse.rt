@@ -6,8 +6,8 @@ use options::{LineWord, LiveFiles, LiveOptions};
 use std::alloc::{AllocError, Global};
 use std::rt::Files;
 
-/// Whether what the user asks for writes to no path that it reads, to each path one thing, and a file
-/// that stays open for long only where a regular one is or may come.
+/// Whether what the user asks for writes to no path that it reads, to each path one thing, and a
+/// file that stays open for long only where a regular one is or may come.
 ///
 /// # Errors
 ///

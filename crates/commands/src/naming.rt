@@ -57,7 +57,8 @@ pub(crate) fn request_in<'a>(
     }
 }
 
-/// What a word names: a block, or a command with `-` or a blank between its words, in any letter case.
+/// What a word names: a block, or a command with `-` or a blank between its words, in any letter
+/// case.
 fn named(alloc: Global, word: &str) -> Result<Option<NamedRequest>, AllocError> {
     if let Some(block) = Block::of_name(word) {
         return Ok(Some(NamedRequest { block, cmd: None }));
@@ -141,8 +142,8 @@ fn has_cmd(block: Block) -> bool {
     !matches!(block, Block::GearLevel | Block::GearRead | Block::DevScheme)
 }
 
-/// The command of this number of a block, to gear 0 or to instance 0 of device 0; of a block that has
-/// but one command that one, as number 0.
+/// The command of this number of a block, to gear 0 or to instance 0 of device 0; of a block that
+/// has but one command that one, as number 0.
 fn sample(block: Block, cmd: u32) -> Option<Command> {
     let name = block.name();
     match block {
@@ -186,8 +187,8 @@ impl fmt::Display for NamedRequest {
     }
 }
 
-/// The range of a port whose number is to be given: of none but those behind BUS, and not of CMD where
-/// the command is named.
+/// The range of a port whose number is to be given: of none but those behind BUS, and not of CMD
+/// where the command is named.
 fn range_of(port: Port, is_named: bool) -> Option<PortRange> {
     match (port.name, port.values) {
         (PortName::Cmd, _) if is_named => None,

@@ -10,7 +10,7 @@ use std::alloc::Global;
 use std::io;
 use std::io::Write;
 
-/// Writes that a text isn't accepted, with the line that `check` prints of it.
+/// Writes that a text is not accepted, with the line that `check` prints of it.
 pub(crate) fn write_stop<W: Write>(out: &mut W, stop: &Stop) -> io::Result<()> {
     match stop {
         Stop::Memory => write_refused(out, "no memory"),
@@ -30,7 +30,7 @@ pub(crate) fn write_stop<W: Write>(out: &mut W, stop: &Stop) -> io::Result<()> {
     }
 }
 
-/// Writes that a text isn't accepted, and why.
+/// Writes that a text is not accepted, and why.
 fn write_refused<W: Write>(out: &mut W, why: &str) -> io::Result<()> {
     let why = Quoted(why);
     write!(
@@ -73,7 +73,8 @@ pub(crate) fn write_noted<W: Write>(
     Ok(status_of_notes(is_denied))
 }
 
-/// Writes what stands against the files, with the lines that `explain` prints, or the notes on them.
+/// Writes what stands against the files, with the lines that `explain` prints, or the notes on
+/// them.
 pub(crate) fn write_explained<W: Write>(
     alloc: Global,
     out: &mut W,

@@ -45,7 +45,7 @@ impl Model for Pages {
 ///
 /// # Errors
 ///
-/// The first file that isn't read.
+/// The first file that is not read.
 pub(crate) fn read_pages<'a, D: Disk>(
     alloc: Global,
     disk: &D,
@@ -75,8 +75,8 @@ pub(crate) fn setup_of(alloc: Global, binding: &[u8], text: &[u8]) -> Result<Set
     check(alloc, &binding, text)
 }
 
-/// The setup of the text under the binding, whose variables begin with the values of the file of kept
-/// ones, where one is named that can be used.
+/// The setup of the text under the binding, whose variables begin with the values of the file of
+/// kept ones, where one is named that can be used.
 ///
 /// # Errors
 ///

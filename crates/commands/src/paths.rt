@@ -144,8 +144,8 @@ struct Held {
     what: Option<&'static str>,
 }
 
-/// Whether a command that reads these paths may write those, each of which is to be a regular file or
-/// to become one.
+/// Whether a command that reads these paths may write those, each of which is to be a regular file
+/// or to become one.
 ///
 /// # Errors
 ///

@@ -16,14 +16,13 @@ use commandline::PlayShows;
 use exits::{ExitStatus, PlayStop};
 use expectations::{are_known, are_met, report_unmet};
 use options::{ExpectedWord, PlayFiles};
-use plant::StartFault;
 use plantload::{kept_scans_are_as_meant, scans_are_as_meant};
 use plantplay::{FrameStyle, Installation, open, play_watched, plays_are_by_scenario};
 use simbus::{Scenario, SimBus};
 use std::alloc::Global;
 use std::io;
 use std::io::{BufWriter, Write};
-use watching::{Watch, are_watchable};
+use watching::are_watchable;
 
 /// What is asked of a play.
 #[derive(Clone, Copy)]
@@ -35,14 +34,14 @@ struct Asked<'a> {
 }
 
 /// Reads the files that are named, the binding before the text, that before the scenario and that
-/// before the kept values, plays the scenario and prints what happens; the writer, which then has every
-/// line, and how the program ends. `complaints` gets what became of the file of kept values, and what
-/// isn't as expected at the end; or the names, expected or watched, that the text does not have; then
-/// nothing is played.
+/// before the kept values, plays the scenario and prints what happens; the writer, which then has
+/// every line, and how the program ends. `complaints` gets what became of the file of kept values,
+/// and what is not as expected at the end; or the names, expected or watched, that the text does
+/// not have; then nothing is played.
 ///
 /// # Errors
 ///
-/// The first file that isn't read, or the writer's error.
+/// The first file that is not read, or the writer's error.
 pub fn serve_play<'a, D: Disk, W: Write + Drop, E: Write>(
     alloc: Global,
     disk: &D,
@@ -125,8 +124,8 @@ fn report<W: Write, E: Write>(
     ensures { IfOk result (IsPlayEnd pages.now limit asked.entry.expected.now
         asked.entry.watched.now) }
 {
-    match start_watched(alloc, pages, limit, asked.watched) {
-        Ok((mut installation, scenario, note, watch)) => {
+    match start(alloc, pages, limit) {
+        Ok((mut installation, scenario, note)) => {
             if !knows(&installation, asked) {
                 report_names(alloc, complaints, &installation, asked);
                 return Ok(ExitStatus::Misused);
@@ -135,7 +134,8 @@ fn report<W: Write, E: Write>(
             scans_are_as_meant();
             kept_scans_are_as_meant();
             plays_are_by_scenario();
-            let ending = play_watched(alloc, out, style, watch, &mut installation, &scenario)?;
+            let watched = asked.watched;
+            let ending = play_watched(alloc, out, style, watched, &mut installation, &scenario)?;
             out.flush()?;
             let _told = report_unmet(complaints, installation.plant(), asked.expected);
             let status = ExitStatus::of_play(ending, installation.has_down());
@@ -197,7 +197,7 @@ fn judged(
     }
 }
 
-/// How the program ends where something isn't as expected.
+/// How the program ends where something is not as expected.
 fn unmet(status: ExitStatus) -> ExitStatus
     ensures { result ≡ status_unmet status }
 {
@@ -207,13 +207,13 @@ fn unmet(status: ExitStatus) -> ExitStatus
     }
 }
 
-/// The plant of the text on the simulated buses of the scenario, the scenario, and what became of the
-/// file of kept values.
+/// The plant of the text on the simulated buses of the scenario, the scenario, and what became of
+/// the file of kept values.
 ///
 /// # Errors
 ///
 /// The binding's fault, else what stands against the text, else the scenario's fault, else why the
-/// plant isn't opened.
+/// plant is not opened.
 pub(crate) fn start(
     alloc: Global,
     pages: &Pages,
@@ -227,48 +227,4 @@ pub(crate) fn start(
     let Beginning { setup, note, .. } = begun;
     let installation = open(alloc, setup, &scenario, u64::from(limit))?;
     Ok((installation, scenario, note))
-}
-
-/// The plant of the text on the simulated buses of the scenario, the scenario, what became of the file
-/// of kept values, and the watch of the variables of these names, where there are any.
-///
-/// # Errors
-///
-/// Those of [`start`].
-pub(crate) fn start_watched(
-    alloc: Global,
-    pages: &Pages,
-    limit: u32,
-    watched: &[&str],
-) -> Result<(Installation<SimBus>, Scenario, KeptNote, Option<Watch>), PlayStop>
-    ensures started { IfOk result (λ made. IsStarted pages.now limit made.0 made.1) }
-    ensures stop { IfErr result (IsPlayStop pages.now 1 limit) }
-{
-    let (installation, scenario, note) = start(alloc, pages, limit)?;
-    let watch = watch_of(alloc, pages, limit, watched)?;
-    Ok((installation, scenario, note, watch))
-}
-
-/// The watch of the variables of these names, where there are any.
-///
-/// # Errors
-///
-/// The allocator is out of memory.
-fn watch_of(
-    alloc: Global,
-    pages: &Pages,
-    limit: u32,
-    watched: &[&str],
-) -> Result<Option<Watch>, PlayStop>
-    requires { HasScenario pages.now }
-    ensures { IfErr result (IsPlayStop pages.now 1 limit) }
-{
-    if watched.is_empty() {
-        return Ok(None);
-    }
-    let begun = beginning_in(alloc, pages)?;
-    match Watch::open(alloc, begun.setup, u64::from(limit), watched) {
-        Ok(watch) => Ok(Some(watch)),
-        Err(fault) => Err(PlayStop::Start(StartFault::Plant(fault))),
-    }
 }

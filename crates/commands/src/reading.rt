@@ -16,7 +16,7 @@ const MOST_READ: u64 = limits::MOST_BYTES as u64 + 1;
 /// The path that standard input has as a file.
 const STANDARD_INPUT: &str = "/dev/stdin";
 
-/// Why a file wasn't read, or wasn't written.
+/// Why a file was not read, or was not written.
 #[derive(Clone, Copy, PartialEq, Eq)]
 pub enum DiskFault {
     Memory,
@@ -35,13 +35,13 @@ pub trait Disk {
     // The file at a path gave these bytes.
     ghost gives: { Self → List ℕ → List ℕ → Type 0 };
 
-    // The file at a path wasn't read, for this reason.
+    // The file at a path was not read, for this reason.
     ghost fails: { Self → List ℕ → DiskFault → Type 0 };
 
     // The file at a path took these bytes, and has no others.
     ghost takes: { Self → List ℕ → List ℕ → Type 0 };
 
-    // The file at a path wasn't written, for this reason.
+    // The file at a path was not written, for this reason.
     ghost refuses: { Self → List ℕ → DiskFault → Type 0 };
 
     /// The bytes that the file at `path` gives.
@@ -72,8 +72,8 @@ impl<R: Files> Disk for HostDisk<'_, R> {
 
     ghost refuses = { λ _ _ _. ⊤ };
 
-    /// The first bytes of the file, or with `-` of standard input, at most one more than the greatest
-    /// number.
+    /// The first bytes of the file, or with `-` of standard input, at most one more than the
+    /// greatest number.
     fn read(&self, alloc: Global, path: &str) -> Result<Vec<u8>, DiskFault> {
         let path = if path == "-" { STANDARD_INPUT } else { path };
         match File::open(self.rt, path) {
@@ -112,7 +112,7 @@ fn write_bytes<W: Write>(writer: &mut W, bytes: &[u8]) -> Result<(), DiskFault>
     }
 }
 
-/// Why a file wasn't read or written, by the kind of the error.
+/// Why a file was not read or written, by the kind of the error.
 pub(crate) fn reason(kind: ErrorKind) -> DiskFault
     ensures memory { (result ≡ DiskFault.Memory) ↔ (kind ≡ ErrorKind.OutOfMemory) }
     ensures absent { (result ≡ DiskFault.Absent) ↔ (kind ≡ ErrorKind.NotFound) }

@@ -15,7 +15,7 @@ use std::io;
 use std::io::{BufWriter, Write};
 
 /// Prints the answer through a buffer, of which nothing is left behind; the writer, which then has
-/// every line, and how the program ends. `complaints` gets the line of a task that isn't there.
+/// every line, and how the program ends. `complaints` gets the line of a task that is not there.
 ///
 /// # Errors
 ///
@@ -62,7 +62,7 @@ fn report<W: Write, E: Write>(
     }
 }
 
-/// Writes the line of what stands against a text; that of a task that isn't there goes to
+/// Writes the line of what stands against a text; that of a task that is not there goes to
 /// `complaints`.
 fn stopped<W: Write, E: Write>(out: &mut W, complaints: &mut E, stop: &Stop) -> io::Result<()>
     ensures { OnOk result

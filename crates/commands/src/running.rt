@@ -26,12 +26,13 @@ use workers::Closed;
 pub type RunEnd = Result<Closed<SimBus, ScriptedClock>, PlayStop>;
 
 /// Reads the files that are named, the binding before the text, that before the scenario and that
-/// before the kept values, runs the scenario in threads and prints what it came to; the writer, which
-/// then has every line, and what it came to. `complaints` gets what became of the file of kept values.
+/// before the kept values, runs the scenario in threads and prints what it came to; the writer,
+/// which then has every line, and what it came to. `complaints` gets what became of the file of
+/// kept values.
 ///
 /// # Errors
 ///
-/// The first file that isn't read, or the writer's error.
+/// The first file that is not read, or the writer's error.
 pub fn serve_run<'a, D: Disk, W: Write + Drop, E: Write, R: Threads + Wait + Timer + Sync>(
     rt: &R,
     alloc: Global,
@@ -88,7 +89,7 @@ fn report<W: Write>(out: &mut W, end: &RunEnd) -> io::Result<()> {
 /// # Errors
 ///
 /// The binding's fault, else what stands against the text, else the scenario's fault, else why the
-/// plant doesn't start.
+/// plant does not start.
 fn run_pages<E: Write, R: Threads + Wait + Timer + Sync>(
     rt: &R,
     alloc: Global,

@@ -13,14 +13,14 @@ use std::alloc::Global;
 use std::io;
 use std::io::Write;
 
-/// Why a command isn't served.
+/// Why a command is not served.
 #[derive(Drop)]
 pub enum Unserved<'a> {
-    /// A file wasn't read.
+    /// A file was not read.
     NotRead { path: &'a str, why: DiskFault },
-    /// A file wasn't written.
+    /// A file was not written.
     NotWritten { path: &'a str, why: DiskFault },
-    /// The answer wasn't printed.
+    /// The answer was not printed.
     NotPrinted(io::Error),
 }
 
@@ -37,11 +37,11 @@ impl From<io::Error> for Unserved<'_> {
 
 /// Reads the files that the inquiry names, the binding before the text, and prints the answer;
 /// the writer, which then has every line, and how the program ends. `complaints` gets the line of a
-/// task that isn't there.
+/// task that is not there.
 ///
 /// # Errors
 ///
-/// The first file that isn't read, or the writer's error.
+/// The first file that is not read, or the writer's error.
 pub fn serve<'a, D: Disk, W: Write + Drop, E: Write>(
     alloc: Global,
     disk: &D,

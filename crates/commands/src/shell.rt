@@ -28,8 +28,8 @@ use std::time::Clock as Timer;
 use std::{env, io};
 
 /// Reads the command line and does what it asks for. `threads` is the runtime whose threads the
-/// commands `run` and `live` take, and whose locks and clock; `site` is where the lines of `live` are
-/// opened. No other command asks for them.
+/// commands `run` and `live` take, and whose locks and clock; `site` is where the lines of `live`
+/// are opened. No other command asks for them.
 pub fn run<R, T, S>(rt: &R, threads: &T, site: &S) -> ExitStatus
 where
     R: Files + Env + Print + Eprint + AllocGlobal,
@@ -50,7 +50,8 @@ where
 ///
 /// # Errors
 ///
-/// One of them isn't UTF-8 (`InvalidData`), the allocator is out of memory, or they can't be read.
+/// One of them is not UTF-8 (`InvalidData`), the allocator is out of memory, or they cannot be
+/// read.
 fn words<R: Env + AllocGlobal>(rt: &R) -> io::Result<Vec<String>> {
     let mut words = Vec::new(rt.alloc());
     for word in env::args(rt)? {
@@ -242,7 +243,8 @@ where
     }
 }
 
-/// The machine's standard error, which is told what is about to run, and why a building doesn't run.
+/// The machine's standard error, which is told what is about to run, and why a building does not
+/// run.
 #[derive(Clone, Copy)]
 pub(crate) struct HostNotice<'a, R> {
     pub rt: &'a R,
@@ -266,7 +268,7 @@ impl<R: Eprint> Notice for HostNotice<'_, R> {
     }
 }
 
-/// Reports why a command isn't served.
+/// Reports why a command is not served.
 pub(crate) fn not_served<R: Print + Eprint>(rt: &R, unserved: Unserved) -> ExitStatus {
     match unserved {
         Unserved::NotRead { path, why } => not_read(rt, path, why),
@@ -275,7 +277,7 @@ pub(crate) fn not_served<R: Print + Eprint>(rt: &R, unserved: Unserved) -> ExitS
     }
 }
 
-/// Reports that a file wasn't read, and why.
+/// Reports that a file was not read, and why.
 fn not_read<R: Print + Eprint>(rt: &R, path: &str, why: DiskFault) -> ExitStatus {
     let why = match why {
         DiskFault::Memory => return no_memory(rt),
@@ -290,7 +292,7 @@ fn not_read<R: Print + Eprint>(rt: &R, path: &str, why: DiskFault) -> ExitStatus
     )
 }
 
-/// Reports that a file wasn't written.
+/// Reports that a file was not written.
 fn not_written<R: Print + Eprint>(rt: &R, path: &str, why: DiskFault) -> ExitStatus {
     match why {
         DiskFault::Memory => no_memory(rt),
@@ -308,7 +310,7 @@ fn misplaced<R: Print + Eprint>(rt: &R, fault: &PathFault) -> ExitStatus {
     }
 }
 
-/// Reports that a word of the command line isn't text.
+/// Reports that a word of the command line is not text.
 fn not_text<R: Print + Eprint>(rt: &R) -> ExitStatus {
     printed(
         rt,
@@ -340,7 +342,7 @@ fn no_output<R: Eprint>(rt: &R) -> ExitStatus {
 }
 
 /// The exit status, where what it goes with was printed on standard error. Wrong usage is wrong
-/// usage also where the message of it can't be printed.
+/// usage also where the message of it cannot be printed.
 fn printed<R: Print + Eprint>(rt: &R, done: io::Result<()>, status: ExitStatus) -> ExitStatus {
     match (done, status) {
         (Ok(()), _) | (Err(_), ExitStatus::Misused) => status,

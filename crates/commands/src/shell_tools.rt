@@ -223,7 +223,7 @@ where
     ended(rt, end)
 }
 
-/// Reports that a file can't be written.
+/// Reports that a file cannot be written.
 fn not_opened<R: Eprint>(rt: &R, path: &str) -> ExitStatus {
     let _told = eprintln!(rt; "cannot write {path}");
     ExitStatus::Failed

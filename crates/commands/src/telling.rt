@@ -65,12 +65,12 @@ impl<'a> AskedFiles<'a> {
 
 /// Reads the files that are named, the binding before the text and that before a scenario, and
 /// prints what is asked of them; the writer, which then has all of it, and how the program ends.
-/// `complaints` gets the line of a task or of notes that aren't there. What is printed is by rows
+/// `complaints` gets the line of a task or of notes that are not there. What is printed is by rows
 /// alone.
 ///
 /// # Errors
 ///
-/// The first file that isn't read, or the writer's error.
+/// The first file that is not read, or the writer's error.
 pub fn serve_question<'a, D: Disk, W: Write + Drop, E: Write>(
     alloc: Global,
     disk: &D,

@@ -47,8 +47,8 @@ pub struct ToolLine<'a> {
 ///
 /// # Errors
 ///
-/// It can't be opened, its interface does not greet, or the allocator is out of memory. Nothing was
-/// sent.
+/// It cannot be opened, its interface does not greet, or the allocator is out of memory. Nothing
+/// was sent.
 fn opened<'a, S: Site>(alloc: Global, site: &S, at: ToolLine<'a>) -> Result<S::Line, LiveStop<'a>> {
     let ToolLine { line, patience } = at;
     let Some(number) = BusNumber::new(line.bus) else {
@@ -76,7 +76,7 @@ pub struct ProbeWish<'a> {
 ///
 /// # Errors
 ///
-/// A file isn't read, or a writer's error.
+/// A file is not read, or a writer's error.
 pub fn probe<'a, D: Disk, S: Site, W: Write, P: Write, R: Write>(
     alloc: Global,
     disk: &D,
@@ -125,7 +125,7 @@ pub fn probe<'a, D: Disk, S: Site, W: Write, P: Write, R: Write>(
 ///
 /// # Errors
 ///
-/// A file isn't read.
+/// A file is not read.
 fn setup_at<'a, D: Disk>(
     alloc: Global,
     disk: &D,
@@ -143,7 +143,7 @@ fn setup_at<'a, D: Disk>(
 ///
 /// # Errors
 ///
-/// The binding isn't read, or the writer's error.
+/// The binding is not read, or the writer's error.
 pub fn listen<'a, D: Disk, S: Site, W: Write, P: Write, R: Timer, E: StopCondition>(
     alloc: Global,
     disk: &D,

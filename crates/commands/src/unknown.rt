@@ -1,4 +1,4 @@
-//! What is said of variables that aren't there: each with those that are.
+//! What is said of variables that are not there: each with those that are.
 
 use expectations::report_unknown;
 use ilplan::Plan;
@@ -8,8 +8,8 @@ use std::io;
 use std::io::Write;
 use watching::report_unwatchable;
 
-/// Writes a line for each name that is expected and that no global variable has, with those that there
-/// are.
+/// Writes a line for each name that is expected and that no global variable has, with those that
+/// there are.
 ///
 /// # Errors
 ///

@@ -14,14 +14,14 @@ use std::rt::Files;
 use std::{fmt, io};
 use wordlines::{Binding, BoundSource, hex_of, number_of, parts_around_dot};
 
-/// Prints what frames say, a line each, or with `-` alone the lines of standard input with what their
-/// frames say; the writer, which then has every line, and how the program ends. Where a word is no
-/// frame nothing is printed, and `complaints` gets a line for each such word. What is printed is by
-/// rows alone.
+/// Prints what frames say, a line each, or with `-` alone the lines of standard input with what
+/// their frames say; the writer, which then has every line, and how the program ends. Where a word
+/// is no frame nothing is printed, and `complaints` gets a line for each such word. What is printed
+/// is by rows alone.
 ///
 /// # Errors
 ///
-/// Standard input isn't read, or the writer's error.
+/// Standard input is not read, or the writer's error.
 pub(crate) fn serve_frames<'a, R: Files, W: Write + Drop, E: Write>(
     rt: &R,
     alloc: Global,
@@ -104,12 +104,12 @@ pub(crate) fn frame_of(word: &str) -> Option<Frame> {
 }
 
 /// Reads the binding at a path, and prints the line of a scenario for an event of its source at a
-/// place `B.K` with this information; the writer, which then has the line, and how the program ends.
-/// What stands against that goes to `complaints`. What is printed is by rows alone.
+/// place `B.K` with this information; the writer, which then has the line, and how the program
+/// ends. What stands against that goes to `complaints`. What is printed is by rows alone.
 ///
 /// # Errors
 ///
-/// The binding isn't read, or the writer's error.
+/// The binding is not read, or the writer's error.
 pub(crate) fn serve_event<'a, D: Disk, W: Write + Drop, E: Write>(
     alloc: Global,
     disk: &D,
@@ -203,7 +203,7 @@ impl fmt::Display for EventRefusal<'_> {
 /// How many places of a binding are named where another one was asked for.
 const MOST_NAMED: usize = 8;
 
-/// Writes which places are bound, up to so many.
+/// Writes which places are bound, up to the most that are named.
 fn write_bound<W: fmt::Write>(f: &mut fmt::Formatter<W>, binding: &Binding) -> fmt::Result {
     for (index, bound) in binding.sources().iter().enumerate() {
         write_named(f, index, *bound)?;
@@ -236,7 +236,8 @@ fn write_named<W: fmt::Write>(
 ///
 /// # Errors
 ///
-/// The word is no place, the binding's fault, nothing is bound there, or the information is too much.
+/// The word is no place, the binding's fault, nothing is bound there, or the information is too
+/// much.
 fn event_of<'a>(
     alloc: Global,
     bytes: &[u8],

@@ -81,7 +81,7 @@ hearing_then b p q r one two = record {
 
 -- ---- the events of all buses
 
-wider : (b c : ℕ) (events : List Event) → b ≤ c → AreHeardUpTo b events → AreHeardUpTo c events
+pub wider : (b c : ℕ) (events : List Event) → b ≤ c → AreHeardUpTo b events → AreHeardUpTo c events
 wider b c [] few are = tt
 wider b c (Heard d f ∷ events) few are = let le = are.0 in (omega (arith, le, few), are.1)
 wider b c (Down d ∷ events) few are = let le = are.0 in (omega (arith, le, few), are.1)
@@ -93,7 +93,7 @@ wider b c (Done d n r ∷ events) few are = absurd are
 wider b c (Up d ∷ events) few are = absurd are
 
 -- those of a bus come after those of the buses before it
-up_to_next : (b : ℕ) (newer older : List Event) → AreHeardOn b newer → AreHeardUpTo b older
+pub up_to_next : (b : ℕ) (newer older : List Event) → AreHeardOn b newer → AreHeardUpTo b older
     → AreHeardUpTo b (newer ++ older)
 up_to_next b [] older one two = two
 up_to_next b (Heard c f ∷ newer) older one two =

@@ -5,6 +5,7 @@ pub mod Counts
 pub mod Handed
 pub mod Hearing
 pub mod Linked
+pub mod Order
 pub mod Refused
 pub mod Scanned
 pub mod Sent

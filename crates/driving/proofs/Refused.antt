@@ -69,7 +69,7 @@ idle_tells p q b refusal same is idle = (
       (not (nat_lt 0 (length (handouts p.plant b p.history)))) (is_full p) refusal is idle),
 )
 
--- it can't go on, since the history is full
+-- it cannot go on, since the history is full
 idle_stops : (p q : Shown) (b : ℕ) (refusal : CallRefusal) → q ≡ p → b < p.plant.plan.buses → HasNothingOpen p
     → first_refusal (hand_cases p b) ≡ Some refusal → refusal ≢ NothingReady → refusal ≢ BusDown
     → CannotGoOn q (Refused refusal)

@@ -1,4 +1,4 @@
--- What driving a plant on its buses does, and why it can't go on (profile).
+-- What driving a plant on its buses does, and why it cannot go on (profile).
 use Rattle.std.specs.Prelude.{◌≡◌, ◌≢◌, ◌⊎◌, ℕ, ◌<◌, ◌≤◌, List, [], ◌∷◌, ◌++◌, length, Result, Ok, Err, Some, None, ⊤}
 use Rattle.buslink.specs.BusLog.{BusLog, IsSameBus, with_spare}
 use Rattle.buslink.specs.Performing.{after_report}
@@ -17,6 +17,7 @@ use Rattle.driving.specs.declared.halt.Halt.{Halt}
 use Rattle.driving.specs.declared.halt.Halt.TheVariants.{Refused, Memory, Unwritten}
 use Rattle.driving.specs.Links.{AreLinked, HasHeard, log_of}
 use Rattle.driving.specs.Open.{HasNothingOpen}
+use Rattle.driving.specs.Order.{IsInTurn}
 use Rattle.driving.specs.Quiet.{HasNoFrame}
 
 -- ---- what was done
@@ -52,14 +53,25 @@ pub record IsHeard (p q : Shown) (before after : List BusLog) : Type 0 where
   pub order : AreHeardUpTo p.plant.plan.buses events
   pub silent : (b : ℕ) → b < p.plant.plan.buses → HasNoFrame q b (log_of before b) (log_of after b)
 
--- that is what was done first
+-- that is what was done first; and then scans were made and buses sent and heard, in their turns
 pub record IsHeardFirst (p q : Shown) (before after : List BusLog) : Type 0 where
   pub between : Shown
   pub logs : List BusLog
   pub heard : IsHeard p between before logs
   pub rest : IsDriven between q logs after
+  pub turns : IsInTurn between q
 
--- ---- why it can't go on
+-- However far it got: first buses heard, in the order of their numbers; then scans were made and buses sent and heard,
+-- in their turns.
+pub record IsInOrder (p q : Shown) : Type 0 where
+  pub between : Shown
+  pub events : List Event
+  pub history : between.history ≡ events ++ p.history
+  pub heard : AreHeardUpTo p.plant.plan.buses events
+  pub plant : between.plant ≡ p.plant
+  pub turns : IsInTurn between q
+
+-- ---- why it cannot go on
 
 -- A turn is refused, since the history is full: the next scan, the next transaction of a bus, or its next frame.
 abbrev pub IsStuck : Shown → Type 0

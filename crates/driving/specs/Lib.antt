@@ -3,6 +3,7 @@ pub mod Driven
 pub mod Halts
 pub mod Links
 pub mod Open
+pub mod Order
 pub mod Quiet
 pub mod Ticks
 pub mod TurnSteps

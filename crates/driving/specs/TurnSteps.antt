@@ -12,6 +12,7 @@ use Rattle.driving.specs.declared.halt.Halt.TheVariants.{Refused, Memory, Unwrit
 use Rattle.driving.specs.Driven.{AreHeardUpTo, IsDriven}
 use Rattle.driving.specs.Links.{IsLinked, HasHeard, log_of}
 use Rattle.driving.specs.Open.{HasNothingOpen}
+use Rattle.driving.specs.Order.{CameInTurn, HaveNothing, IsInTurn, place_after}
 use Rattle.driving.specs.Quiet.{HasNoHandout, HasNoFrame}
 
 -- nothing happened on bus b from h to g
@@ -99,3 +100,28 @@ pub record HaveHeard (p q : Shown) (before after : List BusLog) (n : ℕ) : Type
   pub history : q.history ≡ events ++ p.history
   pub order : AreHeardUpTo n events
   pub silent : (b : ℕ) → b < n → HasNoFrame q b (log_of before b) (log_of after b)
+
+-- buses, in the order of their numbers, heard something
+pub record AreHeardInOrder (p q : Shown) : Type 0 where
+  pub events : List Event
+  pub history : q.history ≡ events ++ p.history
+  pub order : AreHeardUpTo p.plant.plan.buses events
+
+-- ---- whose turn it is
+
+-- the events from p to q came in their turns, and now it is the turn of this place
+pub record IsTurnOf (p q : Shown) (place : ℕ) : Type 0 where
+  pub events : List Event
+  pub history : q.history ≡ events ++ p.history
+  pub plant : q.plant ≡ p.plant
+  pub order : CameInTurn p events
+  pub passed : HaveNothing q (place_after events) place
+
+-- what happened from p to q came in its turn, which goes on from one place to another
+abbrev pub GoesOn : ℕ → ℕ → Shown → Shown → Type 0
+GoesOn from to p q = (first : Shown) → IsTurnOf first p from → IsTurnOf first q to
+
+-- or it stopped on the way
+abbrev pub GoesTo : {A : Type 0} → ℕ → ℕ → Shown → Shown → Result A Halt → Type 0
+GoesTo from to p q (Ok done) = GoesOn from to p q
+GoesTo from to p q (Err halt) = (first : Shown) → IsTurnOf first p from → IsInTurn first q

@@ -1,7 +1,7 @@
 //! A plant with nothing open.
 
 ghost use Rattle.std.specs.Prelude.{◌≡◌, ◌<◌, IfErr, OnOk, map, vec_len};
-ghost use Rattle.driving.specs.Driven.{CannotGoOn, IsDriven, IsHeardFirst};
+ghost use Rattle.driving.specs.Driven.{CannotGoOn, IsDriven, IsHeardFirst, IsInOrder};
 ghost use Rattle.driving.specs.Open.{HasNothingOpen};
 ghost use Rattle.driving.specs.Quiet.{IsQuiet};
 ghost use Rattle.driving.specs.Ticks.{TicksAt};
@@ -82,6 +82,7 @@ impl IdlePlant {
         requires count { vec_len lines.old ≡ self.old.plant.plan.buses }
         ensures driven { IsDriven self.old self.new (map B.log lines.old.items)
             (map B.log lines.new.items) }
+        ensures order { IsInOrder self.old self.new }
         ensures heard { OnOk result (IsHeardFirst self.old self.new (map B.log lines.old.items)
             (map B.log lines.new.items)) }
         ensures quiet { OnOk result

@@ -5,7 +5,7 @@
 //! What crosses the boundary: [`settle`] takes a plant in which nothing is open, with a line for
 //! each of its buses; [`send_next`] is the turn of one bus. What they did is `IsDriven`, what is
 //! known where nothing is left is `IsQuiet` (specs/Quiet.antt), the definition to read first, and
-//! why they can't go on is `CannotGoOn` (specs/Driven.antt).
+//! why they cannot go on is `CannotGoOn` (specs/Driven.antt).
 //!
 //! ```text
 //! settle(alloc, &mut plant, &mut lines, &mut observer)?; // until nothing is left to do

@@ -1,6 +1,7 @@
 //! Who is told what happens at a plant.
 
 use daliframe::Frame24;
+use plant::Plant;
 use plantevents::Origin;
 use std::io;
 use transact::{Report, Transaction};
@@ -39,7 +40,7 @@ pub trait Observer<B> {
         Ok(())
     }
 
-    /// A scan worker committed the scan of a task, which took so many steps.
+    /// A scan worker committed the scan of a task, which took these steps.
     ///
     /// # Errors
     ///
@@ -51,6 +52,16 @@ pub trait Observer<B> {
         _task: usize,
         _steps: u32,
     ) -> io::Result<()> {
+        Ok(())
+    }
+
+    /// Behind that scan of the task the plant is as it is here. This is told where one thread
+    /// drives the plant; one that lies under a lock is lent to nobody.
+    ///
+    /// # Errors
+    ///
+    /// What was told is not kept.
+    fn note_values(&mut self, _plant: &Plant, _task: usize) -> io::Result<()> {
         Ok(())
     }
 

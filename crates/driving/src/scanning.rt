@@ -1,10 +1,11 @@
 //! Scans of tasks.
 
-ghost use Rattle.std.specs.Prelude.{◌<◌, IfErr};
+ghost use Rattle.std.specs.Prelude.{◌<◌, IfErr, OnOk};
 ghost use Rattle.driving.specs.Driven.{CannotGoOn};
 ghost use Rattle.driving.specs.Open.{HasNothingOpen};
+ghost use Rattle.driving.specs.Order.{scans_at};
 ghost use Rattle.driving.specs.Quiet.{HasNoScan};
-ghost use Rattle.driving.specs.TurnSteps.{IsScanStep, IsTold, Tells};
+ghost use Rattle.driving.specs.TurnSteps.{GoesOn, IsScanStep, IsTold, Tells};
 
 use crate::{Halt, Observer};
 use ilmachine::scan_into;
@@ -15,9 +16,11 @@ use std::io;
 /// The number of the scan worker that makes the scans.
 const WORKER: usize = 0;
 
-/// Tells that a scan was committed, unless it failed to tell that its task was taken.
+/// Tells that a scan was committed, and what the plant is since then, unless it failed to tell that
+/// its task was taken.
 fn tell_scan<B, O: Observer<B>>(
     observer: &mut O,
+    plant: &Plant,
     took: io::Result<()>,
     place: u64,
     task: usize,
@@ -27,6 +30,7 @@ fn tell_scan<B, O: Observer<B>>(
 {
     took?;
     observer.note_commit(place, WORKER, task, steps)?;
+    observer.note_values(plant, task)?;
     Ok(true)
 }
 
@@ -40,6 +44,7 @@ pub(crate) fn scan_next<B, O: Observer<B>>(
     requires open { HasNothingOpen plant.old }
     ensures step { IsScanStep plant.old plant.new }
     ensures turn { Tells plant.old plant.new (HasNoScan plant.old) result }
+    ensures goes_on { GoesOn scans_at scans_at plant.old plant.new }
     ensures stops { IfErr result (CannotGoOn plant.new) }
 {
     let order = match plant.take(alloc, WORKER) {
@@ -54,7 +59,7 @@ pub(crate) fn scan_next<B, O: Observer<B>>(
     let Ok(()) = plant.commit(WORKER, made) else {
         unreachable!()
     };
-    tell_scan::<B, O>(observer, took, place.saturating_add(1), task, steps)
+    tell_scan::<B, O>(observer, plant, took, place.saturating_add(1), task, steps)
 }
 
 /// Takes and commits all tasks that are ready, one after another. Whether there were any.
@@ -67,6 +72,8 @@ pub(crate) fn scan_all<B, O: Observer<B>>(
     requires open { HasNothingOpen plant.old }
     ensures step { IsScanStep plant.old plant.new }
     ensures turn { Tells plant.old plant.new (HasNoScan plant.old) result }
+    ensures goes_on { GoesOn scans_at scans_at plant.old plant.new }
+    ensures none { OnOk result (HasNoScan plant.new) }
     ensures stops { IfErr result (CannotGoOn plant.new) }
 {
     let mut any = false;

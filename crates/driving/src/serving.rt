@@ -1,6 +1,6 @@
 //! What is sent and heard on a bus.
 
-ghost use Rattle.std.specs.Prelude.{◌≡◌, ◌≢◌, ◌<◌, ◌≤◌, IfErr, OnOk};
+ghost use Rattle.std.specs.Prelude.{◌≡◌, ◌≢◌, ◌+◌, ◌<◌, ◌≤◌, IfErr, OnOk};
 ghost use Rattle.transact.specs.Attempts.{most_sent};
 ghost use Rattle.transact.specs.declared.marks.Outcome.TheVariants as outcomes;
 ghost use Rattle.plantevents.specs.declared.event.Event.TheVariants.{Done, Down};
@@ -10,8 +10,10 @@ ghost use Rattle.plant.specs.Shown.{grown};
 ghost use Rattle.driving.specs.declared.halt.Halt.TheVariants as halts;
 ghost use Rattle.driving.specs.Driven.{CannotGoOn, SendsNext};
 ghost use Rattle.driving.specs.Open.{HasNothingOpen};
+ghost use Rattle.driving.specs.Order.{sends_at};
 ghost use Rattle.driving.specs.Quiet.{HasNoFrame, HasNoHandout};
-ghost use Rattle.driving.specs.TurnSteps.{IsBusStep, IsHearing, IsIdleOr, IsTold, Tells};
+ghost use Rattle.driving.specs.TurnSteps.{GoesOn, GoesTo, IsBusStep, IsHearing, IsIdleOr, IsTold};
+ghost use Rattle.driving.specs.TurnSteps.{Tells};
 
 use crate::{Halt, Observer};
 use buslink::{Bus, perform};
@@ -99,7 +101,7 @@ pub fn send_next<B: Bus, O: Observer<B>>(
     Ok(())
 }
 
-/// Where there is nothing to send, or the bus is down, nothing is done; else it can't go on.
+/// Where there is nothing to send, or the bus is down, nothing is done; else it cannot go on.
 fn idle_where_refused(halt: Halt) -> Result<bool, Halt>
     ensures { IsIdleOr halt result }
 {
@@ -120,6 +122,7 @@ fn send_turn<B: Bus, O: Observer<B>>(
     requires open { HasNothingOpen plant.old }
     ensures step { IsBusStep bus plant.old plant.new (B.log line.old) (B.log line.new) }
     ensures turn { Tells plant.old plant.new (HasNoHandout plant.old bus) result }
+    ensures goes_on { GoesOn (sends_at bus) (sends_at bus) plant.old plant.new }
     ensures stops { IfErr result (CannotGoOn plant.new) }
 {
     match send_next(plant, bus, line, observer) {
@@ -139,6 +142,8 @@ fn send_all<B: Bus, O: Observer<B>>(
     requires open { HasNothingOpen plant.old }
     ensures step { IsBusStep bus plant.old plant.new (B.log line.old) (B.log line.new) }
     ensures turn { Tells plant.old plant.new (HasNoHandout plant.old bus) result }
+    ensures goes_on { GoesOn (sends_at bus) (sends_at bus) plant.old plant.new }
+    ensures none { OnOk result (HasNoHandout plant.new bus) }
     ensures stops { IfErr result (CannotGoOn plant.new) }
 {
     let mut any = false;
@@ -175,6 +180,8 @@ fn hear_next<B: Bus, O: Observer<B>>(
     ensures only { IsHearing bus plant.old plant.new }
     ensures turn { Tells plant.old plant.new
         (HasNoFrame plant.old bus (B.log line.old) (B.log line.new)) result }
+    ensures goes_on { HasNoHandout plant.old bus
+        → GoesOn (sends_at bus) (sends_at (bus + 1)) plant.old plant.new }
     ensures stops { IfErr result (CannotGoOn plant.new) }
 {
     line.room(1)?;
@@ -236,6 +243,7 @@ pub(crate) fn turn<B: Bus, O: Observer<B>>(
     ensures step { IsBusStep bus plant.old plant.new (B.log line.old) (B.log line.new) }
     ensures turn { Tells plant.old plant.new (HasNoHandout plant.old bus
         × HasNoFrame plant.old bus (B.log line.old) (B.log line.new)) result }
+    ensures goes_on { GoesTo (sends_at bus) (sends_at (bus + 1)) plant.old plant.new result }
     ensures stops { IfErr result (CannotGoOn plant.new) }
 {
     let sent = send_all(plant, bus, line, observer)?;

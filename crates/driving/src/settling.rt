@@ -1,11 +1,12 @@
 //! Turns until nothing is left to do.
 
-ghost use Rattle.std.specs.Prelude.{◌≡◌, ◌≢◌, ℕ, ◌<◌, map, vec_len, IfErr, OnOk};
-ghost use Rattle.driving.specs.Driven.{CannotGoOn, IsDriven, IsHeard, IsHeardFirst};
+ghost use Rattle.std.specs.Prelude.{◌≡◌, ◌≢◌, ℕ, ◌+◌, ◌<◌, map, vec_len, IfErr, OnOk};
+ghost use Rattle.driving.specs.Driven.{CannotGoOn, IsDriven, IsHeard, IsHeardFirst, IsInOrder};
 ghost use Rattle.driving.specs.Links.{log_of};
 ghost use Rattle.driving.specs.Open.{HasNothingOpen};
+ghost use Rattle.driving.specs.Order.{scans_at, sends_at};
 ghost use Rattle.driving.specs.Quiet.{HasNoFrame, HasNoHandout, IsQuiet};
-ghost use Rattle.driving.specs.TurnSteps.{AreQuiet, IsHearing, Tells};
+ghost use Rattle.driving.specs.TurnSteps.{AreHeardInOrder, AreQuiet, GoesTo, IsHearing, Tells};
 
 use crate::scanning::scan_all;
 use crate::serving::{hear_all, turn};
@@ -46,6 +47,7 @@ fn hear_buses<B: Bus, O: Observer<B>>(
         (map B.log lines.new.items) }
     ensures heard { OnOk result (IsHeard plant.old plant.new (map B.log lines.old.items)
         (map B.log lines.new.items)) }
+    ensures order { AreHeardInOrder plant.old plant.new }
     ensures stops { IfErr result (CannotGoOn plant.new) }
 {
     let buses = plant.setup().plan().buses();
@@ -72,6 +74,7 @@ fn turn_at<B: Bus, O: Observer<B>>(
     ensures turn { Tells plant.old plant.new (HasNoHandout plant.old bus
         × HasNoFrame plant.old bus (log_of (map B.log lines.old.items) bus)
         (log_of (map B.log lines.new.items) bus)) result }
+    ensures goes_on { GoesTo (sends_at bus) (sends_at (bus + 1)) plant.old plant.new result }
     ensures stops { IfErr result (CannotGoOn plant.new) }
 {
     turn(plant, bus, &mut lines[usize::from(bus)], observer)
@@ -90,6 +93,8 @@ fn turn_all<B: Bus, O: Observer<B>>(
     ensures turn { Tells plant.old plant.new
         (AreQuiet plant.old (map B.log lines.old.items) (map B.log lines.new.items)
         plant.old.plant.plan.buses) result }
+    ensures goes_on { GoesTo (sends_at 0) (sends_at plant.old.plant.plan.buses)
+        plant.old plant.new result }
     ensures stops { IfErr result (CannotGoOn plant.new) }
 {
     let mut any = false;
@@ -116,6 +121,7 @@ fn round<B: Bus, O: Observer<B>>(
         (map B.log lines.new.items) }
     ensures turn { Tells plant.old plant.new
         (IsQuiet plant.new (map B.log lines.old.items) (map B.log lines.new.items)) result }
+    ensures goes_on { GoesTo scans_at scans_at plant.old plant.new result }
     ensures stops { IfErr result (CannotGoOn plant.new) }
 {
     let scanned = scan_all::<B, O>(alloc, plant, observer)?;
@@ -137,6 +143,7 @@ fn finish<B: Bus, O: Observer<B>>(
         (map B.log lines.new.items) }
     ensures quiet { OnOk result
         (IsQuiet plant.new (map B.log lines.old.items) (map B.log lines.new.items)) }
+    ensures goes_on { GoesTo scans_at scans_at plant.old plant.new result }
     ensures stops { IfErr result (CannotGoOn plant.new) }
 {
     for _ in 0..plant.limit() + 1 {
@@ -170,6 +177,7 @@ pub fn settle<B: Bus, O: Observer<B>>(
     requires open { HasNothingOpen plant.old }
     ensures driven { IsDriven plant.old plant.new (map B.log lines.old.items)
         (map B.log lines.new.items) }
+    ensures order { IsInOrder plant.old plant.new }
     ensures heard { OnOk result (IsHeardFirst plant.old plant.new (map B.log lines.old.items)
         (map B.log lines.new.items)) }
     ensures quiet { OnOk result

@@ -39,7 +39,8 @@ Comes (HearFault b) s t = t ≡ arriving b s
 
 -- ---- what follows
 
--- first each bus, in the order of their numbers, heard all that had come; and then nothing was left to do
+-- first each bus, in the order of their numbers, heard all that had come; then scans and buses had their turns, until
+-- nothing was left to do
 pub record HasSettled (s t : Stage) : Type 0 where
   pub heard : IsHeardFirst s.plant t.plant s.logs t.logs
   pub quiet : IsQuiet t.plant s.logs t.logs

@@ -4,10 +4,10 @@
 //! What crosses the boundary: [`Installation`] is a plant with a bus interface for each of its
 //! buses; [`open`] makes one of the simulated buses of a scenario, to which nothing has happened.
 //! [`play`] plays the scenario on it, writes each event as a line, and says how that ended;
-//! [`play_watched`] writes too how variables change, and [`play_on`] tells the events to an observer
-//! of the caller's. The definition to read first is
-//! `Happens` (specs/Stage.antt), what one line of a scenario does; then `IsPlayedTo`, how a play
-//! ends, and `IsInstallation` (specs/Installations.antt), what it begins with.
+//! [`play_watched`] writes too how variables change, and [`play_on`] tells the events to an
+//! observer of the caller's. The definition to read first is `Happens` (specs/Stage.antt), what one
+//! line of a scenario does; then `IsPlayedTo`, how a play ends, and `IsInstallation`
+//! (specs/Installations.antt), what it begins with.
 //!
 //! ```text
 //! let mut installation = open(alloc, setup, &scenario, limit)?;

@@ -4,6 +4,7 @@ use daliframe::{Frame, Frame24};
 use driving::Observer;
 use framewords::FramesWords;
 use ilplan::Plan;
+use plant::Plant;
 use plantevents::Origin;
 use std::alloc::{AllocError, Global};
 use std::io::Write;
@@ -26,13 +27,13 @@ pub enum FrameStyle {
 pub(crate) struct Lines<'a, W> {
     out: &'a mut W,
     style: FrameStyle,
-    watch: Option<Watch>,
+    watch: Watch,
     /// The names of the tasks, by their numbers.
     tasks: Vec<String>,
 }
 
 impl<'a, W: Write> Lines<'a, W> {
-    /// Lines of a plant of this plan.
+    /// Lines of a plant, of whose variables those of these names are watched.
     ///
     /// # Errors
     ///
@@ -41,10 +42,11 @@ impl<'a, W: Write> Lines<'a, W> {
         alloc: Global,
         out: &'a mut W,
         style: FrameStyle,
-        watch: Option<Watch>,
-        plan: &Plan,
+        plant: &Plant,
+        watched: &[&str],
     ) -> Result<Self, AllocError> {
-        let tasks = task_names(alloc, plan)?;
+        let tasks = task_names(alloc, plant.setup().plan())?;
+        let watch = Watch::of(alloc, plant, watched)?;
         Ok(Lines {
             out,
             style,
@@ -73,16 +75,10 @@ fn name_of(tasks: &[String], task: usize) -> &str {
 
 impl<B, W: Write> Observer<B> for Lines<'_, W> {
     fn note_tick(&mut self, _place: u64, moment: u64) -> io::Result<()> {
-        if let Some(watch) = &mut self.watch {
-            watch.note_tick(moment);
-        }
         writeln!(self.out, "tick {moment}")
     }
 
     fn note_frame(&mut self, _place: u64, bus: u8, frame: Frame24) -> io::Result<()> {
-        if let Some(watch) = &mut self.watch {
-            watch.note_frame(bus, frame);
-        }
         let behind = WordsBehind {
             style: self.style,
             frames: &[Frame::Forward24(frame)],
@@ -91,9 +87,6 @@ impl<B, W: Write> Observer<B> for Lines<'_, W> {
     }
 
     fn note_take(&mut self, _place: u64, _worker: usize, task: usize) -> io::Result<()> {
-        if let Some(watch) = &mut self.watch {
-            watch.note_take()?;
-        }
         let name = name_of(&self.tasks, task);
         writeln!(self.out, "take {name}")
     }
@@ -106,11 +99,12 @@ impl<B, W: Write> Observer<B> for Lines<'_, W> {
         steps: u32,
     ) -> io::Result<()> {
         let name = name_of(&self.tasks, task);
-        writeln!(self.out, "commit {name} steps {steps}")?;
-        match &mut self.watch {
-            Some(watch) => watch.write_changes(self.out),
-            None => Ok(()),
-        }
+        writeln!(self.out, "commit {name} steps {steps}")
+    }
+
+    fn note_values(&mut self, plant: &Plant, task: usize) -> io::Result<()> {
+        self.watch.note_values(plant, task)?;
+        self.watch.write_changes(self.out)
     }
 
     fn note_handout(
@@ -120,9 +114,6 @@ impl<B, W: Write> Observer<B> for Lines<'_, W> {
         _origin: Origin,
         transaction: &Transaction,
     ) -> io::Result<()> {
-        if let Some(watch) = &mut self.watch {
-            watch.note_handout(bus);
-        }
         let handed = TransactionLine { bus, transaction };
         let behind = WordsBehind {
             style: self.style,
@@ -132,17 +123,11 @@ impl<B, W: Write> Observer<B> for Lines<'_, W> {
     }
 
     fn note_report(&mut self, _place: u64, bus: u8, report: &Report, _line: &B) -> io::Result<()> {
-        if let Some(watch) = &mut self.watch {
-            watch.note_report(bus, report);
-        }
         let outcome = report.outcome();
         writeln!(self.out, "done {}", OutcomeLine { bus, outcome })
     }
 
     fn note_down(&mut self, _place: u64, bus: u8) -> io::Result<()> {
-        if let Some(watch) = &mut self.watch {
-            watch.note_down(bus);
-        }
         writeln!(self.out, "down {bus}")
     }
 }

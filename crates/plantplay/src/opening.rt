@@ -41,7 +41,7 @@ pub fn open(
     }
 }
 
-/// The first simulated buses of a scenario, so many.
+/// The first simulated buses of a scenario, of the given number.
 fn buses_of(alloc: Global, buses: u8, scenario: &Scenario) -> Result<Vec<SimBus>, AllocError>
     requires { buses ≤ most_buses }
     ensures { IfOk result (λ made. made.items ≡ buses_of scenario.now buses) }

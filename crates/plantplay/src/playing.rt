@@ -18,13 +18,12 @@ use simbus::{Scenario, SimBus};
 use std::alloc::Global;
 use std::io;
 use std::io::Write;
-use watching::Watch;
 use wordlines::Happening;
 
 /// Plays a scenario: its ticks and events in order, each with what follows from it, and writes a
-/// line for each event of the history, with its frames in this style, then `limit` where the history
-/// was full before the scenario's end, and what is left at the end; or `no memory` as the last line
-/// where the allocator was out of memory.
+/// line for each event of the history, with its frames in this style, then `limit` where the
+/// history was full before the scenario's end, and what is left at the end; or `no memory` as the
+/// last line where the allocator was out of memory.
 ///
 /// # Errors
 ///
@@ -43,20 +42,20 @@ pub fn play<W: Write>(
         (stage_of installation.new)) }
     ensures legal { AreLegal installation.new.plant.plant installation.new.plant.history }
 {
-    play_watched(alloc, out, style, None, installation, scenario)
+    play_watched(alloc, out, style, &[], installation, scenario)
 }
 
-/// Plays a scenario as [`play`] does. Behind the line of each commit it writes one for each variable
-/// that is watched and has another value than was told last.
+/// Plays a scenario as [`play`] does. Behind the line of each commit it writes one for each
+/// variable of these names that has another value than was told last.
 ///
 /// # Errors
 ///
-/// The writer's, or that the watch is out of memory.
+/// The writer's, or that the values of variables have no memory.
 pub fn play_watched<W: Write>(
     alloc: Global,
     out: &mut W,
     style: FrameStyle,
-    watch: Option<Watch>,
+    watched: &[&str],
     installation: &mut Installation<SimBus>,
     scenario: &Scenario,
 ) -> io::Result<Ending>
@@ -67,7 +66,7 @@ pub fn play_watched<W: Write>(
         (stage_of installation.new)) }
     ensures legal { AreLegal installation.new.plant.plant installation.new.plant.history }
 {
-    let played = play_lines(alloc, out, style, watch, installation, scenario);
+    let played = play_lines(alloc, out, style, watched, installation, scenario);
     let _legal = installation.plant().len();
     let ending = played?;
     write_ending(out, ending, installation)?;
@@ -79,7 +78,7 @@ fn play_lines<W: Write>(
     alloc: Global,
     out: &mut W,
     style: FrameStyle,
-    watch: Option<Watch>,
+    watched: &[&str],
     installation: &mut Installation<SimBus>,
     scenario: &Scenario,
 ) -> io::Result<Ending>
@@ -89,13 +88,7 @@ fn play_lines<W: Write>(
         (λ error. IsPlayedSomeFar (happenings scenario.now) (stage_of installation.old)
         (stage_of installation.new)) }
 {
-    match Lines::new(
-        alloc,
-        out,
-        style,
-        watch,
-        installation.plant().setup().plan(),
-    ) {
+    match Lines::new(alloc, out, style, installation.plant(), watched) {
         Ok(mut lines) => play_on(alloc, installation, scenario, &mut lines),
         Err(_) => Ok(Ending::NoMemory),
     }
@@ -166,7 +159,7 @@ impl Installation<SimBus> {
         Ok(())
     }
 
-    /// Plays what happens by one line, with all that follows from it. A line of a bus that isn't
+    /// Plays what happens by one line, with all that follows from it. A line of a bus that is not
     /// there does nothing; a fault of hearing is met by the next call that hears.
     fn happen<O: Observer<SimBus>>(
         &mut self,

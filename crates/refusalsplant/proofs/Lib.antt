@@ -6,5 +6,6 @@ pub mod HeardFirst
 pub mod Played
 pub mod Refusing
 pub mod Results
+pub mod SentInTurn
 pub mod TaskTurns
 pub mod Turned

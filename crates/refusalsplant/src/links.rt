@@ -1,13 +1,20 @@
 //! What is sent and heard on buses, and what the history says of that.
 
-ghost use Rattle.std.specs.Prelude.{◌≡◌, ◌<◌, ◌++◌, [], ◌∷◌, Err, IfOk, List, OnOk, false, length};
+ghost use Rattle.std.specs.Prelude.{◌≡◌, ℕ, ◌<◌, ◌++◌, [], ◌∷◌, Err, IfOk, List, OnOk, false, length};
 ghost use Rattle.std.specs.Prelude.{map, true, vec_len};
 ghost use Rattle.buslink.specs.BusLog.{HasHeardAll, one_more};
 ghost use Rattle.driving.specs.Links.{AreLinked, log_of};
 ghost use Rattle.driving.specs.Open.{HasNothingOpen};
+ghost use Rattle.driving.specs.Order.{with_events};
+ghost use Rattle.driving.specs.Quiet.{HasNoHandout, HasNoScan};
+ghost use Rattle.gearcmd.specs.FrameLists.{FrameList};
+ghost use Rattle.ilmachine.specs.Scans.{Scan};
 ghost use Rattle.plantevents.specs.declared.event.Event.{Event};
+ghost use Rattle.plantevents.specs.declared.event.Event.TheVariants.{Commit, Done, Hand};
+ghost use Rattle.plantevents.specs.declared.event.Origin.{Origin};
 ghost use Rattle.plantevents.specs.Histories.{is_down, sent_in};
 ghost use Rattle.refusalsplant.specs.Hearings.{IsOfHearing};
+ghost use Rattle.transact.specs.Attempts.{ReportParts};
 
 use buslink::Bus;
 use driving::{Halt, Observer, has_down, send_next, settle};
@@ -152,6 +159,79 @@ pub fn bus_0_is_heard_first<B: Bus, O: Observer<B>>(
     requires comes { ¬ HasHeardAll (log_of (map B.log lines.old.items) 0) }
     ensures { OnOk result ((e : Event) (later : List Event)
         → plant.new.history ≡ later ++ e ∷ plant.old.history → IsOfHearing 0 e) }
+{
+    settle(alloc, plant, lines, observer)
+}
+
+/// `buses_send_in_reverse`, and a round that begins with bus 1: what was done first was sent on bus
+/// 1, and something waited for bus 0.
+pub fn bus_0_sends_before_bus_1<B: Bus, O: Observer<B>>(
+    alloc: Global,
+    plant: &mut Plant,
+    lines: &mut Vec<B>,
+    observer: &mut O,
+) -> Result<(), Halt>
+    requires known { 0 < plant.old.plant.plan.buses }
+    requires workers { 0 < plant.old.plant.workers }
+    requires count { vec_len lines.old ≡ plant.old.plant.plan.buses }
+    requires open { HasNothingOpen plant.old }
+    requires waits { ¬ HasNoHandout plant.old 0 }
+    ensures { OnOk result ((origin : Origin) (sent : FrameList) (later : List Event)
+        → ¬ (plant.new.history ≡ later ++ Hand 1 origin sent ∷ plant.old.history)) }
+{
+    settle(alloc, plant, lines, observer)
+}
+
+/// `buses_send_before_the_scans`: what was done first was sent on a bus, and a task was ready.
+pub fn ready_task_is_scanned_first<B: Bus, O: Observer<B>>(
+    alloc: Global,
+    plant: &mut Plant,
+    lines: &mut Vec<B>,
+    observer: &mut O,
+) -> Result<(), Halt>
+    requires workers { 0 < plant.old.plant.workers }
+    requires count { vec_len lines.old ≡ plant.old.plant.plan.buses }
+    requires open { HasNothingOpen plant.old }
+    requires ready { ¬ HasNoScan plant.old }
+    ensures { OnOk result ((b : ℕ) (origin : Origin) (sent : FrameList) (later : List Event)
+        → ¬ (plant.new.history ≡ later ++ Hand b origin sent ∷ plant.old.history)) }
+{
+    settle(alloc, plant, lines, observer)
+}
+
+/// `one_scan_a_round`: after a scan a bus sent, and another task was ready.
+pub fn all_ready_tasks_are_scanned<B: Bus, O: Observer<B>>(
+    alloc: Global,
+    plant: &mut Plant,
+    lines: &mut Vec<B>,
+    observer: &mut O,
+) -> Result<(), Halt>
+    requires workers { 0 < plant.old.plant.workers }
+    requires count { vec_len lines.old ≡ plant.old.plant.plan.buses }
+    requires open { HasNothingOpen plant.old }
+    ensures { OnOk result ((w number b : ℕ) (made : Scan) (origin : Origin) (sent : FrameList)
+        (later earlier : List Event) → plant.new.history
+        ≡ later ++ Hand b origin sent ∷ Commit w number made ∷ (earlier ++ plant.old.history)
+        → HasNoScan (with_events plant.old (Commit w number made ∷ earlier))) }
+{
+    settle(alloc, plant, lines, observer)
+}
+
+/// `a_bus_sends_one_a_round`: after a transaction of bus 0 bus 1 sent, and more waited for bus 0.
+pub fn bus_sends_all_that_waits<B: Bus, O: Observer<B>>(
+    alloc: Global,
+    plant: &mut Plant,
+    lines: &mut Vec<B>,
+    observer: &mut O,
+) -> Result<(), Halt>
+    requires known { 0 < plant.old.plant.plan.buses }
+    requires workers { 0 < plant.old.plant.workers }
+    requires count { vec_len lines.old ≡ plant.old.plant.plan.buses }
+    requires open { HasNothingOpen plant.old }
+    ensures { OnOk result ((number : ℕ) (report : ReportParts) (origin : Origin) (sent : FrameList)
+        (later earlier : List Event) → plant.new.history
+        ≡ later ++ Hand 1 origin sent ∷ Done 0 number report ∷ (earlier ++ plant.old.history)
+        → HasNoHandout (with_events plant.old (Done 0 number report ∷ earlier)) 0) }
 {
     settle(alloc, plant, lines, observer)
 }

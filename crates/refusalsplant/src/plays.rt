@@ -15,9 +15,9 @@ use std::alloc::Global;
 use std::io;
 use wordlines::Happening;
 
-/// `a_play_stops_after_the_first_line`: a play was whole, and its plant had come to the first of two
-/// ticks. `a_full_history_ends_a_play_as_whole`: so it was where the history had no place for the
-/// second.
+/// `a_play_stops_after_the_first_line`: a play was whole, and its plant had come to the first of
+/// two ticks. `a_full_history_ends_a_play_as_whole`: so it was where the history had no place for
+/// the second.
 pub fn whole_play_has_each_tick<O: Observer<SimBus>>(
     alloc: Global,
     setup: &Setup,

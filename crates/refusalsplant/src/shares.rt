@@ -47,8 +47,8 @@ pub fn newest_receipt_has_its_own_place<J: LockStart, T: Tally>(
     share.last_place()
 }
 
-/// `cells_from_the_first_event_of_all`: where five events were before the start, the first one after
-/// them was filed in the sixth cell.
+/// `cells_from_the_first_event_of_all`: where five events were before the start, the first one
+/// after them was filed in the sixth cell.
 pub fn first_event_is_filed_in_the_first_cell<'a, J: LockStart, T: Tally, K: Tallies<T>, R: Wait>(
     rt: &R,
     share: &mut Share<'a, J, T>,

@@ -5,8 +5,8 @@ use crate::things::{Happening, Thing};
 use daliframe::{Frame, Frame24};
 use driving::Observer;
 use framewords::{FrameWords, FramesWords};
-use ilplan::Plan;
 use picture::{Column, Moment, Picture};
+use plant::Plant;
 use plantevents::Origin;
 use simbus::{Scenario, SimBus};
 use std::alloc::{AllocError, Global};
@@ -22,34 +22,32 @@ pub struct Drawing {
     /// What each row of the picture shows.
     pub(crate) things: Vec<Thing>,
     /// The values of the variables that are watched.
-    watch: Option<Watch>,
+    pub(crate) watch: Watch,
 }
 
 impl Drawing {
-    /// The picture of this plan on the buses of a scenario, before anything happened, with a row
-    /// for each variable that is watched.
+    /// The picture of a plant on the buses of a scenario, before anything happened, with a row for
+    /// each variable of these names.
     ///
     /// # Errors
     ///
     /// The allocator is out of memory.
     pub fn new(
         alloc: Global,
-        plan: &Plan,
+        plant: &Plant,
         scenario: &Scenario,
-        watch: Option<Watch>,
+        watched: &[&str],
     ) -> Result<Drawing, AllocError> {
         let mut drawing = Drawing {
             alloc,
             picture: Picture::new(alloc),
             things: Vec::new(alloc),
-            watch: None,
+            watch: Watch::of(alloc, plant, watched)?,
         };
+        let plan = plant.setup().plan();
         drawing.add_lamps(plan, scenario)?;
         drawing.add_others(plan)?;
-        if let Some(watch) = &watch {
-            drawing.add_variables(watch)?;
-        }
-        drawing.watch = watch;
+        drawing.add_variables()?;
         Ok(drawing)
     }
 
@@ -82,32 +80,15 @@ impl Drawing {
         ""
     }
 
-    /// Adds the line of what happened, tells it to the watch, and marks each row that shows it.
-    /// What a report comes to is told and marked apart, as are the values after a commit.
+    /// Adds the line of what happened, and marks each row that shows it. What a report comes to is
+    /// marked apart, as are the values after a commit.
     fn note(&mut self, happening: Happening, line: String) -> io::Result<()> {
         self.add_line(&happening, line)?;
-        self.tell(&happening)?;
         let is_marked = self.mark(&happening)?;
         if let Happening::Heard(bus, _) = happening {
             if !is_marked {
                 self.mark_stray(bus)?;
             }
-        }
-        Ok(())
-    }
-
-    /// Tells the watch what happened.
-    fn tell(&mut self, happening: &Happening) -> Result<(), AllocError> {
-        let Some(watch) = &mut self.watch else {
-            return Ok(());
-        };
-        match *happening {
-            Happening::Ticked(moment) => watch.note_tick(moment),
-            Happening::Heard(bus, frame) => watch.note_frame(bus, frame),
-            Happening::Taken(_) => watch.note_take()?,
-            Happening::Handed(bus) => watch.note_handout(bus),
-            Happening::WentDown(bus) => watch.note_down(bus),
-            Happening::Strayed(_) | Happening::Committed | Happening::Reported(..) => {}
         }
         Ok(())
     }
@@ -141,7 +122,7 @@ impl Drawing {
     }
 
     /// Marks that a frame was heard of which nobody waits, in the row of its bus for such, which is
-    /// made where it isn't there.
+    /// made where it is not there.
     fn mark_stray(&mut self, bus: u8) -> Result<(), AllocError> {
         if !self.mark(&Happening::Strayed(bus))? {
             let name = String::from_str(self.alloc, "no source")?;
@@ -186,11 +167,13 @@ impl Observer<SimBus> for Drawing {
         steps: u32,
     ) -> io::Result<()> {
         let line = format!(in self.alloc; "commit {} steps {steps}", self.task_name(task))?;
-        self.note(Happening::Committed, line)?;
+        self.note(Happening::Committed, line)
+    }
+
+    fn note_values(&mut self, plant: &Plant, task: usize) -> io::Result<()> {
+        self.watch.note_values(plant, task)?;
         let column = self.column();
-        if let Some(watch) = &self.watch {
-            mark_values(&mut self.picture.rows, &self.things, column, watch)?;
-        }
+        mark_values(&mut self.picture.rows, &self.things, column, &self.watch)?;
         Ok(())
     }
 
@@ -218,9 +201,6 @@ impl Observer<SimBus> for Drawing {
         let column = self.column();
         let rows = &mut self.picture.rows;
         mark_levels(rows, &self.things, column, bus, report, line)?;
-        if let Some(watch) = &mut self.watch {
-            watch.note_report(bus, report);
-        }
         Ok(())
     }
 

@@ -7,7 +7,6 @@ use ilplan::{Activation, Location, Plan};
 use picture::{Row, Sign};
 use simbus::{Scenario, Statement};
 use std::alloc::{AllocError, Global};
-use watching::Watch;
 use wordlines::BoundSource;
 
 impl Drawing {
@@ -87,11 +86,13 @@ impl Drawing {
     }
 
     /// Adds a row for each variable that is watched.
-    pub(crate) fn add_variables(&mut self, watch: &Watch) -> Result<(), AllocError> {
-        for (number, watched) in watch.variables().iter().enumerate() {
-            let name = String::from_str(self.alloc, watched.name())?;
-            let value = sign_of_value(watched.value());
-            self.add(Thing::Variable(number), name, Some(value))?;
+    pub(crate) fn add_variables(&mut self) -> Result<(), AllocError> {
+        for number in 0..self.watch.variables().len() {
+            if let Some(watched) = self.watch.variables().get(number) {
+                let name = String::from_str(self.alloc, watched.name())?;
+                let value = sign_of_value(watched.value());
+                self.add(Thing::Variable(number), name, Some(value))?;
+            }
         }
         Ok(())
     }

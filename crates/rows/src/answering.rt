@@ -13,8 +13,8 @@ use std::io::{Cursor, Sink};
 use transact::Reply;
 
 /// A bus whose line answers what a file says, line by line, whatever is asked. It is greeted by the
-/// number 0. Once it has failed it is greeted again, by the next number: it comes back where the file
-/// goes on with the answer to that, and else it stays away.
+/// number 0. Once it has failed it is greeted again, by the next number: it comes back where the
+/// file goes on with the answer to that, and else it stays away.
 #[derive(Drop)]
 pub struct AnsweringLine {
     line: LineBus<Cursor<Vec<u8>>, Sink>,
@@ -23,8 +23,8 @@ pub struct AnsweringLine {
 }
 
 impl AnsweringLine {
-    /// The bus of this number whose line gives these answers, where they begin with a greeting; else
-    /// its line is not there.
+    /// The bus of this number whose line gives these answers, where they begin with a greeting;
+    /// else its line is not there.
     pub fn new(answers: Vec<u8>, number: BusNumber) -> AnsweringLine
         ensures { IsNewBus number result.line.log }
     {

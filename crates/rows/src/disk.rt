@@ -38,7 +38,7 @@ pub struct Left {
 
 /// The files of a row, and standard error, for the threads of one command. A file `full` takes
 /// nothing, since the disk is full, a file `nearly-full` takes what is written two times, a file
-/// `late` takes nothing the first time, and a file `starved` can't be written for lack of memory.
+/// `late` takes nothing the first time, and a file `starved` cannot be written for lack of memory.
 #[derive(Drop)]
 pub struct RowsDisk {
     alloc: Global,
@@ -115,8 +115,8 @@ impl RowsDisk {
         Ok(left.writings)
     }
 
-    /// The date, in seconds since the beginning of 1970: ten seconds after the one before where time
-    /// passes in this row, and ten before it where the date falls.
+    /// The date, in seconds since the beginning of 1970: ten seconds after the one before where
+    /// time passes in this row, and ten before it where the date falls.
     fn date(&self) -> io::Result<u64> {
         let mut left = self.left()?;
         left.dates = left.dates.saturating_add(1);
@@ -140,7 +140,7 @@ impl RowsDisk {
         Ok(())
     }
 
-    /// The bytes of the file at a path, none where it isn't there.
+    /// The bytes of the file at a path, none where it is not there.
     fn read_or_none(&self, path: &str) -> Vec<u8> {
         match self.read(path) {
             Ok(file) => file,
@@ -148,7 +148,7 @@ impl RowsDisk {
         }
     }
 
-    /// Adds bytes to the file at a path, which is made where it isn't there; how many it has then.
+    /// Adds bytes to the file at a path, which is made where it is not there; how many it has then.
     fn extend(&self, path: &str, bytes: &[u8]) -> io::Result<u64> {
         let mut file = self.read_or_none(path);
         file.extend_from_slice(bytes)?;

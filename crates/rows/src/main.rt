@@ -1,7 +1,7 @@
 //! The program `rows`: runs worked rows of the command line, each in memory.
 //!
 //! What crosses the boundary: files of rows and pages of the documents, whose names are the words
-//! of the command line, and one line: how many rows hold and how many wrong ones don't, or the
+//! of the command line, and one line: how many rows hold and how many wrong ones do not, or the
 //! first one that is otherwise. README.md has their formats; `workedrows` reads a row and compares,
 //! `running` runs its command lines by `commands::run`, whose threads are those of the program's
 //! own runtime, `pages` has the commands of a page, `simulated` and `disk` are where the lines of a
@@ -53,7 +53,7 @@ fn main(rt: HostRuntime) -> io::Result<ExitCode> {
 ///
 /// # Errors
 ///
-/// A file that isn't read, or the first row that doesn't hold, or that holds though it is wrong.
+/// A file that is not read, or the first row that does not hold, or that holds though it is wrong.
 fn judge_files<R: Files + Env + AllocGlobal + Threads + Wait + Timer + Sync, S: Site + Sync>(
     rt: &R,
     site: &S,

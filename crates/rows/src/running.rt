@@ -14,7 +14,7 @@ use workedrows::{CommandLine, Judge, RowsStop};
 ///
 /// # Errors
 ///
-/// The first row that doesn't hold, or a line that is none of a row.
+/// The first row that does not hold, or a line that is none of a row.
 pub fn judge_lines<T: Threads + Wait + Timer + Sync, S: Site + Sync>(
     judge: &mut Judge,
     threads: &T,

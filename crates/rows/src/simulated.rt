@@ -16,10 +16,10 @@ use std::num::NonZeroU64;
 use std::sync::Arc;
 use transact::Reply;
 
-/// The site of a row. A line whose path ends with `.scenario` is the simulated bus of that scenario,
-/// a file of the row, and all that comes on it has come. Any other line gives the answers of the file
-/// of the row at the path that is read; where the row has none it is not there. The clock is that of
-/// the host. What is written beside a building goes to the row's disk.
+/// The site of a row. A line whose path ends with `.scenario` is the simulated bus of that
+/// scenario, a file of the row, and all that comes on it has come. Any other line gives the answers
+/// of the file of the row at the path that is read; where the row has none it is not there. The
+/// clock is that of the host. What is written beside a building goes to the row's disk.
 #[derive(Clone, Copy)]
 pub struct RowsSite<'a, S> {
     pub host: &'a S,
@@ -97,7 +97,8 @@ fn line_at(
     Ok(RowsLine::Answering(AnsweringLine::new(bytes, number)))
 }
 
-/// The bus of this number that a scenario simulates; one that is not there, where it is no scenario.
+/// The bus of this number that a scenario simulates; one that is not there, where it is no
+/// scenario.
 ///
 /// # Errors
 ///

@@ -1,8 +1,8 @@
 //! Rows that must not hold: without them a judge who compares nothing would find no difference.
 //!
 //! Such a row is named for what the judge must say of it: the kind of the difference, ` at `, and
-//! the line that shows it, as `status at status 1`. The pages that must not hold stand in one file, each
-//! below a heading that is named in the same way.
+//! the line that shows it, as `status at status 1`. The pages that must not hold stand in one file,
+//! each below a heading that is named in the same way.
 
 use crate::pages::judge_page;
 use crate::running::judge_lines;

@@ -16,7 +16,7 @@ module _ (plan : Planned) (name : List ℕ) where
   no_slot task slot none is =
       subst (λ (s : Option Slot). IsSomeAnd s (λ it. IsOwnNamed plan name it.variable)) none is
 
-  -- no task has a slot of the name that isn't there
+  -- no task has a slot of the name that is not there
   pub past_tasks : (task slot : ℕ) → length plan.tasks ≤ task → ¬ IsSlotNamed plan name task slot
   past_tasks task slot past =
       no_slot task slot
@@ -30,7 +30,7 @@ module _ (plan : Planned) (name : List ℕ) where
       (ap (λ (o : Option PlannedTask). option_and_then (λ it. slice_get it.slots slot) o) is
       ∙ slice_get_past t.slots slot past)
 
-  -- where the slots of the tasks that are there don't have the name, none has it
+  -- where the slots of the tasks that are there do not have the name, none has it
   pub in_no_task : (n : ℕ) → length plan.tasks ≤ n
       → ((task slot : ℕ) → task < n → ¬ IsSlotNamed plan name task slot) → (task slot : ℕ)
       → ¬ IsSlotNamed plan name task slot
@@ -48,7 +48,7 @@ module _ (plan : Planned) (name : List ℕ) where
         | inr past ↦ past_slots task slot t is (omega (arith, all, past))
       ]
 
-  -- one task more, or one slot more, doesn't have the name
+  -- one task more, or one slot more, does not have the name
   pub task_more : (n : ℕ) → ((task slot : ℕ) → task < n → ¬ IsSlotNamed plan name task slot)
       → ((slot : ℕ) → ¬ IsSlotNamed plan name n slot) → (task slot : ℕ) → task < n + 1
       → ¬ IsSlotNamed plan name task slot

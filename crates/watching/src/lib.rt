@@ -2,12 +2,12 @@
 //!
 //! What crosses the boundary: names of variables, as `--watch` gives them. [`are_watchable`] says
 //! whether a plan has them, and [`report_unwatchable`] writes those that it has not. A [`Watch`] is
-//! told what happens at a plant, which it repeats on one of its own, and gives the values that are
-//! new behind a commit. The definition to read first is `IsWatchable` (specs/Watched.antt).
+//! lent the plant behind each of its scans, and gives the values that are new there. The definition
+//! to read first is `IsWatchable` (specs/Watched.antt).
 //!
 //! ```text
-//! let mut watch = Watch::open(alloc, setup, 1_000, names)?;
-//! watch.note_take()?; // and so on, as it happens
+//! let mut watch = Watch::of(alloc, &plant, names)?;
+//! watch.note_values(&plant, task)?; // behind a scan of the task
 //! watch.write_changes(&mut to)?; //     lamp = 200
 //! ```
 #![tactic(auto)]

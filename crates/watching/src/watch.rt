@@ -1,23 +1,14 @@
-//! The values of variables while a scenario is played.
+//! The values of variables behind the scans of a plant.
 
-ghost use Rattle.std.specs.Prelude.{◌<◌, length, IfErr};
-ghost use Rattle.plant.specs.Shown.{IsOpenFault};
+ghost use Rattle.std.specs.Prelude.{◌<◌, length};
 
 use crate::naming::place_of;
-use daliframe::Frame24;
-use ilcompile::Setup;
-use ilmachine::scan_into;
-use ilplan::Plan;
-use ilrows::ValueRow;
+use ilplan::{Plan, TaskState};
 use iltypes::Value;
-use plant::{CallError, OpenFault, Plant};
+use plant::Plant;
 use std::alloc::{AllocError, Global};
 use std::io;
 use std::io::Write;
-use transact::Report;
-
-/// The scan worker that makes the scans.
-const WORKER: usize = 0;
 
 /// Where the variable of a name is.
 #[derive(Clone, Copy, PartialEq, Eq)]
@@ -52,34 +43,35 @@ impl WatchedVariable {
     }
 }
 
-/// The values of variables at a plant that is driven on one thread with one scan worker. It repeats
-/// each event on a plant of its own, which decides nothing by chance: so it takes what the other one
-/// took, and refuses nothing of it.
+/// Variables of a plant, with their values behind its last scan.
 #[derive(Drop)]
 pub struct Watch {
     alloc: Global,
-    plant: Plant,
     /// In the order of the names.
     watched: Vec<WatchedVariable>,
 }
 
 impl Watch {
-    /// The values of the variables of these names at a plant of this setup and limit, to which
-    /// nothing has happened. A name that no variable has is passed over.
+    /// The variables of these names, with their values at a plant. A name that no variable has is
+    /// passed over.
     ///
     /// # Errors
     ///
-    /// Those of `Plant::open` with one scan worker.
-    pub fn open(alloc: Global, setup: Setup, limit: u64, names: &[&str]) -> Result<Watch, OpenFault>
-        ensures fault { IfErr result (IsOpenFault setup.plan.buses 1 limit) }
-    {
-        let plant = Plant::open(alloc, setup, 1, limit)?;
-        let watched = watched_of(alloc, &plant, names).map_err(|_| OpenFault::Memory)?;
-        Ok(Watch {
+    /// The allocator is out of memory.
+    pub fn of(alloc: Global, plant: &Plant, names: &[&str]) -> Result<Watch, AllocError> {
+        let plan = plant.setup().plan();
+        let mut watch = Watch {
             alloc,
-            plant,
-            watched,
-        })
+            watched: watched_of(alloc, plan, names)?,
+        };
+        note_globals(&mut watch.watched, plant);
+        for task in 0..plan.tasks() {
+            watch.note_task(plant, task)?;
+        }
+        for variable in &mut watch.watched {
+            variable.told = variable.value;
+        }
+        Ok(watch)
     }
 
     /// The variables, in the order of the names.
@@ -87,53 +79,23 @@ impl Watch {
         &self.watched
     }
 
-    /// It is this moment, in milliseconds.
-    pub fn note_tick(&mut self, moment: u64) {
-        let _same = self.plant.tick(moment);
-    }
-
-    /// A frame was heard on a bus.
-    pub fn note_frame(&mut self, bus: u8, frame: Frame24) {
-        let _same = self.plant.note_frame(bus, frame);
-    }
-
-    /// The next task was taken. Its scan is made and committed here, since nothing comes between.
+    /// Notes the values at the plant behind a scan of a task.
     ///
     /// # Errors
     ///
     /// The allocator is out of memory.
-    pub fn note_take(&mut self) -> Result<(), AllocError> {
-        let order = match self.plant.take(self.alloc, WORKER) {
-            Ok(order) => order,
-            Err(CallError::Memory) => return Err(AllocError),
-            Err(CallError::Refused(_)) => return Ok(()),
-        };
-        let task = order.task;
-        let made = scan_into(order.work);
-        note_own(&mut self.watched, task, made.row());
-        let _same = self.plant.commit(WORKER, made);
-        note_globals(&mut self.watched, &self.plant);
+    pub fn note_values(&mut self, plant: &Plant, task: usize) -> Result<(), AllocError> {
+        note_globals(&mut self.watched, plant);
+        self.note_task(plant, task)
+    }
+
+    /// Notes the values of a task's own variables, where some are watched.
+    fn note_task(&mut self, plant: &Plant, task: usize) -> Result<(), AllocError> {
+        if task < plant.setup().plan().tasks() && is_any_of(&self.watched, task) {
+            let state = plant.task_state(self.alloc, task)?;
+            note_own(&mut self.watched, task, &state);
+        }
         Ok(())
-    }
-
-    /// A bus was handed what is sent next.
-    pub fn note_handout(&mut self, bus: u8) {
-        let _same = self.plant.hand(bus);
-    }
-
-    /// A bus reported what became of its transaction.
-    pub fn note_report(&mut self, bus: u8, report: &Report) {
-        if bus >= self.plant.setup().plan().buses() {
-            return;
-        }
-        if let Some(number) = self.plant.open_hand(bus) {
-            let _same = self.plant.note_report(bus, number, report.clone().unwrap());
-        }
-    }
-
-    /// A bus went down.
-    pub fn note_down(&mut self, bus: u8) {
-        let _same = self.plant.down(bus);
     }
 
     /// Writes a line for each variable whose value, behind the last commit, is another one than was
@@ -154,22 +116,20 @@ impl Watch {
     }
 }
 
-/// The variables of these names, as they are at a plant to which nothing has happened.
+/// The variables of these names; of their values nothing is known.
 fn watched_of(
     alloc: Global,
-    plant: &Plant,
+    plan: &Plan,
     names: &[&str],
 ) -> Result<Vec<WatchedVariable>, AllocError> {
-    let plan = plant.setup().plan();
     let mut watched = Vec::new(alloc);
     for name in names {
         if let Some(place) = place_of(plan, name) {
-            let value = first_value(plant, place);
             watched.push(WatchedVariable {
                 name: name_at(alloc, plan, place)?,
                 place,
-                told: value,
-                value,
+                told: Value::Bool(false),
+                value: Value::Bool(false),
             })?;
         }
     }
@@ -197,32 +157,24 @@ fn own_name(alloc: Global, plan: &Plan, task: usize, slot: usize) -> Result<Stri
     Ok(String::new(alloc))
 }
 
-/// The value of a variable before anything happened.
-fn first_value(plant: &Plant, place: Place) -> Value {
-    let plan = plant.setup().plan();
-    match place {
-        Place::Global(global) if global < plan.globals() => plant.value(global),
-        Place::Own { task, slot } if task < plan.tasks() => first_own(plan, task, slot),
-        _ => Value::Bool(false),
+/// Whether a variable of a task's program instances is among those that are watched.
+fn is_any_of(watched: &[WatchedVariable], task: usize) -> bool {
+    for variable in watched {
+        if matches!(variable.place, Place::Own { task: of, .. } if of == task) {
+            return true;
+        }
     }
+    false
 }
 
-/// The initial value of a variable of a program instance.
-fn first_own(plan: &Plan, task: usize, slot: usize) -> Value
-    requires { task < length plan.now.tasks }
-{
-    match plan.task(task).slots().get(slot) {
-        Some(slot) => slot.initial,
-        None => Value::Bool(false),
-    }
-}
-
-/// Notes the values of a task's own variables that its scan left.
-fn note_own(watched: &mut [WatchedVariable], task: usize, row: &ValueRow) {
+/// Notes the values of a task's own variables, of what lasts of the task.
+fn note_own(watched: &mut [WatchedVariable], task: usize, state: &TaskState) {
     for variable in watched {
         match variable.place {
-            Place::Own { task: of, slot } if of == task && slot < row.len() => {
-                variable.value = row.get(slot);
+            Place::Own { task: of, slot } if of == task => {
+                if let Some(value) = state.values().get(slot) {
+                    variable.value = *value;
+                }
             }
             _ => {}
         }

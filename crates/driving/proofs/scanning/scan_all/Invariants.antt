@@ -1,9 +1,11 @@
-use Rattle.driving.specs.TurnSteps.{HasTurned, IsScanStep}
+use Rattle.driving.specs.Order.{scans_at}
+use Rattle.driving.specs.TurnSteps.{GoesOn, HasTurned, IsScanStep}
 use Rattle.driving.proofs.scanning.scan_all.Given as goal
 
 abbrev pub invariant-loop : goal.invariant-loop
 invariant-loop g l =
     record {
       step : IsScanStep l.fn.plant l.plant;
+      goes_on : GoesOn scans_at scans_at l.fn.plant l.plant;
       turned : HasTurned l.fn.plant l.plant l.counter l.any;
     }

@@ -1,4 +1,5 @@
 use Rattle.std.proofs.Common.{◌∙◌}
+use Rattle.driving.proofs.Order.{scan_goes_on}
 use Rattle.driving.proofs.Refused.{told_stops, told_tells}
 use Rattle.driving.proofs.Scanned.{longer_by_scan, scan_is_open, step_scanned}
 use Rattle.driving.proofs.scanning.scan_next.Goals as goal
@@ -25,3 +26,9 @@ returns-clause-turn g c =
 
 pub returns-clause-stops : goal.returns-clause-stops
 returns-clause-stops g c = told_stops c.commit.new.self c.tell_scan.result c.tell_scan.ensures
+
+pub returns-clause-goes_on : goal.returns-clause-goes_on
+returns-clause-goes_on g c =
+    let order = c.in-Ok.order in
+    scan_goes_on 0 order.task c.scan_into-made.result.number order.work.snapshot c.scan_into-made.result
+    c.args.plant.now c.take.new.self c.commit.new.self c.in-Ok.ensures.grown c.in-Ok-commit.ensures.grown

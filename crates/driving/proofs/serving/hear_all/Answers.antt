@@ -14,6 +14,11 @@ returns-in_err-hear_next-clause-only g c =
     hearing_then c.args.bus c.args.plant.now c.loop.plant c.hear_next.new.plant c.loop.invariant.only
     c.in_err-hear_next.ensures.only
 
+pub returns-then-not-branch-clause-only : goal.returns-then-not-branch-clause-only
+returns-then-not-branch-clause-only g c =
+    hearing_then c.args.bus c.args.plant.now c.loop.plant c.hear_next.new.plant c.loop.invariant.only
+    c.in_ok-hear_next.ensures.only
+
 pub loop-preserved : goal.loop-preserved
 loop-preserved g c = record {
   step = step_then c.args.bus c.args.plant.now c.loop.plant c.hear_next.new.plant (g.B.Bus.log c.args.line.now)

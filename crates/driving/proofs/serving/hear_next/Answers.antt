@@ -1,10 +1,11 @@
-use Rattle.std.proofs.Common.{ℕ, Option, ap, ◌∙◌}
+use Rattle.std.proofs.Common.{ℕ, Option, refl, ap, ◌∙◌}
 use Rattle.std.specs.Prelude.{Ok}
 use Rattle.buslink.specs.BusLog.{after_hear}
 use Rattle.plant.specs.Shown.{Shown}
 use Rattle.driving.proofs.BusSteps.{step_fault, step_frame, step_silent}
 use Rattle.driving.proofs.Handed.{step_idle}
 use Rattle.driving.proofs.Hearing.{heard_fault, heard_frame, heard_nothing}
+use Rattle.driving.proofs.Order.{fault_goes_on, frame_goes_on, unheard_kept, unheard_same}
 use Rattle.driving.proofs.Refused.{hear_stops, hear_tells}
 use Rattle.driving.proofs.serving.hear_next.Goals as goal
 
@@ -17,6 +18,7 @@ returns-in-Err g c = record {
   turn = hear_tells c.args.plant.now c.may_hear.new.self c.args.bus (g.B.Bus.log c.args.line.now)
       (g.B.Bus.log c.room.new.self) c.in-Err.refusal c.idle_where_refused.result c.in-Err.ensures.err
       c.in-Err.ensures.refused c.idle_where_refused.ensures;
+  goes_on = unheard_same c.args.bus c.args.plant.now c.may_hear.new.self c.in-Err.ensures.err;
   stops = hear_stops c.args.plant.now c.may_hear.new.self c.args.bus c.in-Err.refusal c.idle_where_refused.result
       c.in-Err.ensures.err c.requires.known c.in-Err.ensures.refused c.idle_where_refused.ensures;
 }
@@ -52,3 +54,20 @@ pub returns-in-Ok-down-clause-only : goal.returns-in-Ok-down-clause-only
 returns-in-Ok-down-clause-only g c =
     heard_fault c.args.bus c.args.plant.now c.may_hear.new.self c.down.new.self c.in_default.ensures.ok
     c.in-Ok-down.ensures.ok
+
+pub returns-in-Ok-clause-goes_on : goal.returns-in-Ok-clause-goes_on
+returns-in-Ok-clause-goes_on g c =
+    frame_goes_on c.args.bus c.in-Ok-Some.frame c.args.plant.now c.may_hear.new.self c.note_frame.new.self
+    c.in_default.ensures.ok c.in-Ok.ensures.ok
+
+pub returns-in-Ok-None-clause-goes_on : goal.returns-in-Ok-None-clause-goes_on
+returns-in-Ok-None-clause-goes_on g c =
+    unheard_kept c.args.bus c.args.plant.now c.may_hear.new.self c.in_default.ensures.ok
+
+pub returns-in-Ok-down-clause-goes_on : goal.returns-in-Ok-down-clause-goes_on
+returns-in-Ok-down-clause-goes_on g c = λ none.
+    fault_goes_on c.args.bus c.args.plant.now c.may_hear.new.self c.down.new.self c.in_default.ensures.ok
+    c.in-Ok-down.ensures.ok
+
+pub returns-in_err-room-clause-goes_on : goal.returns-in_err-room-clause-goes_on
+returns-in_err-room-clause-goes_on g c = unheard_same c.args.bus c.args.plant.now c.args.plant.now refl

@@ -1,3 +1,4 @@
+use Rattle.driving.proofs.Order.{sends_go_on}
 use Rattle.driving.proofs.Refused.{halted_stops, halted_tells}
 use Rattle.driving.proofs.Sent.{step_of_sends}
 use Rattle.driving.proofs.serving.send_turn.Goals as goal
@@ -25,3 +26,13 @@ returns-in-Err-clause-stops g c =
     halted_stops c.args.plant.now c.send_next.new.plant c.args.bus (g.B.Bus.log c.args.line.now)
     (g.B.Bus.log c.send_next.new.line) c.in-Err.halt c.idle_where_refused.result c.requires.known c.requires.open
     c.in-Err.ensures.sends c.idle_where_refused.ensures
+
+pub returns-in-Ok-clause-goes_on : goal.returns-in-Ok-clause-goes_on
+returns-in-Ok-clause-goes_on g c =
+    sends_go_on {A = Unit} c.args.bus c.args.plant.now c.send_next.new.plant (g.B.Bus.log c.args.line.now)
+    (g.B.Bus.log c.send_next.new.line) c.send_next.result c.send_next.ensures.sends
+
+pub returns-in-Err-clause-goes_on : goal.returns-in-Err-clause-goes_on
+returns-in-Err-clause-goes_on g c =
+    sends_go_on {A = Unit} c.args.bus c.args.plant.now c.send_next.new.plant (g.B.Bus.log c.args.line.now)
+    (g.B.Bus.log c.send_next.new.line) c.send_next.result c.send_next.ensures.sends

@@ -1,7 +1,9 @@
-use Rattle.std.proofs.Common.{map, arith}
+use Rattle.std.proofs.Common.{map, refl, arith}
+use Rattle.driving.specs.Order.{scans_at}
 use Rattle.driving.specs.Quiet.{IsQuiet}
 use Rattle.driving.proofs.Settled.{long_enough, quiet_since}
 use Rattle.driving.proofs.Linked.{scan_nothing}
+use Rattle.driving.proofs.Order.{on_and_on, stays, stopped_at, stops_then}
 use Rattle.driving.proofs.Turned.{did_nothing, finish_of_scan, finish_then}
 use Rattle.driving.proofs.settling.finish.Goals as goal
 
@@ -32,6 +34,7 @@ loop-preserved g c =
     let after = map g.B.Bus.log c.round.new.lines.items in
     record {
       driven = finish_then p q r before between after c.loop.invariant.driven c.in_ok-round.ensures.driven;
+      goes_on = on_and_on scans_at scans_at scans_at p q r c.loop.invariant.goes_on c.in_ok-round.ensures.goes_on;
       long = long_enough p q r c.loop.counter (IsQuiet r between after) c.in_ok-round.field-0 c.loop.invariant.long
           c.in_ok-round.ensures.turn c.if-not-branch.false;
     }
@@ -40,5 +43,17 @@ pub loop-init : goal.loop-init
 loop-init g c = record {
   driven = finish_of_scan c.args.plant.now c.args.plant.now (map g.B.Bus.log c.args.lines.now.items)
       (scan_nothing c.args.plant.now);
+  goes_on = stays c.args.plant.now c.args.plant.now scans_at refl refl;
   long = omega arith;
 }
+
+pub returns-then-not-branch-clause-goes_on : goal.returns-then-not-branch-clause-goes_on
+returns-then-not-branch-clause-goes_on g c =
+    on_and_on scans_at scans_at scans_at c.args.plant.now c.loop.plant c.round.new.plant c.loop.invariant.goes_on
+    c.in_ok-round.ensures.goes_on
+
+pub returns-in_err-round-clause-goes_on : goal.returns-in_err-round-clause-goes_on
+returns-in_err-round-clause-goes_on g c =
+    stopped_at scans_at scans_at c.args.plant.now c.round.new.plant c.from_residual.result _ c.from_residual.ensures.1
+    (stops_then scans_at scans_at c.args.plant.now c.loop.plant c.round.new.plant
+    c.loop.invariant.goes_on c.in_err-round.ensures.goes_on)

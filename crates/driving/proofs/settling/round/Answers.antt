@@ -1,7 +1,9 @@
 use Rattle.std.proofs.Common.{Bool, ◌||◌, map, subst}
 use Rattle.std.specs.Prelude.{Ok}
+use Rattle.driving.specs.Order.{scans_at}
 use Rattle.driving.specs.Quiet.{IsQuiet}
 use Rattle.driving.specs.TurnSteps.{Tells}
+use Rattle.driving.proofs.Order.{round_goes_on, round_stops, stopped_at, stops}
 use Rattle.driving.proofs.Settled.{round_tells}
 use Rattle.driving.proofs.Turned.{finish_of_scan, finish_then}
 use Rattle.driving.proofs.settling.round.Goals as goal
@@ -43,3 +45,24 @@ pub returns-in_err-scanned-clause-driven : goal.returns-in_err-scanned-clause-dr
 returns-in_err-scanned-clause-driven g c =
     finish_of_scan c.args.plant.now c.scan_all.new.plant (map g.B.Bus.log c.args.lines.now.items)
     c.in_err-scanned.ensures.step
+
+pub returns-then-scanned-clause-goes_on : goal.returns-then-scanned-clause-goes_on
+returns-then-scanned-clause-goes_on g c =
+    round_goes_on c.args.plant.now c.scan_all.new.plant c.turn_all.new.plant c.in_ok-turned.ensures.driven.plant
+    c.in_ok-scanned.ensures.goes_on c.in_ok-scanned.ensures.none c.in_ok-turned.ensures.goes_on
+
+pub returns-else-scanned-clause-goes_on : goal.returns-else-scanned-clause-goes_on
+returns-else-scanned-clause-goes_on g c =
+    round_goes_on c.args.plant.now c.scan_all.new.plant c.turn_all.new.plant c.in_ok-turned.ensures.driven.plant
+    c.in_ok-scanned.ensures.goes_on c.in_ok-scanned.ensures.none c.in_ok-turned.ensures.goes_on
+
+pub returns-in_err-scanned-clause-goes_on : goal.returns-in_err-scanned-clause-goes_on
+returns-in_err-scanned-clause-goes_on g c =
+    stopped_at scans_at scans_at c.args.plant.now c.scan_all.new.plant c.from_residual.result _ c.from_residual.ensures.1
+    (stops scans_at scans_at c.args.plant.now c.scan_all.new.plant c.in_err-scanned.ensures.goes_on)
+
+pub returns-in_err-turned-clause-goes_on : goal.returns-in_err-turned-clause-goes_on
+returns-in_err-turned-clause-goes_on g c =
+    stopped_at scans_at scans_at c.args.plant.now c.turn_all.new.plant c.from_residual-in_err-turned.result _
+    c.from_residual-in_err-turned.ensures.1 (round_stops c.args.plant.now c.scan_all.new.plant c.turn_all.new.plant
+    c.in_ok-scanned.ensures.goes_on c.in_ok-scanned.ensures.none c.in_err-turned.ensures.goes_on)

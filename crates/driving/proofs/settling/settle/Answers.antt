@@ -1,4 +1,5 @@
 use Rattle.std.proofs.Common.{map}
+use Rattle.driving.proofs.Order.{came_in_order, heard_first, none_came}
 use Rattle.driving.proofs.Settled.{quiet_on}
 use Rattle.driving.proofs.Turned.{finish_then}
 use Rattle.driving.proofs.settling.settle.Goals as goal
@@ -14,3 +15,18 @@ returns-clause-quiet g c =
     quiet_on c.finish.new.plant (map g.B.Bus.log c.args.lines.now.items)
     (map g.B.Bus.log c.hear_buses.new.lines.items) (map g.B.Bus.log c.finish.new.lines.items) c.finish.result
     c.hear_buses.ensures.driven.hears c.finish.ensures.quiet
+
+pub returns-clause-heard : goal.returns-clause-heard
+returns-clause-heard g c =
+    heard_first c.args.plant.now c.hear_buses.new.plant c.finish.new.plant (map g.B.Bus.log c.args.lines.now.items)
+    (map g.B.Bus.log c.hear_buses.new.lines.items) (map g.B.Bus.log c.finish.new.lines.items) c.finish.result
+    c.in_ok-hear_buses.ensures.heard c.finish.ensures.driven c.finish.ensures.goes_on
+
+pub returns-clause-order : goal.returns-clause-order
+returns-clause-order g c =
+    came_in_order c.args.plant.now c.hear_buses.new.plant c.finish.new.plant c.finish.result c.hear_buses.ensures.order
+    c.hear_buses.ensures.driven.plant c.finish.ensures.goes_on
+
+pub returns-in_err-hear_buses-clause-order : goal.returns-in_err-hear_buses-clause-order
+returns-in_err-hear_buses-clause-order g c =
+    none_came c.args.plant.now c.hear_buses.new.plant c.hear_buses.ensures.order c.hear_buses.ensures.driven.plant

@@ -1,8 +1,10 @@
-use Rattle.std.proofs.Common.{map}
+use Rattle.std.proofs.Common.{◌+◌, map, refl}
+use Rattle.driving.specs.Order.{sends_at}
 use Rattle.driving.specs.Quiet.{HasNoFrame, HasNoHandout}
 use Rattle.driving.specs.Links.{log_of}
 use Rattle.driving.proofs.Settled.{turned_did, turned_not}
 use Rattle.driving.proofs.Linked.{scan_nothing}
+use Rattle.driving.proofs.Order.{on_and_on, stays, stopped_at, stops_then}
 use Rattle.driving.proofs.Turned.{finish_of_scan, finish_then, turned_none}
 use Rattle.driving.proofs.settling.turn_all.Goals as goal
 use Rattle.driving.proofs.settling.turn_all.Goals.{then-branch, else-branch}
@@ -22,6 +24,7 @@ loop-bus-preserved g c =
     let is = c.in_ok-turn_at.ensures in
     record {
       driven = finish_then p q r before between after c.loop-bus.invariant.driven is.driven;
+      goes_on = on_and_on (sends_at 0) (sends_at n) (sends_at (n + 1)) p q r c.loop-bus.invariant.goes_on is.goes_on;
       turned = elim c.if-branch.branch [
         | then-branch w ↦
             turned_did p q r before between after n
@@ -38,5 +41,12 @@ loop-bus-init g c =
     let logs = map g.B.Bus.log c.args.lines.now.items in
     record {
       driven = finish_of_scan c.args.plant.now c.args.plant.now logs (scan_nothing c.args.plant.now);
+      goes_on = stays c.args.plant.now c.args.plant.now (sends_at 0) refl refl;
       turned = turned_none c.args.plant.now logs;
     }
+
+pub returns-in_err-turn_at-clause-goes_on : goal.returns-in_err-turn_at-clause-goes_on
+returns-in_err-turn_at-clause-goes_on g c =
+    stopped_at (sends_at 0) (sends_at c.args.plant.now.plant.plan.buses) c.args.plant.now c.turn_at.new.plant
+    c.from_residual.result _ c.from_residual.ensures.1 (stops_then (sends_at 0) (sends_at c.loop-bus.bus) c.args.plant.now c.loop-bus.plant
+    c.turn_at.new.plant c.loop-bus.invariant.goes_on c.in_err-turn_at.ensures.goes_on)
