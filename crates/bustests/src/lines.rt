@@ -3,7 +3,7 @@
 
 use buslink::{Bus, Fault};
 use daliframe::{BusNumber, Frame, Frame16, Frame24};
-use linebus::{Greeted, LineBus};
+use liveline::{Greeted, LineBus};
 use std::io;
 use std::io::{ErrorKind, Read};
 use std::test::Fail;

@@ -1,14 +1,14 @@
 -- What is said of a file of kept values, from what was read of it.
 use Rattle.std.proofs.Common.{◌≡◌, ℕ, List, Option, Result, Ok, Err, Some, None, IfOk, subst, sym}
 use Rattle.ilplan.specs.Plans.{Planned}
-use Rattle.keeping.specs.KeptFiles.{KeptState}
-use Rattle.keeping.specs.Faults.{IsKeptFault}
-use Rattle.keeping.specs.declared.fault.KeptFault.{KeptFault}
+use Rattle.livekeep.specs.KeptFiles.{KeptState}
+use Rattle.livekeep.specs.Faults.{IsKeptFault}
+use Rattle.livekeep.specs.declared.fault.KeptFault.{KeptFault}
 use Rattle.commands.specs.declared.beginning.Beginning.{Beginning}
 use Rattle.commands.specs.declared.beginning.KeptNote.{KeptNote}
 use Rattle.commands.specs.declared.beginning.KeptNote.TheVariants.{Unused}
 use Rattle.commands.specs.declared.living.Halted.TheVariants as halts
-use Rattle.answers.specs.declared.stop.Stop.{Stop}
+use Rattle.inquiries.specs.declared.stop.Stop.{Stop}
 use Rattle.commands.specs.Beginnings.{AreUsed, HasBegun, IsBegunUnder, IsNoted, IsNotedUnder, IsNoteTold, IsNotedUnused}
 use Rattle.commands.specs.Buildings.{IsToldWhereBegun, LiveEnd}
 

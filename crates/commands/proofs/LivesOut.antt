@@ -9,8 +9,8 @@ use Rattle.plantlive.specs.Lives.{HasLived}
 use Rattle.options.specs.declared.live_options.LiveOptions.{LiveOptions}
 use Rattle.options.specs.declared.live_options.RunSize.{RunSize}
 use Rattle.options.specs.declared.line_word.LineWord.{LineWord}
-use Rattle.building.specs.declared.buildings.Building.{Building}
-use Rattle.building.specs.Buildings.{IsOpened}
+use Rattle.livehouse.specs.declared.buildings.Building.{Building}
+use Rattle.livehouse.specs.Buildings.{IsOpened}
 use Rattle.commands.specs.declared.beginning.Beginning.{Beginning}
 use Rattle.commands.specs.Beginnings.{HasBegun, begins_at}
 use Rattle.commands.specs.Buildings.{IsLivedOut, OfLine, TimedAs}

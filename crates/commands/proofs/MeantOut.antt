@@ -2,7 +2,7 @@
 use Rattle.std.proofs.Common.{◌≡◌, ℕ, List, Option, Some, None}
 use Rattle.wordlines.specs.Wirings.{Wiring}
 use Rattle.ilcompile.specs.Loaded.{Loaded}
-use Rattle.keeping.specs.KeptFiles.{KeptEntry, KeptState}
+use Rattle.livekeep.specs.KeptFiles.{KeptEntry, KeptState}
 use Rattle.plantevents.specs.declared.event.Event.{Event}
 use Rattle.plantevents.specs.Plants.{Plant}
 use Rattle.plantevents.specs.Legal.{AreLegal}

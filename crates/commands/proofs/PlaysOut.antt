@@ -12,7 +12,7 @@ use Rattle.plantplay.specs.Stage.{Stage, IsPlayedTo}
 use Rattle.plantplay.specs.declared.installation.Installation.{Installation}
 use Rattle.plantplay.specs.declared.ending.Ending.{Ending}
 use Rattle.plant.specs.Shown.{Shown}
-use Rattle.exits.specs.declared.exit_status.ExitStatus.{ExitStatus}
+use Rattle.exitstatus.specs.declared.exit_status.ExitStatus.{ExitStatus}
 use Rattle.options.specs.declared.expected_word.ExpectedWord.{ExpectedWord}
 use Rattle.commands.specs.Plays.{PlayBytes, AreNames, IsJudgedBy, IsStarted, IsPlayedOut, IsPlayedUnder, status_of_played}
 use Rattle.commands.proofs.MeantOut.{KeptScansAreAsMeant, ScansAreAsMeant, meant_of}

@@ -3,9 +3,9 @@ use Rattle.std.proofs.Common.{◌≡◌, ℕ, List, Option, inr}
 use Rattle.std.specs.Io.KnownBytes.{Appends}
 use Rattle.std.specs.Option.{option_copied}
 use Rattle.options.specs.declared.files.Files.{Files}
-use Rattle.answers.specs.declared.stop.Stop.{Stop}
-use Rattle.exits.specs.ExitStatuses.{status_of_stop}
-use Rattle.exits.specs.declared.exit_status.ExitStatus.{ExitStatus}
+use Rattle.inquiries.specs.declared.stop.Stop.{Stop}
+use Rattle.exitstatus.specs.ExitStatuses.{status_of_stop}
+use Rattle.exitstatus.specs.declared.exit_status.ExitStatus.{ExitStatus}
 use Rattle.commands.specs.CodeFiles.{IsCodeServed, IsCodeStop}
 use Rattle.commands.specs.Reports.{stop_text}
 use Rattle.commands.specs.Served.{IsGiven}

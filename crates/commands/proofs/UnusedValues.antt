@@ -1,9 +1,9 @@
 -- A building that begins without the values of a file of kept ones: why these are not used.
 use Rattle.std.proofs.Common.{◌≡◌, ℕ, List, Option, Some, None, subst, sym}
 use Rattle.ilcompile.specs.Loaded.{Loaded}
-use Rattle.keeping.specs.KeptFiles.{KeptState}
-use Rattle.keeping.specs.Faults.{IsKeptFault}
-use Rattle.keeping.specs.declared.fault.KeptFault.{KeptFault}
+use Rattle.livekeep.specs.KeptFiles.{KeptState}
+use Rattle.livekeep.specs.Faults.{IsKeptFault}
+use Rattle.livekeep.specs.declared.fault.KeptFault.{KeptFault}
 use Rattle.commands.specs.declared.beginning.Beginning.{Beginning}
 use Rattle.commands.specs.Beginnings.{AreUsed, IsBegunUnder}
 use Rattle.commands.specs.Plays.{IsSetupUnder}

@@ -5,13 +5,13 @@ use Rattle.wordlines.specs.Wirings.{Wiring}
 use Rattle.ilsource.specs.SourceTrees.{Tree}
 use Rattle.ilcompile.specs.Loaded.{Loaded}
 use Rattle.ilplan.specs.Plans.{Planned}
-use Rattle.keeping.specs.KeptFiles.{IsKeptFile, KeptState}
-use Rattle.keeping.specs.KeptPlans.{left_out_of}
-use Rattle.keeping.specs.Faults.{IsKeptFault}
-use Rattle.keeping.specs.declared.fault.KeptFault.{KeptFault}
+use Rattle.livekeep.specs.KeptFiles.{IsKeptFile, KeptState}
+use Rattle.livekeep.specs.KeptPlans.{left_out_of}
+use Rattle.livekeep.specs.Faults.{IsKeptFault}
+use Rattle.livekeep.specs.declared.fault.KeptFault.{KeptFault}
 use Rattle.plantload.specs.Loading.{IsSetup}
 use Rattle.plantload.specs.KeptLoading.{IsKeptSetup}
-use Rattle.answers.specs.Connected.{IsConnected}
+use Rattle.inquiries.specs.Connected.{IsConnected}
 use Rattle.commands.specs.declared.beginning.Beginning.{Beginning}
 use Rattle.commands.specs.declared.beginning.KeptNote.{KeptNote}
 use Rattle.commands.specs.declared.beginning.KeptNote.TheVariants.{NoFile, Unused, Used}

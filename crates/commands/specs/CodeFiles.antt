@@ -6,15 +6,15 @@ use Rattle.std.specs.Io.KnownBytes.{Appends}
 use Rattle.std.specs.Option.{option_copied}
 use Rattle.wordlines.specs.Wirings.{Wiring}
 use Rattle.options.specs.declared.files.Files.{Files}
-use Rattle.answers.specs.Answered.{IsStepStop, IsStopOrMemory}
-use Rattle.answers.specs.Connected.{IsBindingStop, IsConnected}
-use Rattle.answers.specs.declared.stop.Stop.{Stop}
-use Rattle.answers.specs.Coding.{IsCodeAnswer, IsCodeFile}
-use Rattle.answers.specs.CodePrinted.{printed}
-use Rattle.answers.specs.declared.code_answer.CodeAnswer.{CodeAnswer}
-use Rattle.exits.specs.ExitStatuses.{status_of_code_answer, status_of_stop}
-use Rattle.exits.specs.declared.exit_status.ExitStatus.{ExitStatus}
-use Rattle.exits.specs.declared.exit_status.ExitStatus.TheVariants.{Accepted}
+use Rattle.inquiries.specs.Answered.{IsStepStop, IsStopOrMemory}
+use Rattle.inquiries.specs.Connected.{IsBindingStop, IsConnected}
+use Rattle.inquiries.specs.declared.stop.Stop.{Stop}
+use Rattle.inquiries.specs.Coding.{IsCodeAnswer, IsCodeFile}
+use Rattle.inquiries.specs.CodePrinted.{printed}
+use Rattle.inquiries.specs.declared.code_answer.CodeAnswer.{CodeAnswer}
+use Rattle.exitstatus.specs.ExitStatuses.{status_of_code_answer, status_of_stop}
+use Rattle.exitstatus.specs.declared.exit_status.ExitStatus.{ExitStatus}
+use Rattle.exitstatus.specs.declared.exit_status.ExitStatus.TheVariants.{Accepted}
 use Rattle.commands.specs.Reports.{ended, stop_text}
 use Rattle.commands.specs.Served.{IsFirstUnread, IsGiven}
 use Rattle.commands.specs.declared.reading.DiskFault.{DiskFault}

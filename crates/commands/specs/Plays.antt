@@ -11,34 +11,34 @@ use Rattle.wordlines.specs.declared.statements.Statement.{Statement}
 use Rattle.wordlines.specs.Happenings.{happenings}
 use Rattle.wordlines.specs.Scenarios.{IsScenario, IsJudged}
 use Rattle.simbus.specs.Simulated.{Simulated}
-use Rattle.keeping.specs.KeptFiles.{KeptState}
+use Rattle.livekeep.specs.KeptFiles.{KeptState}
 use Rattle.plantevents.specs.declared.event.Event.{Event}
 use Rattle.plantevents.specs.Legal.{AreLegal}
 use Rattle.plant.specs.Shown.{Shown}
 use Rattle.plantload.specs.MeantScans.{AreAsMeant}
-use Rattle.driving.specs.Downs.{has_down}
+use Rattle.plantdriving.specs.Downs.{has_down}
 use Rattle.plantplay.specs.ByScenario.{IsByScenario}
 use Rattle.plantplay.specs.Installations.{IsInstallation, IsStartFault, stage_of}
 use Rattle.plantplay.specs.Stage.{IsPlayedTo}
 use Rattle.plantplay.specs.declared.installation.Installation.{Installation}
 use Rattle.plantplay.specs.declared.ending.Ending.{Ending}
-use Rattle.exits.specs.declared.exit_status.ExitStatus.{ExitStatus}
-use Rattle.exits.specs.declared.exit_status.ExitStatus.TheVariants.{Accepted, Refused, Misused}
+use Rattle.exitstatus.specs.declared.exit_status.ExitStatus.{ExitStatus}
+use Rattle.exitstatus.specs.declared.exit_status.ExitStatus.TheVariants.{Accepted, Refused, Misused}
 use Rattle.options.specs.declared.expected_word.ExpectedWord.{ExpectedWord}
 use Rattle.options.specs.declared.files.PlayFiles.{PlayFiles}
-use Rattle.exits.specs.declared.play_stop.PlayStop.{PlayStop}
-use Rattle.exits.specs.declared.play_stop.PlayStop.TheVariants.{Text, Scenario, Start}
-use Rattle.answers.specs.declared.stop.Stop.{Stop}
+use Rattle.exitstatus.specs.declared.play_stop.PlayStop.{PlayStop}
+use Rattle.exitstatus.specs.declared.play_stop.PlayStop.TheVariants.{Text, Scenario, Start}
+use Rattle.inquiries.specs.declared.stop.Stop.{Stop}
 use Rattle.commands.specs.declared.reading.DiskFault.{DiskFault}
 use Rattle.commands.specs.declared.serving.Unserved.{Unserved}
 use Rattle.commands.specs.declared.serving.Unserved.TheVariants.{NotRead, NotWritten, NotPrinted}
 use Rattle.commands.specs.Beginnings.{AreUsed, IsBegunUnder, tree_of}
 use Rattle.commands.specs.Served.{IsGiven}
-use Rattle.answers.specs.Answered.{IsCheckStop, IsStopOrMemory}
-use Rattle.answers.specs.Connected.{IsConnected, IsBindingStop}
-use Rattle.exits.specs.ExitStatuses.{status_of_play, status_of_play_stop}
-use Rattle.expectations.specs.Expected.{AreKnown, AreMet}
-use Rattle.watching.specs.Watched.{AreWatchable}
+use Rattle.inquiries.specs.Answered.{IsCheckStop, IsStopOrMemory}
+use Rattle.inquiries.specs.Connected.{IsConnected, IsBindingStop}
+use Rattle.exitstatus.specs.ExitStatuses.{status_of_play, status_of_play_stop}
+use Rattle.playexpect.specs.Expected.{AreKnown, AreMet}
+use Rattle.playwatch.specs.Watched.{AreWatchable}
 
 -- the bytes of the three files, and of that of kept values where one is named
 pub record PlayBytes : Type 0 where

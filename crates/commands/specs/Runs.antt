@@ -5,14 +5,14 @@ use Rattle.wordlines.specs.declared.statements.Statement.{Statement}
 use Rattle.wordlines.specs.Scenarios.{IsScenario}
 use Rattle.simbus.specs.ScriptedTicks.{ScriptedTicks}
 use Rattle.simbus.specs.Simulated.{Simulated}
-use Rattle.driving.specs.Downs.{has_down}
+use Rattle.plantdriving.specs.Downs.{has_down}
 use Rattle.plantrun.specs.Runs.{IsRun}
 use Rattle.workers.specs.declared.closed.ClosedParts.{ClosedParts}
-use Rattle.exits.specs.declared.exit_status.ExitStatus.{ExitStatus}
+use Rattle.exitstatus.specs.declared.exit_status.ExitStatus.{ExitStatus}
 use Rattle.options.specs.declared.files.PlayFiles.{PlayFiles}
 use Rattle.options.specs.declared.live_options.RunSize.{RunSize}
-use Rattle.exits.specs.declared.play_stop.PlayStop.{PlayStop}
-use Rattle.exits.specs.ExitStatuses.{status_of_play_stop, status_of_run}
+use Rattle.exitstatus.specs.declared.play_stop.PlayStop.{PlayStop}
+use Rattle.exitstatus.specs.ExitStatuses.{status_of_play_stop, status_of_run}
 use Rattle.commands.specs.Plays.{PlayBytes, AreGiven, AreMeantBy, IsPlayStop, IsSetupOf}
 
 -- The plant of the text's setup under the binding, which begins with kept values where a file of them is used, was run

@@ -5,7 +5,7 @@ use Rattle.std.specs.Option.{option_copied}
 use Rattle.commands.specs.declared.reading.DiskFault.{DiskFault}
 use Rattle.options.specs.declared.files.Files.{Files}
 use Rattle.options.specs.declared.inquiry.Inquiry.{Inquiry}
-use Rattle.exits.specs.declared.exit_status.ExitStatus.{ExitStatus}
+use Rattle.exitstatus.specs.declared.exit_status.ExitStatus.{ExitStatus}
 use Rattle.commands.specs.declared.serving.Unserved.{Unserved}
 use Rattle.commands.specs.declared.serving.Unserved.TheVariants.{NotRead, NotWritten, NotPrinted}
 use Rattle.commands.specs.Reports.{IsReport}

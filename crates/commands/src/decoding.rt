@@ -3,8 +3,8 @@
 use crate::reading::{DiskFault, reason};
 use crate::serving::Unserved;
 use crate::wording::frame_of;
-use exits::ExitStatus;
-use framewords::FrameWords;
+use daliwords::FrameWords;
+use exitstatus::ExitStatus;
 use std::alloc::Global;
 use std::fs::File;
 use std::io::{BufRead, BufReader, Read, Write};

@@ -4,7 +4,7 @@
 //!
 //! What crosses the boundary: the words of a command line, the bytes of files on a [`Disk`], lines
 //! on a writer, and an [`ExitStatus`]. `commandline` reads the words; [`serve`] reads the files
-//! that they name, has `answers` answer what they hold, and prints it (specs/Reports.antt);
+//! that they name, has `inquiries` answer what they hold, and prints it (specs/Reports.antt);
 //! [`serve_play`] plays, [`serve_run`] runs, and [`serve_look`] plays and draws; [`serve_live`]
 //! runs a building; [`serve_code`] writes a code file, and [`serve_check_code`] judges one. The
 //! outermost definitions are `IsServed` (specs/Served.antt), `IsPlayed` (specs/Plays.antt),
@@ -46,7 +46,7 @@ mod wording;
 
 pub use beginning::{Beginning, KeptNote};
 pub use code_files::{serve_check_code, serve_code};
-pub use exits::ExitStatus;
+pub use exitstatus::ExitStatus;
 pub use lived::LiveLeft;
 pub use living::{Grounds, Halted, LiveEnd, Notice, serve_live, status_of_live};
 pub use looking::serve_look;

@@ -3,8 +3,8 @@
 ghost use Rattle.std.specs.Prelude.{◌≡◌};
 ghost use Rattle.commands.specs.Buildings.{status_of_live_stop};
 
-use building::LiveStop;
-use exits::ExitStatus;
+use exitstatus::ExitStatus;
+use livehouse::LiveStop;
 
 /// How the program ends where this stands against a building.
 pub(crate) fn status_of_live_stop(stop: &LiveStop) -> ExitStatus

@@ -12,15 +12,16 @@ use crate::live_status::status_of_live_stop;
 use crate::lived::LiveLeft;
 use crate::reading::Disk;
 use crate::serving::{Unserved, bytes_at};
-use answers::Stop;
-use building::{Departure, LiveStop, Site, open};
 use buslink::{Bus, Clock};
-use driving::has_down;
-use exits::ExitStatus;
-use observing::{BuildingObserver, Storage};
+use exitstatus::ExitStatus;
+use inquiries::Stop;
+use livehouse::{Departure, LiveStop, Site, open};
+use livejournal::{BuildingObserver, Storage};
 use options::{LineWord, LiveFiles, LiveOptions};
 use plant::StartFault;
+use plantdriving::has_down;
 use plantload::{kept_scans_are_as_meant, scans_are_as_meant};
+use plantturns::{Gate, OpenGate};
 use std::alloc::Global;
 use std::io;
 use std::io::{BufWriter, Write};
@@ -28,7 +29,6 @@ use std::marker::Model;
 use std::sync::Wait;
 use std::thread::Threads;
 use std::time::Clock as Timer;
-use turns::{Gate, OpenGate};
 
 /// The first of what stands against running a building, in the order in which it is reported.
 #[derive(Drop)]

@@ -8,17 +8,17 @@ use crate::reading::Disk;
 use crate::serving::Unserved;
 use crate::unknown::write_unwatchable;
 use commandline::LookOptions;
-use exits::{ExitStatus, PlayStop};
+use exitstatus::{ExitStatus, PlayStop};
 use options::PlayFiles;
-use picture::{Moment, Picture, write_svg, write_text};
 use plant::Plant;
 use plantplay::{Ending, Installation, play_on, write_counts};
-use replay::Drawing;
+use playdraw::Drawing;
+use playpicture::{Moment, Picture, write_svg, write_text};
+use playwatch::are_watchable;
 use simbus::{Scenario, SimBus};
 use std::alloc::{AllocError, Global};
 use std::io;
 use std::io::{BufWriter, Write};
-use watching::are_watchable;
 
 /// The most events of a history that is looked at.
 const LIMIT: u32 = 100_000;

@@ -2,7 +2,7 @@
 
 use commandline::GivenRequest;
 use daliframe::{Address, BusNumber, Frame, Number};
-use framewords::{AddressWords, Block, FrameWords, request_of};
+use daliwords::{AddressWords, Block, FrameWords, request_of};
 use gearcmd::{Command, Request};
 use ilblocks::{BlockKind, Port, PortName, PortValues};
 use std::alloc::{AllocError, Global};

@@ -1,11 +1,11 @@
 //! Answers as JSON: one object on one line, whose member `version` is 1.
 
 use crate::telling::{AskedFiles, Explained, Sheets, explain_files, played_of, status_of_notes};
-use answers::{Stop, task_line};
-use exits::ExitStatus;
+use exitstatus::ExitStatus;
 use ilcompile::Setup;
+use illisting::{NotesAsked, Quoted, write_notes, write_task};
 use ilsource::Source;
-use listing::{NotesAsked, Quoted, write_notes, write_task};
+use inquiries::{Stop, task_line};
 use std::alloc::Global;
 use std::io;
 use std::io::Write;

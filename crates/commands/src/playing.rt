@@ -3,8 +3,8 @@
 ghost use Rattle.std.specs.Prelude.{◌≡◌, ◌↔◌, IfErr, IfOk, IsTrue};
 ghost use Rattle.commands.specs.Plays.{AreNames, HasScenario, IsJudgedBy, IsPlayEnd, IsPlayStop};
 ghost use Rattle.commands.specs.Plays.{IsPlayed, IsStarted, IsUnplayed, status_unmet};
-ghost use Rattle.expectations.specs.Expected.{AreKnown};
-ghost use Rattle.watching.specs.Watched.{AreWatchable};
+ghost use Rattle.playexpect.specs.Expected.{AreKnown};
+ghost use Rattle.playwatch.specs.Watched.{AreWatchable};
 
 use crate::beginning::{Beginning, KeptNote};
 use crate::brief::Brief;
@@ -13,16 +13,16 @@ use crate::reading::Disk;
 use crate::serving::Unserved;
 use crate::unknown::{write_unknown, write_unwatchable};
 use commandline::PlayShows;
-use exits::{ExitStatus, PlayStop};
-use expectations::{are_known, are_met, report_unmet};
+use exitstatus::{ExitStatus, PlayStop};
 use options::{ExpectedWord, PlayFiles};
 use plantload::{kept_scans_are_as_meant, scans_are_as_meant};
 use plantplay::{FrameStyle, Installation, open, play_watched, plays_are_by_scenario};
+use playexpect::{are_known, are_met, report_unmet};
+use playwatch::are_watchable;
 use simbus::{Scenario, SimBus};
 use std::alloc::Global;
 use std::io;
 use std::io::{BufWriter, Write};
-use watching::are_watchable;
 
 /// What is asked of a play.
 #[derive(Clone, Copy)]

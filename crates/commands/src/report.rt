@@ -6,10 +6,10 @@ ghost use Rattle.commands.specs.Reports.{first_lines, first_texts, requests_of_s
 ghost use Rattle.commands.specs.Reports.{printed_answer, scan_lines, stop_text, task_line};
 ghost use Rattle.commands.specs.Reports.{variable_line};
 
-use answers::{Answer, Stepped, Stop, task_line};
-use exits::ExitStatus;
+use exitstatus::ExitStatus;
 use gearcmd::RequestLine;
 use ilcompile::Setup;
+use inquiries::{Answer, Stepped, Stop, task_line};
 use std::alloc::Global;
 use std::io;
 use std::io::{BufWriter, Write};

@@ -6,8 +6,8 @@ ghost use Rattle.commands.specs.Served.{IsGiven, IsNotRead, IsServed, IsUnserved
 
 use crate::reading::{Disk, DiskFault};
 use crate::report;
-use answers::respond;
-use exits::ExitStatus;
+use exitstatus::ExitStatus;
+use inquiries::respond;
 use options::Inquiry;
 use std::alloc::Global;
 use std::io;

@@ -3,15 +3,15 @@
 use crate::objects::{write_explained, write_noted, write_sizes, write_stop, write_words};
 use crate::reading::Disk;
 use crate::serving::{Unserved, bytes_at, named_at};
-use answers::{Stop, UnknownTask, binding_of, check};
 use commandline::Question;
-use exits::{ExitStatus, PlayStop};
+use exitstatus::{ExitStatus, PlayStop};
 use explaining::{AskedText, explain_binding, explain_load, explain_scenario};
 use ilcompile::Setup;
-use ilsource::Source;
-use listing::{
+use illisting::{
     NOTE_NAMES, NotedFiles, NotesAsked, Played, is_note_name, write_load, write_notes, write_task,
 };
+use ilsource::Source;
+use inquiries::{Stop, UnknownTask, binding_of, check};
 use options::Files;
 use plantload::{LoadFault, source_and_plan};
 use simbus::Scenario;

@@ -6,16 +6,16 @@ use crate::living::Halted;
 use crate::pages::setup_of;
 use crate::reading::Disk;
 use crate::serving::{Unserved, bytes_at, named_at};
-use answers::binding_of;
-use building::{LineupFault, LiveStop, Site, SiteFault};
-use commissioning::{
-    DeclaredBus, ListenEnd, ProbeForm, Served, serve_ask, serve_blink, serve_listen, serve_probe,
-};
 use daliframe::{BusNumber, ShortAddress};
-use exits::ExitStatus;
+use exitstatus::ExitStatus;
 use gearcmd::Command;
 use ilcompile::Setup;
+use inquiries::binding_of;
 use liveclock::StopCondition;
+use livehouse::{LineupFault, LiveStop, Site, SiteFault};
+use livesurvey::{
+    DeclaredBus, ListenEnd, ProbeForm, Served, serve_ask, serve_blink, serve_listen, serve_probe,
+};
 use options::{LineWord, LiveFiles};
 use plant::StartFault;
 use std::alloc::Global;

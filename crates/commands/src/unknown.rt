@@ -1,12 +1,12 @@
 //! What is said of variables that are not there: each with those that are.
 
-use expectations::report_unknown;
 use ilplan::Plan;
 use options::ExpectedWord;
+use playexpect::report_unknown;
+use playwatch::report_unwatchable;
 use std::alloc::Global;
 use std::io;
 use std::io::Write;
-use watching::report_unwatchable;
 
 /// Writes a line for each name that is expected and that no global variable has, with those that
 /// there are.

@@ -3,11 +3,11 @@
 use crate::decoding::{STANDARD_INPUT, serve_log};
 use crate::reading::Disk;
 use crate::serving::{Unserved, bytes_at};
-use answers::{Stop, binding_of};
 use commandline::GivenFrames;
 use daliframe::{Frame, Frame16, Frame24};
-use exits::ExitStatus;
-use framewords::frame_of_event;
+use daliwords::frame_of_event;
+use exitstatus::ExitStatus;
+use inquiries::{Stop, binding_of};
 use std::alloc::{AllocError, Global};
 use std::io::{BufWriter, Write};
 use std::rt::Files;
@@ -82,7 +82,7 @@ fn report_others<E: Write>(complaints: &mut E, words: &[&str]) -> io::Result<()>
 fn write_frames<W: Write>(to: &mut W, words: &[&str]) -> io::Result<()> {
     for word in words {
         if let Some(frame) = frame_of(word) {
-            let said = framewords::FrameWords(frame);
+            let said = daliwords::FrameWords(frame);
             writeln!(to, "{frame} {said}")?;
         }
     }

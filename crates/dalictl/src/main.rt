@@ -5,8 +5,8 @@
 //! `commands::ExitStatus`, by its number.
 #![tactic(auto)]
 
-use building::{HostDevices, HostSite, LineStarter, hold_standard_files};
 use commands::ExitStatus;
+use livehouse::{HostDevices, HostSite, LineStarter, hold_standard_files};
 use std::process::ExitCode;
 
 fn main(rt: HostRuntime) -> ExitCode {

@@ -8,16 +8,16 @@ use crate::guards::guarded;
 use crate::mismatch::{Mismatch, ValueText, mismatch_at};
 use crate::taken::{Lack, lack_at, ways_up_to};
 use crate::ways::{Behind, operand_column};
-use curing::{
+use explaincures::{
     AskedText, Edit, EditOutcome, Example, FaultAnswer, Spot, first_column, line_of, part,
     place_of, shown_text,
 };
 use ilblocks::BlockKind;
 use ilcode::{Code, Word};
+use illisting::{TaskNames, line_at};
 use ilranges::Cause;
 use iltypes::Range;
 use ilverify::Refusal;
-use listing::{TaskNames, line_at};
 use std::alloc::{AllocError, Global};
 
 /// A refused word with what it is asked about.

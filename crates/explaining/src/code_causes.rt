@@ -1,6 +1,6 @@
 //! What is said of the causes of a code.
 
-use curing::Advice;
+use explaincures::Advice;
 use ilranges::Cause;
 
 /// A number that may not fit.

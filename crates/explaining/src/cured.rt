@@ -1,6 +1,6 @@
 //! A text in which lines that were tried stand in place of those at fault.
 
-use curing::{AskedText, TriedLines};
+use explaincures::{AskedText, TriedLines};
 use std::alloc::{AllocError, Global};
 
 /// A text with some of its lines changed.

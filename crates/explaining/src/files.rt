@@ -4,23 +4,23 @@ use crate::code_answers::{Refused, answer_code};
 use crate::further::Further;
 use crate::requests::print_requests;
 use crate::ways::print_way;
-use badlines::{LineFile, bad_line};
-use curing::{
+use explaincures::{
     AskedText, Example, FaultAnswer, first_column, place_of, write_answer, write_found, write_line,
     write_place,
 };
+use explainlines::{LineFile, bad_line};
+use explainnames::{OtherFaults, answer_name};
+use explaintexts::answer_text;
 use ilcompile::compile;
+use illisting::{TaskNames, functions_in, print_deepest_calls, print_longest_calls};
 use ilranges::Cause;
 use ilscope::NameFault;
 use iltext::TextFault;
-use listing::{TaskNames, functions_in, print_deepest_calls, print_longest_calls};
-use namecauses::{OtherFaults, answer_name};
 use page::Page;
 use plantload::{LoadFault, RefusedTask};
 use std::alloc::Global;
 use std::io;
 use std::io::Write;
-use textcauses::answer_text;
 use wordlines::{BindFault, LineFault, ScenarioFault};
 
 /// Explains why a text is not loaded.

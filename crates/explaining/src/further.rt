@@ -4,20 +4,20 @@ ghost use Rattle.std.specs.Prelude.{◌<◌, length};
 
 use crate::code_answers::{Refused, answer_code};
 use crate::cured::CuredText;
-use curing::{AskedText, Example, FaultAnswer, TriedLines, first_column, place_of};
+use explaincures::{AskedText, Example, FaultAnswer, TriedLines, first_column, place_of};
+use explainnames::{OtherFaults, answer_name};
+use explaintexts::answer_text;
 use ilcompile::compile;
+use illisting::{TaskNames, functions_in};
 use ilplan::Plan;
 use ilscope::{NameCause, NameFault};
 use iltext::{TextCause, TextFault};
 use ilverify::{Refusal, VerifyError, verify};
-use listing::{TaskNames, functions_in};
-use namecauses::{OtherFaults, answer_name};
 use page::Page;
 use plantload::{LoadFault, load};
 use std::alloc::{AllocError, Global};
 use std::io;
 use std::io::Write;
-use textcauses::answer_text;
 
 /// How many faults of a text are named at most behind the one that is explained.
 const MOST_NAMED: usize = 20;

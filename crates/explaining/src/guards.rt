@@ -2,10 +2,10 @@
 
 use crate::code_answers::{Refused, is_cure};
 use crate::code_causes::{ZERO, advice_of};
-use curing::{Edit, FaultAnswer, Spot, first_column, part, place_of, shown_text};
+use explaincures::{Edit, FaultAnswer, Spot, first_column, part, place_of, shown_text};
 use ilcode::{Code, Word, WordOperand};
+use illisting::line_at;
 use iltokens::{Keyword, keyword_of};
-use listing::line_at;
 use std::alloc::{AllocError, Global};
 
 /// What is compared of a divisor: it is jumped past where that is TRUE.

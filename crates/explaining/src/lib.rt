@@ -24,5 +24,5 @@ mod requests;
 mod taken;
 mod ways;
 
-pub use curing::AskedText;
+pub use explaincures::AskedText;
 pub use files::{explain_binding, explain_load, explain_scenario};

@@ -1,8 +1,8 @@
 //! The calls that make too many requests.
 
 use ilcode::{Code, Word};
+use illisting::{TaskNames, WordText, line_at};
 use iltypes::Condition;
-use listing::{TaskNames, WordText, line_at};
 use page::Page;
 use std::alloc::{AllocError, Global};
 

@@ -1,12 +1,12 @@
 //! A way that leads to a word, with what is known on it.
 
 use crate::taken::{Way, place_before, ways_up_to};
-use curing::{Spot, part, place_of, shown_text};
+use explaincures::{Spot, part, place_of, shown_text};
 use ilcode::{Code, Word};
+use illisting::{KnownText, TaskNames, WordText, line_at};
 use iltokens::Keyword::{Jmp, Jmpc, Jmpcn, Ret, Retc, Retcn};
 use iltokens::{Delimiter, Lexed, What, token};
 use ilverify::{Pass, Passed};
-use listing::{KnownText, TaskNames, WordText, line_at};
 use page::Page;
 use std::alloc::{AllocError, Global};
 

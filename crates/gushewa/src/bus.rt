@@ -7,7 +7,7 @@ ghost use Rattle.gushewa.specs.Controllers.{fresh_bus};
 use crate::interface::Interface;
 use buslink::{Bus, Fault};
 use daliframe::{BusNumber, Frame, Frame24};
-use memo::Trace;
+use ghosts::Trace;
 use std::alloc::AllocError;
 use std::marker::Model;
 use transact::{Mark, Reply, Sent};

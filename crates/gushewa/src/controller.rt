@@ -4,9 +4,9 @@ ghost use Rattle.std.specs.Prelude.{◌≡◌, ◌<◌, vec_len};
 
 use crate::not_opened::NotOpened;
 use buslink::Bus;
-use driving::{Halt, IdlePlant, Observer};
 use ilcompile::Setup;
 use plant::Plant;
+use plantdriving::{Halt, IdlePlant, Observer};
 use std::alloc::Global;
 
 /// One scan worker scans.
@@ -73,9 +73,9 @@ impl<B: Drop> Controller<B> {
 
 impl<B: Bus> Controller<B> {
     ghost use Rattle.std.specs.Prelude.{◌≡◌, map, IfErr, OnOk};
-    ghost use Rattle.driving.specs.Driven.{CannotGoOn, IsDriven, IsHeardFirst};
-    ghost use Rattle.driving.specs.Quiet.{IsQuiet};
-    ghost use Rattle.driving.specs.Ticks.{TicksAt};
+    ghost use Rattle.plantdriving.specs.Driven.{CannotGoOn, IsDriven, IsHeardFirst};
+    ghost use Rattle.plantdriving.specs.Quiet.{IsQuiet};
+    ghost use Rattle.plantdriving.specs.Ticks.{TicksAt};
 
     /// It is this moment, in milliseconds: what waits for it happens at the next
     /// [`Controller::settle`].

@@ -10,7 +10,7 @@
 //! ([`Controller::settle`]). The definition to read first is `IsOpened` (specs/Controllers.antt).
 //!
 //! Many threads and real time are for `plantlive::live`, and lines to real interfaces for
-//! `building`.
+//! `livehouse`.
 //!
 //! ```text
 //! let setup = load(alloc, text, &Binding::one_bus(alloc))?;
@@ -30,11 +30,11 @@ pub use bus::InterfaceBus;
 pub use buslink::{Bus, Fault};
 pub use controller::Controller;
 pub use daliframe::{Address, BusNumber, Fields16, Frame, Frame16, Frame24};
-pub use driving::{Halt, Observer};
 pub use ilcompile::Setup;
 pub use interface::Interface;
 pub use not_opened::NotOpened;
 pub use plant::{OpenFault, Plant};
+pub use plantdriving::{Halt, Observer};
 pub use plantload::{LoadFault, load};
 pub use transact::Reply;
 pub use unobserved::Unobserved;

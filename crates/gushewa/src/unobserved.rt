@@ -1,6 +1,6 @@
 //! Controllers that nobody observes.
 
-use driving::Observer;
+use plantdriving::Observer;
 
 /// Hears of each event, and does nothing.
 #[derive(Clone, Copy)]

@@ -6,8 +6,8 @@ ghost use Rattle.ilblocks.specs.Stores.{blocks_at_first};
 ghost use Rattle.ilcode.specs.Listings.{lasting_types};
 
 use ilblocks::{BlockKind, BlockState};
+use ilcells::{RowLayout, ValueRow};
 use ilcode::Code;
-use ilrows::{RowLayout, ValueRow};
 use iltypes::Value;
 use std::alloc::{AllocError, Global};
 use std::sync::Arc;

@@ -8,8 +8,8 @@ use crate::machine::run;
 use crate::state::State;
 use gearcmd::Request;
 use ilblocks::BlockState;
+use ilcells::ValueRow;
 use ilimage::Snapshot;
-use ilrows::ValueRow;
 use std::alloc::AllocError;
 use std::marker::Model;
 

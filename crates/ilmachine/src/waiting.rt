@@ -1,6 +1,6 @@
 //! Operators that wait for their parenthesis to be closed.
 
-use ilrows::Cell;
+use ilcells::Cell;
 use iltypes::{Operator, Value};
 use std::marker::Model;
 

@@ -3,12 +3,12 @@
 ghost use Rattle.std.specs.Prelude.{◌≡◌, ◌++◌, ◌≤◌, IfOk, take, drop, map, length};
 ghost use Rattle.iltypes.specs.Values.{AreOf};
 ghost use Rattle.ilcode.specs.Listings.{lasting_types, slots_end};
-ghost use Rattle.ilrows.specs.Banks.{kinds_of, kinds_of_types};
+ghost use Rattle.ilcells.specs.Banks.{kinds_of, kinds_of_types};
 ghost use Rattle.ilmachine.specs.MachineSteps.{IsRoomFor};
 ghost use Rattle.ilcode.specs.Lasting.{least_of, least_values};
 
+use ilcells::ValueRow;
 use ilcode::Code;
-use ilrows::ValueRow;
 use iltypes::{IlType, Value};
 use std::alloc::AllocError;
 

@@ -8,7 +8,7 @@ ghost use Rattle.liveclock.specs.ClockStates.{fresh_clock, with_moment};
 use crate::moments::{millis_since, next_period, sleep_until};
 use crate::stops::StopCondition;
 use buslink::Clock;
-use memo::Trace;
+use ghosts::Trace;
 use std::io;
 use std::marker::Model;
 use std::num::NonZeroU64;

@@ -30,12 +30,12 @@ use crate::place::{keep_place, keep_place_of, use_place, use_place_of};
 use crate::refusal::CallRefusal;
 use crate::setups::task_setups;
 use daliframe::Frame24;
+use ghosts::Trace;
 pub use handing::Handed;
 use ilcompile::Setup;
 use ilimage::Image;
 use limits::{FEW_BUSES, LEAST_EVENTS_OF_MANY};
 pub use limits::{LEAST_EVENTS as LEAST_LIMIT, MOST_EVENTS as MOST_LIMIT, MOST_WORKERS};
-use memo::Trace;
 use plantbuses::{
     BusOutputs, BusState, OwedLevels, RunningScan, fresh_buses, idle_workers, note_down,
     note_heard, outputs_of, owed_levels,

@@ -2,9 +2,9 @@
 
 ghost use Rattle.std.specs.Prelude.{◌≡◌};
 
+use ghosts::Memo;
 use ilimage::Snapshot;
 use ilmachine::ScanResult;
-use memo::Memo;
 use std::marker::Model;
 
 /// What a scan starts from, for contracts alone.

@@ -7,8 +7,8 @@ use Rattle.ilplan.specs.Plans.{Planned}
 use Rattle.ilplan.specs.Beginnings.{plan_with}
 use Rattle.ilcompile.specs.Loaded.{AreCodes, Loaded, loaded_of}
 use Rattle.ilcompile.proofs.Beginnings.{codes_begun, codes_before}
-use Rattle.keeping.specs.KeptFiles.{KeptEntry}
-use Rattle.keeping.specs.KeptPlans.{begun_plan, global_firsts, left_out_of, task_firsts}
+use Rattle.livekeep.specs.KeptFiles.{KeptEntry}
+use Rattle.livekeep.specs.KeptPlans.{begun_plan, global_firsts, left_out_of, task_firsts}
 use Rattle.plantload.specs.KeptLoading.{AreLeftOut, IsKeptLoaded, IsKeptSetup}
 use Rattle.plantload.specs.Loading.{AreMeant, IsPlanOfText, IsSetup}
 use Rattle.plantload.specs.declared.fault.LoadFault.{LoadFault}

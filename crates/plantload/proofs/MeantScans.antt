@@ -18,8 +18,8 @@ use Rattle.plantevents.specs.declared.event.Event.{Event}
 use Rattle.plantevents.specs.declared.event.Event.TheVariants.{Commit}
 use Rattle.plantevents.specs.Plants.{Plant}
 use Rattle.plantevents.specs.Legal.{Allowed, AreLegal, IsCommit}
-use Rattle.keeping.specs.KeptFiles.{KeptEntry}
-use Rattle.keeping.specs.KeptPlans.{IsKeptPlan, global_firsts, task_firsts}
+use Rattle.livekeep.specs.KeptFiles.{KeptEntry}
+use Rattle.livekeep.specs.KeptPlans.{IsKeptPlan, global_firsts, task_firsts}
 use Rattle.plantload.specs.MeantScans.{IsAsMeant, AreAsMeant}
 
 -- a task of the plan is one of the source program

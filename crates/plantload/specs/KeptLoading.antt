@@ -4,8 +4,8 @@ use Rattle.std.specs.Prelude.{◌≡◌, ℕ, List, Result, Ok, Err}
 use Rattle.wordlines.specs.Wirings.{Wiring}
 use Rattle.ilplan.specs.Plans.{Planned}
 use Rattle.ilcompile.specs.Loaded.{AreCodes, Loaded}
-use Rattle.keeping.specs.KeptFiles.{KeptEntry}
-use Rattle.keeping.specs.KeptPlans.{IsKeptPlan, left_out_of}
+use Rattle.livekeep.specs.KeptFiles.{KeptEntry}
+use Rattle.livekeep.specs.KeptPlans.{IsKeptPlan, left_out_of}
 use Rattle.plantload.specs.Loading.{IsLoadFault, IsPlanOfText}
 use Rattle.plantload.specs.declared.fault.LoadFault.{LoadFault}
 

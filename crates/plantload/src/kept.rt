@@ -2,7 +2,7 @@
 
 ghost use Rattle.std.specs.Prelude.{◌≡◌, ℕ, List, IfErr, IfOk, Result};
 ghost use Rattle.wordlines.specs.Wirings.{Wiring};
-ghost use Rattle.keeping.specs.KeptPlans.{left_out_of};
+ghost use Rattle.livekeep.specs.KeptPlans.{left_out_of};
 ghost use Rattle.plantload.specs.Loading.{AreMeant, IsLoadFault, IsLoadFaultOrMemory, IsSetup};
 ghost use Rattle.ilcompile.specs.Loaded.{Loaded};
 ghost use Rattle.plantload.specs.KeptLoading.{AreLeftOut, IsKeptLoaded, IsKeptSetup};
@@ -11,7 +11,7 @@ ghost use Rattle.plantload.specs.declared.fault.LoadFault.{LoadFault};
 use crate::fault::LoadFault;
 use crate::loading::load;
 use ilcompile::Setup;
-use keeping::{Kept, LeftOut, first_values_of, left_out_of};
+use livekeep::{Kept, LeftOut, first_values_of, left_out_of};
 use std::alloc::{AllocError, Global};
 use wordlines::Binding;
 

@@ -6,7 +6,7 @@ ghost use Rattle.ilcompile.specs.Loaded.{Loaded};
 ghost use Rattle.plantevents.specs.declared.event.Event.{Event};
 ghost use Rattle.plantevents.specs.Plants.{Plant};
 ghost use Rattle.plantevents.specs.Legal.{AreLegal};
-ghost use Rattle.keeping.specs.KeptFiles.{KeptEntry};
+ghost use Rattle.livekeep.specs.KeptFiles.{KeptEntry};
 ghost use Rattle.plantload.specs.KeptLoading.{IsKeptSetup};
 ghost use Rattle.plantload.specs.Loading.{AreMeant, IsSetup};
 ghost use Rattle.plantload.specs.MeantScans.{AreAsMeant};

@@ -2,7 +2,7 @@
 use Rattle.std.proofs.Common.{◌≡◌, Ok, Err, sym, subst}
 use Rattle.std.specs.Prelude.{Result, IfOk, IfErr, MatchResult}
 use Rattle.plant.specs.Shown.{Shown}
-use Rattle.receipts.specs.Receipts.{ShareParts}
+use Rattle.plantreceipts.specs.Receipts.{ShareParts}
 use Rattle.plantlock.specs.Answers.{Answer, IsUnderLock}
 
 -- what it did, accepted or refused

@@ -9,7 +9,7 @@ use Rattle.plantevents.specs.Parts.{Placed, part, shown_scan, shown_hand}
 use Rattle.plantevents.specs.Plants.{Plant}
 use Rattle.plant.specs.Matches.{IsOpenScan, IsOwnScan, IsOpenTransaction}
 use Rattle.plant.specs.Shown.{Shown}
-use Rattle.receipts.specs.Receipts.{ShareParts, IsRole, whole}
+use Rattle.plantreceipts.specs.Receipts.{ShareParts, IsRole, whole}
 use Rattle.plantlock.specs.Answers.{IsOwn, ShowsScan, ShowsTransaction}
 
 -- ---- the scan of a worker

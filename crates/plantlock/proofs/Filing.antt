@@ -12,11 +12,11 @@ use Rattle.plantevents.specs.declared.event.Event.{Event}
 use Rattle.plantevents.specs.Parts.{Placed, placed, part, role_of, is_same_role}
 use Rattle.plantevents.proofs.Parting.{part_mine, part_other, role_tells}
 use Rattle.plant.specs.Shown.{Shown, grown, reserving, is_reserved}
-use Rattle.receipts.specs.declared.receipt.NotedPart.{NotedPart}
-use Rattle.receipts.specs.Receipts.{IsRole, index_of, seat_of, reserved_after}
-use Rattle.receipts.specs.Seats.{AreCounted}
-use Rattle.receipts.specs.Tokens.{Held, Says, one_if}
-use Rattle.receipts.proofs.Roles.{index_below, index_apart, seat_apart}
+use Rattle.plantreceipts.specs.declared.receipt.NotedPart.{NotedPart}
+use Rattle.plantreceipts.specs.Receipts.{IsRole, index_of, seat_of, reserved_after}
+use Rattle.plantreceipts.specs.Seats.{AreCounted}
+use Rattle.plantreceipts.specs.Tokens.{Held, Says, one_if}
+use Rattle.plantreceipts.proofs.Roles.{index_below, index_apart, seat_apart}
 use Rattle.plantlock.specs.Tied.{IsTied, AreTied, HasPlace}
 use Rattle.plantlock.proofs.Places.{reserved_mine, reserved_other, reserved_now, reserved_then}
 

@@ -8,9 +8,9 @@ use Rattle.limits.specs.Limits.{most_total}
 use Rattle.plantevents.specs.declared.event.Event.{Event}
 use Rattle.plantevents.specs.declared.role.Role.{Role}
 use Rattle.plant.specs.Shown.{Shown, grown, is_reserved}
-use Rattle.receipts.specs.declared.receipt.NotedPart.{NotedPart}
-use Rattle.receipts.specs.Receipts.{IsRole, seat_of}
-use Rattle.receipts.proofs.Noting.{one_if_most}
+use Rattle.plantreceipts.specs.declared.receipt.NotedPart.{NotedPart}
+use Rattle.plantreceipts.specs.Receipts.{IsRole, seat_of}
+use Rattle.plantreceipts.proofs.Noting.{one_if_most}
 use Rattle.plantlock.specs.Tied.{AreTied, IsFront}
 
 -- the place of the newest event

@@ -8,7 +8,7 @@ use Rattle.plantevents.specs.declared.event.Event.{Event}
 use Rattle.plantevents.specs.declared.event.Event.TheVariants.{Tick, Heard, Take, Commit, Hand, Done, Down, Up}
 use Rattle.plantevents.specs.Parts.{role_of}
 use Rattle.plant.specs.Shown.{Shown, grown, reserving, is_reserved}
-use Rattle.receipts.specs.Receipts.{reserved_after}
+use Rattle.plantreceipts.specs.Receipts.{reserved_after}
 use Rattle.plantlock.specs.Tied.{HasPlace}
 
 cleared : (bs : List Bool) (b : ℕ) → slice_index_or (slice_set bs b false) b false ≡ false

@@ -14,7 +14,7 @@ use Rattle.plant.specs.declared.refusal.CallRefusal.TheVariants.{ClockBack, Stra
 use Rattle.plant.specs.Refusals.{Case, GivesFirstOrMemory, first_refusal, tick_cases, heard_cases, hand_cases}
 use Rattle.plant.specs.Refusals.{take_cases, down_cases, up_cases, has_no_bus}
 use Rattle.plant.specs.Shown.{Shown, is_reserved, is_full}
-use Rattle.receipts.specs.Receipts.{ShareParts, IsRole, whole}
+use Rattle.plantreceipts.specs.Receipts.{ShareParts, IsRole, whole}
 use Rattle.plantlock.specs.Answers.{IsNotUp, IsUnheard}
 
 pub error_as : {A E : Type 0} → (result : Result A E) (error : E) → IsErrAnd result (λ e. e ≡ error)

@@ -5,8 +5,8 @@ use Rattle.std.specs.Prelude.{if◌then◌else◌, map}
 use Rattle.plantevents.specs.declared.event.Event.{Event}
 use Rattle.plantevents.specs.declared.role.Role.{Role}
 use Rattle.plantevents.specs.Parts.{Placed, placed, part, is_same_role, role_of}
-use Rattle.receipts.specs.Each.{Each}
-use Rattle.receipts.specs.Receipts.{ShareParts, HasReceipts, HaveParts, moved, part_after}
+use Rattle.plantreceipts.specs.Each.{Each}
+use Rattle.plantreceipts.specs.Receipts.{ShareParts, HasReceipts, HaveParts, moved, part_after}
 use Rattle.plantlock.specs.Tied.{IsMet}
 
 one_since : (b : Bool) (e : Event) (n m k : ℕ) (x y z : List Placed) → k ≡ n + m → x ≡ map (moved n) y ++ z

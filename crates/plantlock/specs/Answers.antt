@@ -9,7 +9,7 @@ use Rattle.plant.specs.declared.refusal.CallRefusal.{CallRefusal}
 use Rattle.plant.specs.declared.refusal.CallRefusal.TheVariants.{BusDown, NothingReady, Full}
 use Rattle.plant.specs.Refusals.{GivesFirst, hand_cases}
 use Rattle.plant.specs.Shown.{Shown, is_reserved}
-use Rattle.receipts.specs.Receipts.{ShareParts, whole}
+use Rattle.plantreceipts.specs.Receipts.{ShareParts, whole}
 use Rattle.plantlock.specs.Tied.{IsFront}
 
 -- ---- the plant under the lock

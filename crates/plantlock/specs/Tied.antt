@@ -8,9 +8,9 @@ use Rattle.plantevents.specs.declared.role.Role.TheVariants.{Worker, Bus, Clock}
 use Rattle.plantevents.specs.declared.event.Event.{Event}
 use Rattle.plantevents.specs.Parts.{Placed, part}
 use Rattle.plant.specs.Shown.{Shown, is_reserved}
-use Rattle.receipts.specs.declared.receipt.NotedPart.{NotedPart}
-use Rattle.receipts.specs.Receipts.{ShareParts, IsRole, index_of, seat_of, whole}
-use Rattle.receipts.specs.Tokens.{Says}
+use Rattle.plantreceipts.specs.declared.receipt.NotedPart.{NotedPart}
+use Rattle.plantreceipts.specs.Receipts.{ShareParts, IsRole, index_of, seat_of, whole}
+use Rattle.plantreceipts.specs.Tokens.{Says}
 
 -- the number of a role, and the token of its newest cell, say: its receipts are those of its events since the start,
 -- and whether a place is kept back for it

@@ -6,8 +6,8 @@
 //! Share shows open are never refused. [`Shared::close`] opens the lock for good: the
 //! receipts of each Share are then exactly its part of what happened. The definitions to read first
 //! are `IsUnderLock` and `Answer` (specs/Answers.antt), what a call answers of the plant under the
-//! lock, and `IsNoted` (specs/Receipts.antt of `receipts`). `AreTied` (specs/Tied.antt) says how
-//! receipts are kept.
+//! lock, and `IsNoted` (specs/Receipts.antt of `plantreceipts`). `AreTied` (specs/Tied.antt) says
+//! how receipts are kept.
 //!
 //! ```text
 //! let handed = shared.hand(rt, &mut share, bus)?;
@@ -19,5 +19,5 @@ mod lock_notes;
 mod locked_plant;
 mod shared;
 
-pub use receipts::{LockStart, NotedPart, Share, Shares};
+pub use plantreceipts::{LockStart, NotedPart, Share, Shares};
 pub use shared::{Final, Shared};

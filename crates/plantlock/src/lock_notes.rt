@@ -6,14 +6,14 @@ ghost use Rattle.plantevents.specs.Parts.{part, role_of};
 ghost use Rattle.plantevents.specs.declared.role.Role.{Role as RoleOf};
 ghost use Rattle.plant.specs.Shown.{Shown, grown, reserving, is_reserved};
 ghost use Rattle.limits.specs.Limits.{most_seats};
-ghost use Rattle.receipts.specs.Receipts.{IsNoted, IsReserved, IsRole, index_of, whole};
+ghost use Rattle.plantreceipts.specs.Receipts.{IsNoted, IsReserved, IsRole, index_of, whole};
 ghost use Rattle.plantlock.specs.Tied.{AreTied, HasPlace};
 
 use limits::{MOST_SEATS, MOST_WORKERS};
 use plant::Plant;
 use plantevents::{Event, Role};
-use receipts::{LockStart, NotedPart, Share};
-use seats::{Tallies, Tally};
+use plantreceipts::{LockStart, NotedPart, Share};
+use planttallies::{Tallies, Tally};
 use std::marker::PhantomData;
 use std::sync::{OnceLock, OnceToken, Wait};
 

@@ -9,8 +9,8 @@ ghost use Rattle.plantevents.specs.Legal.{AreLegal};
 ghost use Rattle.plantevents.specs.Parts.{part, shown_moment, shown_down};
 ghost use Rattle.plant.specs.Refusals.{GivesFirst, tick_cases, may_tick_cases, heard_cases};
 ghost use Rattle.plant.specs.Shown.{grown, reserving};
-ghost use Rattle.receipts.specs.Receipts.{IsNoted, IsReserved, whole};
-ghost use Rattle.receipts.specs.Seats.{AreCounted};
+ghost use Rattle.plantreceipts.specs.Receipts.{IsNoted, IsReserved, whole};
+ghost use Rattle.plantreceipts.specs.Seats.{AreCounted};
 ghost use Rattle.plantlock.specs.Answers.{IsUnderLock, IsUnheard};
 ghost use Rattle.plantlock.specs.Tied.{IsFront};
 
@@ -21,8 +21,8 @@ use crate::lock_notes::LockNotes;
 use daliframe::Frame24;
 use plant::{CallRefusal, Plant};
 use plantevents::{Event, what_a_part_shows};
-use receipts::{LockStart, NotedPart, Share};
-use seats::{Tallies, Tally};
+use plantreceipts::{LockStart, NotedPart, Share};
+use planttallies::{Tallies, Tally};
 use std::marker::{Model, PhantomData};
 use std::sync::{OnceLock, OnceToken, Wait};
 

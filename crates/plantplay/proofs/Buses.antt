@@ -8,9 +8,9 @@ use Rattle.wordlines.specs.declared.statements.Statement.{Statement}
 use Rattle.simbus.specs.Simulated.{Simulated}
 use Rattle.ilcompile.specs.Loaded.{Loaded}
 use Rattle.plant.specs.Shown.{Shown, opened}
-use Rattle.driving.specs.Links.{log_of}
-use Rattle.driving.specs.Open.{HasNothingOpen}
-use Rattle.driving.proofs.Turned.{log_stands}
+use Rattle.plantdriving.specs.Links.{log_of}
+use Rattle.plantdriving.specs.Open.{HasNothingOpen}
+use Rattle.plantdriving.proofs.Turned.{log_stands}
 use Rattle.plantplay.specs.Installations.{bus_of, buses_of, sim_log}
 
 pub one_bus_more : (scenario : List Statement) (bus number : ℕ) (before : List Simulated) (next : Simulated)

@@ -8,8 +8,8 @@ use Rattle.wordlines.specs.declared.statements.Statement.{Statement}
 use Rattle.wordlines.specs.declared.statements.Statement.TheVariants as statement
 use Rattle.wordlines.specs.Happenings.{happenings}
 use Rattle.plant.specs.Shown.{Shown}
-use Rattle.driving.specs.declared.halt.Halt.{Halt}
-use Rattle.driving.specs.declared.halt.Halt.TheVariants.{Refused, Memory, Unwritten}
+use Rattle.plantdriving.specs.declared.halt.Halt.{Halt}
+use Rattle.plantdriving.specs.declared.halt.Halt.TheVariants.{Refused, Memory, Unwritten}
 use Rattle.plantplay.specs.declared.ending.Ending.{Ending}
 use Rattle.plantplay.specs.declared.ending.Ending.TheVariants.{Whole, Limit, NoMemory}
 use Rattle.plantplay.specs.Stage.{Stage, Happens, IsPlayedAsFar, IsPlayedSomeFar, IsPlayedTo}

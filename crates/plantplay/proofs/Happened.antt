@@ -7,12 +7,12 @@ use Rattle.wordlines.specs.declared.happenings.Happening.{Happening}
 use Rattle.wordlines.specs.declared.happenings.Happening.TheVariants.{Tick, Event, HearFault}
 use Rattle.plant.specs.Refusals.{first_refusal, tick_cases}
 use Rattle.plant.specs.Shown.{Shown}
-use Rattle.driving.specs.declared.halt.Halt.{Halt}
-use Rattle.driving.specs.declared.halt.Halt.TheVariants.{Refused, Memory, Unwritten}
-use Rattle.driving.specs.Driven.{CannotGoOn, IsDriven}
-use Rattle.driving.specs.Ticks.{TicksAt}
-use Rattle.driving.proofs.Linked.{scan_nothing}
-use Rattle.driving.proofs.Turned.{finish_of_scan, finish_then}
+use Rattle.plantdriving.specs.declared.halt.Halt.{Halt}
+use Rattle.plantdriving.specs.declared.halt.Halt.TheVariants.{Refused, Memory, Unwritten}
+use Rattle.plantdriving.specs.Driven.{CannotGoOn, IsDriven}
+use Rattle.plantdriving.specs.Ticks.{TicksAt}
+use Rattle.plantdriving.proofs.Linked.{scan_nothing}
+use Rattle.plantdriving.proofs.Turned.{finish_of_scan, finish_then}
 use Rattle.plantplay.specs.Stage.{Stage, Comes, Happens, HasSettled, HasSettledFor, IsBegun, IsPlayedAsFar, IsPlayedBy, Settles}
 use Rattle.plantplay.specs.PlaySteps.{IsHaltedAt, StopsAt}
 

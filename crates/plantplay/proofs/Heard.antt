@@ -20,8 +20,8 @@ use Rattle.simbus.specs.Setups.{arrival_on}
 use Rattle.plantevents.specs.Histories.{is_down}
 use Rattle.plantevents.specs.Plants.{Plant}
 use Rattle.plant.specs.Shown.{Shown}
-use Rattle.driving.specs.Links.{log_of, no_frame}
-use Rattle.driving.specs.Quiet.{WasSilent}
+use Rattle.plantdriving.specs.Links.{log_of, no_frame}
+use Rattle.plantdriving.specs.Quiet.{WasSilent}
 use Rattle.plantplay.specs.Stage.{Stage, Happens, HasSettled, IsPlayedBy, arriving}
 use Rattle.plantplay.proofs.Followed.{one_later}
 use Rattle.plantplay.proofs.Given.{one_after}

@@ -13,8 +13,8 @@ use Rattle.wordlines.specs.declared.happenings.Happening.TheVariants.{Tick, Even
 use Rattle.plantevents.specs.declared.event.Event.{Event as PlantEvent}
 use Rattle.plantevents.specs.declared.event.Event.TheVariants as event
 use Rattle.plant.specs.Shown.{Shown}
-use Rattle.driving.specs.Driven.{IsDriven}
-use Rattle.driving.specs.Links.{AreLinked, IsLinked, log_of, no_frame}
+use Rattle.plantdriving.specs.Driven.{IsDriven}
+use Rattle.plantdriving.specs.Links.{AreLinked, IsLinked, log_of, no_frame}
 use Rattle.plantplay.specs.Stage.{Stage, AreStillLinked, Comes, IsPlayedAsFar, IsStillLinked, arriving}
 use Rattle.plantplay.proofs.Happened.{kept_as_far}
 

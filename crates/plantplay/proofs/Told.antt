@@ -18,7 +18,7 @@ use Rattle.ilcompile.specs.Loaded.{Loaded}
 use Rattle.plantevents.specs.Histories.{heard_in, is_down}
 use Rattle.plantevents.specs.Plants.{Plant}
 use Rattle.plant.specs.Shown.{Shown, opened}
-use Rattle.driving.specs.Links.{log_of, no_frame}
+use Rattle.plantdriving.specs.Links.{log_of, no_frame}
 use Rattle.plantplay.specs.declared.ending.Ending.{Ending}
 use Rattle.plantplay.specs.declared.ending.Ending.TheVariants.{Whole}
 use Rattle.plantplay.specs.declared.installation.Installation.{Installation}

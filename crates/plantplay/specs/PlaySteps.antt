@@ -2,9 +2,9 @@
 use Rattle.std.specs.Prelude.{◌≡◌, ◌⊎◌, List, [], ◌∷◌, ◌++◌, reverse, ⊤}
 use Rattle.wordlines.specs.declared.happenings.Happening.{Happening}
 use Rattle.plant.specs.Shown.{Shown}
-use Rattle.driving.specs.declared.halt.Halt.{Halt}
-use Rattle.driving.specs.declared.halt.Halt.TheVariants.{Refused, Memory, Unwritten}
-use Rattle.driving.specs.Driven.{IsStuck}
+use Rattle.plantdriving.specs.declared.halt.Halt.{Halt}
+use Rattle.plantdriving.specs.declared.halt.Halt.TheVariants.{Refused, Memory, Unwritten}
+use Rattle.plantdriving.specs.Driven.{IsStuck}
 use Rattle.plantplay.specs.Stage.{Stage, IsBegun, IsPlayedAsFar, IsPlayedBy, IsRefused}
 
 -- why no more of this happens

@@ -8,10 +8,10 @@ use Rattle.plantevents.specs.declared.event.Event.{Event as PlantEvent}
 use Rattle.plant.specs.declared.refusal.CallRefusal.{CallRefusal}
 use Rattle.plant.specs.Refusals.{first_refusal, tick_cases}
 use Rattle.plant.specs.Shown.{Shown}
-use Rattle.driving.specs.Driven.{IsDriven, IsHeardFirst, IsStuck}
-use Rattle.driving.specs.Links.{IsLinked, log_of}
-use Rattle.driving.specs.Quiet.{IsQuiet}
-use Rattle.driving.specs.Ticks.{HasTicked}
+use Rattle.plantdriving.specs.Driven.{IsDriven, IsHeardFirst, IsStuck}
+use Rattle.plantdriving.specs.Links.{IsLinked, log_of}
+use Rattle.plantdriving.specs.Quiet.{IsQuiet}
+use Rattle.plantdriving.specs.Ticks.{HasTicked}
 use Rattle.plantplay.specs.declared.ending.Ending.{Ending}
 use Rattle.plantplay.specs.declared.ending.Ending.TheVariants.{Whole, Limit, NoMemory}
 

@@ -2,8 +2,8 @@
 
 ghost use Rattle.std.specs.Prelude.{◌≡◌, ◌<◌, vec_len};
 
-use driving::{IdlePlant, has_down};
 use plant::Plant;
+use plantdriving::{IdlePlant, has_down};
 
 /// A plant on the interfaces of its buses, with a scan worker at least. Nothing is open in it.
 #[derive(Drop)]
@@ -16,7 +16,7 @@ pub struct Installation<B> {
 }
 
 impl<B> Installation<B> {
-    ghost use Rattle.driving.specs.Downs.{has_down};
+    ghost use Rattle.plantdriving.specs.Downs.{has_down};
 
     /// The plant.
     pub fn plant(&self) -> &Plant

@@ -1,16 +1,16 @@
 //! The lines that are written of what happens.
 
 use daliframe::{Frame, Frame24};
-use driving::Observer;
-use framewords::FramesWords;
+use daliwords::FramesWords;
 use ilplan::Plan;
 use plant::Plant;
+use plantdriving::Observer;
 use plantevents::Origin;
+use playwatch::Watch;
 use std::alloc::{AllocError, Global};
 use std::io::Write;
 use std::{fmt, io};
 use transact::{Outcome, Report, Transaction};
-use watching::Watch;
 
 /// How the frames of a play are written.
 #[derive(Clone, Copy, PartialEq, Eq, Debug)]

@@ -6,9 +6,9 @@ ghost use Rattle.plantplay.specs.Installations.{IsInstallation, IsStartFault, bu
 
 use crate::installation::Installation;
 use daliframe::BusNumber;
-use driving::IdlePlant;
 use ilcompile::Setup;
 use plant::{Plant, StartFault};
+use plantdriving::IdlePlant;
 use simbus::{BusSetup, Scenario, SimBus};
 use std::alloc::{AllocError, Global};
 

@@ -3,7 +3,7 @@
 ghost use Rattle.std.specs.Prelude.{◌≡◌, [], IfErr, MatchResult, OnOk, map, nat_lt};
 ghost use Rattle.wordlines.specs.Happenings.{happenings};
 ghost use Rattle.plantevents.specs.Legal.{AreLegal};
-ghost use Rattle.driving.specs.Driven.{CannotGoOn, IsDriven};
+ghost use Rattle.plantdriving.specs.Driven.{CannotGoOn, IsDriven};
 ghost use Rattle.plantplay.specs.Installations.{sim_log, stage_of};
 ghost use Rattle.plantplay.specs.Stage.{Happens, HasSettled, IsPlayedAsFar, IsPlayedSomeFar};
 ghost use Rattle.plantplay.specs.Stage.{IsPlayedTo, arriving};
@@ -13,7 +13,7 @@ use crate::ending::{Ending, write_end};
 use crate::installation::Installation;
 use crate::lines::{FrameStyle, Lines};
 use daliframe::BusNumber;
-use driving::{Halt, Observer};
+use plantdriving::{Halt, Observer};
 use simbus::{Scenario, SimBus};
 use std::alloc::Global;
 use std::io;

@@ -2,8 +2,8 @@
 //! limit that is raised, and events that are given up for a task.
 
 use daliframe::Frame24;
+use ghosts::{Memo, Trace};
 use ilcompile::Setup;
-use memo::{Memo, Trace};
 use plant::{CallRefusal, Plant};
 use plantevents::Event;
 use plantload::{LoadFault, load};

@@ -6,8 +6,8 @@ use Rattle.transact.specs.declared.marks.Reply.{Reply}
 use Rattle.buslink.specs.BusLog.{BusLog, after_hear, after_send, mark_of_send}
 use Rattle.buslink.specs.ClockLog.{ClockLog, after_now}
 use Rattle.buslink.specs.declared.faults.Fault.{Fault}
-use Rattle.linebus.specs.Exchanges.{LineState, with_line}
-use Rattle.linebus.specs.Greetings.{Ends}
+use Rattle.liveline.specs.Exchanges.{LineState, with_line}
+use Rattle.liveline.specs.Greetings.{Ends}
 
 -- what holds of each value of a result
 pub if_ok : {X E : Type 0} (P Q : X → Type 0) (given : Result X E) → IfOk given P → ((x : X) → P x → Q x)

@@ -4,10 +4,10 @@ use Rattle.std.proofs.Common.{IfOk, false, inl, inr, refl, sym, ap, arith, lengt
 use Rattle.std.specs.Fmt.{decimal}
 use Rattle.std.specs.Io.KnownBytes.{Appends, Consumes}
 use Rattle.std.proofs.KnownBytes.{Appends-trans}
-use Rattle.linebus.specs.Exchanges.{IsExchange, LineState}
-use Rattle.linebus.specs.Greetings.{Ends, IsGreeted, ended, ends}
-use Rattle.linebus.specs.Lines.{IsMessage, fault_line, greeting, hear_line, line_end, numbered_answer}
-use Rattle.linebus.specs.Lines.{numbered_greeting}
+use Rattle.liveline.specs.Exchanges.{IsExchange, LineState}
+use Rattle.liveline.specs.Greetings.{Ends, IsGreeted, ended, ends}
+use Rattle.liveline.specs.Lines.{IsMessage, fault_line, greeting, hear_line, line_end, numbered_answer}
+use Rattle.liveline.specs.Lines.{numbered_greeting}
 
 -- bytes that were read of a text begin it
 pub record BeginBy (text bytes : List ℕ) (left : Option (List ℕ)) : Type 0 where

@@ -4,7 +4,7 @@ ghost use Rattle.std.specs.Prelude.{◌≡◌, ◌+◌, true, false};
 
 use dalievent::EventSource;
 use daliframe::EventScheme;
-use framewords::{frame_of_event, request_of};
+use daliwords::{frame_of_event, request_of};
 use gearcmd::Command;
 
 /// `bank_and_offset_exchanged`: the numbers of GEAR_READ were taken the other way round.

@@ -4,13 +4,13 @@ ghost use Rattle.std.specs.Prelude.{◌≡◌, ◌<◌, ◌≤◌, ◌++◌, [],
 ghost use Rattle.std.specs.Prelude.{false, length, true};
 ghost use Rattle.std.specs.Io.KnownBytes.{Appends};
 ghost use Rattle.buslink.specs.BusLog.{mark_of_send};
-ghost use Rattle.linebus.specs.Exchanges.{IsAtMost};
-ghost use Rattle.linebus.specs.Lines.{greeting, line_end, numbered_greeting};
-ghost use Rattle.linebus.specs.Lines.{send_line};
+ghost use Rattle.liveline.specs.Exchanges.{IsAtMost};
+ghost use Rattle.liveline.specs.Lines.{greeting, line_end, numbered_greeting};
+ghost use Rattle.liveline.specs.Lines.{send_line};
 
 use buslink::{Bus, Clock, Fault};
 use daliframe::{Frame, Frame24};
-use linebus::{Greeted, LineBus, Ungreeted};
+use liveline::{Greeted, LineBus, Ungreeted};
 use std::alloc::AllocError;
 use std::io::{Read, Write};
 use transact::Reply;

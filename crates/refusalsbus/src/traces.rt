@@ -2,7 +2,7 @@
 
 ghost use Rattle.std.specs.Prelude.{◌≡◌, [], ◌∷◌};
 
-use memo::Trace;
+use ghosts::Trace;
 
 /// `push_leaves_the_list`: what was pushed was not in the list.
 pub fn pushed_items_are_listed(first: u8, second: u8) -> Trace<u8>

@@ -3,13 +3,13 @@ use Rattle.std.proofs.Common.{◌≡◌, ◌<◌, ℕ, List, [], ◌∷◌, Resu
 use Rattle.std.proofs.Common.{arith, inl, inr, lit≤, lit<}
 use Rattle.std.specs.Prelude.{slice_index}
 use Rattle.ilcode.specs.Listings.{Listing}
-use Rattle.codefile.specs.Faults.{BeginsWell, IsFault, IsFirst, IsShaped}
-use Rattle.codefile.specs.Files.{IsFileOf}
-use Rattle.codefile.specs.declared.fault.FileCause.{FileCause}
-use Rattle.codefile.specs.declared.fault.FileCause.TheVariants.{Cut, Trailing}
-use Rattle.codefile.specs.declared.fault.FileFault.{FileFault}
-use Rattle.codefile.specs.declared.fault.FileFault.TheVariants as faults
-use Rattle.codefile.proofs.FirstFaults.{no_fault, one_fault}
+use Rattle.ilcodefile.specs.Faults.{BeginsWell, IsFault, IsFirst, IsShaped}
+use Rattle.ilcodefile.specs.Files.{IsFileOf}
+use Rattle.ilcodefile.specs.declared.fault.FileCause.{FileCause}
+use Rattle.ilcodefile.specs.declared.fault.FileCause.TheVariants.{Cut, Trailing}
+use Rattle.ilcodefile.specs.declared.fault.FileFault.{FileFault}
+use Rattle.ilcodefile.specs.declared.fault.FileFault.TheVariants as faults
+use Rattle.ilcodefile.proofs.FirstFaults.{no_fault, one_fault}
 
 -- bytes that are not even shaped as a file are refused with their first fault
 pub refused_with : (bytes : List ℕ) (cause : FileCause) (given : Result Listing FileFault)

@@ -6,10 +6,10 @@ ghost use Rattle.std.specs.List.Sorted.{IsNonDecreasing};
 ghost use Rattle.ilcode.specs.Listings.{end_of, slots_end};
 ghost use Rattle.ilcode.specs.Words.{IsOldWord};
 ghost use Rattle.ilcode.specs.declared.function.FunctionBody.{FunctionBody as AnyBody};
-ghost use Rattle.codefile.specs.Faults.{IsReadAs};
+ghost use Rattle.ilcodefile.specs.Faults.{IsReadAs};
 
-use codefile::{FileCause, FileFault, decode, encode};
 use ilcode::Code;
+use ilcodefile::{FileCause, FileFault, decode, encode};
 use std::alloc::{AllocError, Global};
 
 /// `only_the_length_is_compared`: bytes were read as a code that has another file of their length.

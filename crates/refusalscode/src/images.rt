@@ -7,8 +7,8 @@ ghost use Rattle.ilimage.specs.Images.{verified_of, written_in};
 ghost use Rattle.ilimage.specs.Snapshots.{IsLastingOf, MayHave};
 
 use ilblocks::BlockState;
+use ilcells::ValueRow;
 use ilimage::{Image, Override, Snapshot};
-use ilrows::ValueRow;
 use iltypes::Value;
 use std::alloc::AllocError;
 

@@ -1,9 +1,9 @@
 //! Cells and rows of values.
 
 ghost use Rattle.std.specs.Prelude.{◌≡◌, [], ◌∷◌, IsSomeAnd, false, pos, slice_get, true};
-ghost use Rattle.ilrows.specs.Cells.{is_number_of};
+ghost use Rattle.ilcells.specs.Cells.{is_number_of};
 
-use ilrows::{Cell, ValueRow};
+use ilcells::{Cell, ValueRow};
 use iltypes::{Operator, Value};
 
 /// `sets_a_bit_in_the_neighbouring_word`: a truth value was set in another word of its bank.

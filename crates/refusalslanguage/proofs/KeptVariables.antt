@@ -17,17 +17,17 @@ use Rattle.ilplan.specs.declared.slot.Slot.{Slot}
 use Rattle.ilplan.specs.declared.slot.SlotOwner.{SlotOwner}
 use Rattle.ilplan.specs.declared.slot.SlotOwner.TheVariants.{Global, Own}
 use Rattle.ilplan.specs.Plans.{Planned, PlannedTask}
-use Rattle.keeping.specs.KeptFiles.{KeptEntry, entry_of, has_name}
+use Rattle.livekeep.specs.KeptFiles.{KeptEntry, entry_of, has_name}
 use Rattle.ilblocks.specs.Calls.{Block, at_first}
 use Rattle.ilblocks.specs.Stores.{Lasting}
 use Rattle.ilplan.specs.Beginnings.{HasEach}
 use Rattle.ilplan.specs.declared.instance.FunctionBlock.{FunctionBlock}
-use Rattle.keeping.specs.KeptBlocks.{block_entries, block_first, block_firsts, kept_block}
-use Rattle.keeping.specs.KeptPlans.{first_in, global_first, global_firsts, global_taken, is_trigger, left_out_of}
-use Rattle.keeping.specs.KeptPlans.{slot_first, slot_firsts, taken_by, task_first, task_firsts, task_taken}
-use Rattle.keeping.specs.KeptStates.{entries_by, entries_of, global_entries, instance_entries, slot_entries}
-use Rattle.keeping.specs.KeptStates.{task_entries, tasks_entries}
-use Rattle.keeping.specs.KeptValues.{fitting, global_name, kept_value, own_name}
+use Rattle.livekeep.specs.KeptBlocks.{block_entries, block_first, block_firsts, kept_block}
+use Rattle.livekeep.specs.KeptPlans.{first_in, global_first, global_firsts, global_taken, is_trigger, left_out_of}
+use Rattle.livekeep.specs.KeptPlans.{slot_first, slot_firsts, taken_by, task_first, task_firsts, task_taken}
+use Rattle.livekeep.specs.KeptStates.{entries_by, entries_of, global_entries, instance_entries, slot_entries}
+use Rattle.livekeep.specs.KeptStates.{task_entries, tasks_entries}
+use Rattle.livekeep.specs.KeptValues.{fitting, global_name, kept_value, own_name}
 
 -- the only kept value is TRUE, and is that of this name
 kept_true : (entry : KeptEntry) (name : List ℕ) (type : IlType) → entry.name ≡ name → type ≡ types.Bool

@@ -3,11 +3,11 @@
 ghost use Rattle.std.specs.Prelude.{◌≡◌, ◌≢◌, [], ◌∷◌, IfErr, IfOk, None, OnOk, Some, codes, map, pos};
 ghost use Rattle.std.specs.Prelude.{true};
 ghost use Rattle.ilblocks.specs.Calls.{at_first};
-ghost use Rattle.keeping.specs.Faults.{AreTorn};
-ghost use Rattle.keeping.specs.KeptBlocks.{block_entries, kept_block};
-ghost use Rattle.keeping.specs.KeptFiles.{entry_of};
-ghost use Rattle.keeping.specs.KeptPlans.{left_out_of};
-ghost use Rattle.keeping.specs.KeptValues.{global_name, own_name};
+ghost use Rattle.livekeep.specs.Faults.{AreTorn};
+ghost use Rattle.livekeep.specs.KeptBlocks.{block_entries, kept_block};
+ghost use Rattle.livekeep.specs.KeptFiles.{entry_of};
+ghost use Rattle.livekeep.specs.KeptPlans.{left_out_of};
+ghost use Rattle.livekeep.specs.KeptValues.{global_name, own_name};
 
 use ilblocks::BlockState;
 use ilplan::{
@@ -15,7 +15,7 @@ use ilplan::{
 };
 use ilsource::Name;
 use iltypes::{IlType, Value};
-use keeping::{
+use livekeep::{
     FirstValues, Kept, KeptAt, KeptFault, KeptValue, LeftOut, first_values_of, kept_file,
     kept_values, left_out_of,
 };

@@ -9,10 +9,10 @@ use Rattle.buslink.specs.ClockLog.{ClockLog}
 use Rattle.ilcompile.specs.Loaded.{Loaded}
 use Rattle.options.specs.declared.live_options.LiveOptions.{LiveOptions}
 use Rattle.options.specs.declared.line_word.LineWord.{LineWord}
-use Rattle.building.specs.Buildings.{IsOpened}
-use Rattle.building.specs.Lineups.{HasNoLine}
-use Rattle.building.specs.Sites.{IsPeriodFor, moment_of_end}
-use Rattle.building.specs.declared.buildings.Building.{Building}
+use Rattle.livehouse.specs.Buildings.{IsOpened}
+use Rattle.livehouse.specs.Lineups.{HasNoLine}
+use Rattle.livehouse.specs.Sites.{IsPeriodFor, moment_of_end}
+use Rattle.livehouse.specs.declared.buildings.Building.{Building}
 
 if_found : {B : Type 0} (P : B → Type 0) (found : Option B) → ((bus : B) → found ≡ Some bus → P bus) → IfSome found P
 if_found P None each = tt

@@ -3,9 +3,9 @@
 ghost use Rattle.std.specs.Prelude.{◌≡◌, IfOk, Some, codes, option_map, string_bytes};
 ghost use Rattle.std.specs.Int.NonZero.{non_zero_u64_get};
 
-use building::{Devices, DownWatch, End, HostLine, HostSite, Site, SiteFault, StopAt};
 use daliframe::BusNumber;
 use liveclock::LiveClock;
+use livehouse::{Devices, DownWatch, End, HostLine, HostSite, Site, SiteFault, StopAt};
 use options::LineWord;
 use std::alloc::{AllocError, Global};
 use std::num::NonZeroU64;

@@ -4,11 +4,11 @@ ghost use Rattle.std.specs.Prelude.{◌≡◌, ◌<◌, All, IfOk, IfSome, OnOk,
 ghost use Rattle.std.specs.Prelude.{option_map, slice_get};
 ghost use Rattle.std.specs.Arc.{arc_value};
 ghost use Rattle.std.specs.List.{Contains};
-ghost use Rattle.building.specs.Lineups.{HasNoLine};
+ghost use Rattle.livehouse.specs.Lineups.{HasNoLine};
 ghost use Rattle.options.specs.declared.line_word.LineWord.{LineWord as Line};
 
-use building::{Building, LiveStop, Site, open};
 use ilcompile::Setup;
+use livehouse::{Building, LiveStop, Site, open};
 use options::{LineWord, LiveOptions};
 use plant::{OpenFault, StartFault};
 use std::alloc::Global;

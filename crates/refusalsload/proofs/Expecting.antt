@@ -7,8 +7,8 @@ use Rattle.ilimage.specs.Images.{Global}
 use Rattle.options.specs.declared.expected_word.ExpectedWord.{ExpectedWord}
 use Rattle.plant.specs.Shown.{Shown}
 use Rattle.plantevents.specs.Variables.{value}
-use Rattle.watching.specs.Names.{IsNamed}
-use Rattle.expectations.specs.Expected.{AreMet, IsMet, IsSpelled}
+use Rattle.playwatch.specs.Names.{IsNamed}
+use Rattle.playexpect.specs.Expected.{AreMet, IsMet, IsSpelled}
 
 -- TRUE is not spelled FALSE
 pub no_false : (shown : Value) → shown ≡ Bool true → ¬ IsSpelled (codes "FALSE") shown

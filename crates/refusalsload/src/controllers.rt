@@ -6,8 +6,8 @@ ghost use Rattle.plant.specs.Refusals.{first_refusal, tick_cases};
 ghost use Rattle.plant.specs.Shown.{grown};
 
 use buslink::Bus;
-use driving::Halt;
 use gushewa::{Controller, NotOpened, Setup, Unobserved};
+use plantdriving::Halt;
 use std::alloc::Global;
 
 /// `it_stands_on_fewer_buses`: a controller began though its text has more buses.

@@ -5,8 +5,8 @@ ghost use Rattle.limits.specs.Limits.{most_total};
 ghost use Rattle.plant.specs.Shown.{used};
 
 use buslink::{Bus, Clock};
-use driving::Halt;
 use plant::CallRefusal;
+use plantdriving::Halt;
 use std::alloc::Global;
 use std::sync::Wait;
 use std::thread::Threads;

@@ -2,7 +2,7 @@
 
 ghost use Rattle.std.specs.Prelude.{◌≡◌};
 
-use exits::{ExitStatus, PlayStop};
+use exitstatus::{ExitStatus, PlayStop};
 use wordlines::LineFault;
 use workers::Ended;
 

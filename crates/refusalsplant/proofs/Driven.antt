@@ -13,12 +13,12 @@ use Rattle.plant.specs.declared.refusal.CallRefusal.TheVariants.{Stranger, Busy,
 use Rattle.plant.specs.declared.refusal.CallError.{CallError}
 use Rattle.plant.specs.Refusals.{Case, GivesFirstOrMemory, first_refusal, hand_cases, none_free, take_cases}
 use Rattle.plant.specs.Shown.{Shown, is_full}
-use Rattle.driving.specs.declared.halt.Halt.{Halt}
-use Rattle.driving.specs.declared.halt.Halt.TheVariants as halts
-use Rattle.driving.specs.Downs.{has_down}
-use Rattle.driving.specs.Driven.{HasSent, SendsNext}
-use Rattle.driving.specs.Links.{AreLinked, log_of}
-use Rattle.driving.specs.Quiet.{HasNoFrame}
+use Rattle.plantdriving.specs.declared.halt.Halt.{Halt}
+use Rattle.plantdriving.specs.declared.halt.Halt.TheVariants as halts
+use Rattle.plantdriving.specs.Downs.{has_down}
+use Rattle.plantdriving.specs.Driven.{HasSent, SendsNext}
+use Rattle.plantdriving.specs.Links.{AreLinked, log_of}
+use Rattle.plantdriving.specs.Quiet.{HasNoFrame}
 
 -- ---- the turn of a bus
 

@@ -6,7 +6,7 @@ use Rattle.plantevents.specs.declared.event.Event.{Event}
 use Rattle.plantevents.specs.declared.event.Event.TheVariants.{Tick, Up}
 use Rattle.plantevents.specs.Members.{Has}
 use Rattle.plantevents.specs.Parts.{Placed, part, placed, shown_down, shown_moment}
-use Rattle.receipts.specs.Receipts.{ShareParts, HasPart, IsLastPlace, IsNoted, reach_of, whole}
+use Rattle.plantreceipts.specs.Receipts.{ShareParts, HasPart, IsLastPlace, IsNoted, reach_of, whole}
 
 pub on_ok : {A E P Q : Type 0} (given : Result A E) → OnOk given P → (P → Q) → OnOk given Q
 on_ok (Ok x) holds gives = gives holds

@@ -8,9 +8,9 @@ use Rattle.plantevents.specs.declared.event.Event.{Event}
 use Rattle.plantevents.specs.declared.event.Event.TheVariants.{Tick, Heard, Take, Commit, Hand, Done, Down, Up}
 use Rattle.plantevents.specs.Histories.{heard_in, is_down}
 use Rattle.plant.specs.Shown.{Shown}
-use Rattle.driving.specs.Driven.{AreHeardUpTo, IsHeard, IsHeardFirst}
-use Rattle.driving.specs.Links.{AreLinked, log_of}
-use Rattle.driving.specs.Quiet.{HasNoFrame}
+use Rattle.plantdriving.specs.Driven.{AreHeardUpTo, IsHeard, IsHeardFirst}
+use Rattle.plantdriving.specs.Links.{AreLinked, log_of}
+use Rattle.plantdriving.specs.Quiet.{HasNoFrame}
 use Rattle.refusalsplant.specs.Hearings.{IsOfHearing}
 use Rattle.refusalsplant.proofs.Driven.{first_there}
 

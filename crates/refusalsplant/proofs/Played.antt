@@ -12,7 +12,7 @@ use Rattle.plant.specs.declared.refusal.CallRefusal.{CallRefusal}
 use Rattle.plant.specs.declared.refusal.CallRefusal.TheVariants.{ClockBack, NothingReady, Stranger, Busy, BusDown, Full}
 use Rattle.plant.specs.Refusals.{first_refusal, has_no_bus, has_no_worker, none_free, tick_cases}
 use Rattle.plant.specs.Shown.{Shown, is_full, is_reserved}
-use Rattle.driving.specs.Driven.{IsStuck}
+use Rattle.plantdriving.specs.Driven.{IsStuck}
 use Rattle.plantplay.specs.declared.ending.Ending.{Ending}
 use Rattle.plantplay.specs.declared.ending.Ending.TheVariants.{Limit}
 use Rattle.plantplay.specs.Stage.{IsPlayedTo, IsRefused, IsRefusedMoment, Stage}

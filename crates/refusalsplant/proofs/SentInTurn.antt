@@ -11,9 +11,9 @@ use Rattle.plantevents.specs.declared.event.Event.TheVariants.{Tick, Heard, Take
 use Rattle.plantevents.specs.declared.event.Origin.{Origin}
 use Rattle.plantevents.specs.Plants.{Plant}
 use Rattle.plant.specs.Shown.{Shown}
-use Rattle.driving.specs.Driven.{AreHeardUpTo, IsHeardFirst}
-use Rattle.driving.specs.Order.{CameInTurn, HaveNothing, next_place, place_after, scans_at, sends_at, with_events}
-use Rattle.driving.specs.Quiet.{HasNoHandout, HasNoScan}
+use Rattle.plantdriving.specs.Driven.{AreHeardUpTo, IsHeardFirst}
+use Rattle.plantdriving.specs.Order.{CameInTurn, HaveNothing, next_place, place_after, scans_at, sends_at, with_events}
+use Rattle.plantdriving.specs.Quiet.{HasNoHandout, HasNoScan}
 
 -- ---- what is sent or committed is not heard
 

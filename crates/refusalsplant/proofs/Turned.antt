@@ -2,13 +2,13 @@
 use Rattle.std.proofs.Common.{◌≡◌, ◌⊎◌, ⊎_elim, ℕ, ◌<◌, Bool, true, false, Result, Ok, Err, IfOk, OnOk, ap, arith, refl, subst}
 use Rattle.buslink.specs.BusLog.{BusLog, one_more}
 use Rattle.buslink.specs.ClockLog.{ClockLog}
-use Rattle.driving.specs.declared.halt.Halt.{Halt}
-use Rattle.driving.specs.Links.{HasGrown}
-use Rattle.receipts.specs.Receipts.{ShareParts}
-use Rattle.turns.specs.declared.turn.Turn.{Turn}
-use Rattle.turns.specs.declared.turn.Turn.TheVariants as turns
-use Rattle.turns.specs.Logs.{HasEnded}
-use Rattle.turns.specs.Outcomes.{ComesUp}
+use Rattle.plantdriving.specs.declared.halt.Halt.{Halt}
+use Rattle.plantdriving.specs.Links.{HasGrown}
+use Rattle.plantreceipts.specs.Receipts.{ShareParts}
+use Rattle.plantturns.specs.declared.turn.Turn.{Turn}
+use Rattle.plantturns.specs.declared.turn.Turn.TheVariants as turns
+use Rattle.plantturns.specs.Logs.{HasEnded}
+use Rattle.plantturns.specs.Outcomes.{ComesUp}
 
 more : (before after : ℕ) → before ≡ 7 → HasGrown before after → 7 < after
 more before after seven grown =

@@ -3,16 +3,18 @@
 ghost use Rattle.std.specs.Prelude.{◌≡◌, ◌<◌, [], Ok, OnOk, false, true};
 ghost use Rattle.buslink.specs.BusLog.{one_more};
 ghost use Rattle.plantevents.specs.Parts.{shown_down, shown_given, shown_heard, shown_sent};
-ghost use Rattle.receipts.specs.Receipts.{whole};
-ghost use Rattle.driving.specs.Links.{log_of};
-ghost use Rattle.turns.specs.Logs.{IsServed, IsTimed};
+ghost use Rattle.plantreceipts.specs.Receipts.{whole};
+ghost use Rattle.plantdriving.specs.Links.{log_of};
+ghost use Rattle.plantturns.specs.Logs.{IsServed, IsTimed};
 
 use buslink::{Bus, Clock};
-use driving::{Halt, Observer};
+use plantdriving::{Halt, Observer};
 use plantlock::{LockStart, Shared};
-use seats::{Tallies, Tally};
+use planttallies::{Tallies, Tally};
+use plantturns::{
+    BusWithShare, ClockWithShare, Links, Turn, come_up, hear_turn, send_turn, tick_once,
+};
 use std::sync::Wait;
-use turns::{BusWithShare, ClockWithShare, Links, Turn, come_up, hear_turn, send_turn, tick_once};
 
 /// `what_was_heard_is_forgotten`: a bus heard a frame, and its Share had no receipt of it.
 pub fn heard_frames_have_receipts<

@@ -3,10 +3,10 @@
 ghost use Rattle.std.specs.Prelude.{◌≡◌, ℕ, ◌<◌, ◌++◌, [], ◌∷◌, Err, IfOk, List, OnOk, false, length};
 ghost use Rattle.std.specs.Prelude.{map, true, vec_len};
 ghost use Rattle.buslink.specs.BusLog.{HasHeardAll, one_more};
-ghost use Rattle.driving.specs.Links.{AreLinked, log_of};
-ghost use Rattle.driving.specs.Open.{HasNothingOpen};
-ghost use Rattle.driving.specs.Order.{with_events};
-ghost use Rattle.driving.specs.Quiet.{HasNoHandout, HasNoScan};
+ghost use Rattle.plantdriving.specs.Links.{AreLinked, log_of};
+ghost use Rattle.plantdriving.specs.Open.{HasNothingOpen};
+ghost use Rattle.plantdriving.specs.Order.{with_events};
+ghost use Rattle.plantdriving.specs.Quiet.{HasNoHandout, HasNoScan};
 ghost use Rattle.gearcmd.specs.FrameLists.{FrameList};
 ghost use Rattle.ilmachine.specs.Scans.{Scan};
 ghost use Rattle.plantevents.specs.declared.event.Event.{Event};
@@ -17,8 +17,8 @@ ghost use Rattle.refusalsplant.specs.Hearings.{IsOfHearing};
 ghost use Rattle.transact.specs.Attempts.{ReportParts};
 
 use buslink::Bus;
-use driving::{Halt, Observer, has_down, send_next, settle};
 use plant::{CallError, CallRefusal, Order, Plant};
+use plantdriving::{Halt, Observer, has_down, send_next, settle};
 use plantevents::what_is_counted;
 use std::alloc::Global;
 

@@ -7,12 +7,12 @@ ghost use Rattle.plantevents.specs.Histories.{moment as last_moment};
 ghost use Rattle.plantevents.specs.Members.{IsInPart};
 ghost use Rattle.plantevents.specs.Parts.{part, placed, shown_down, shown_moment};
 ghost use Rattle.plantevents.specs.Plants.{tries_of};
-ghost use Rattle.receipts.specs.Receipts.{whole};
+ghost use Rattle.plantreceipts.specs.Receipts.{whole};
 
 use plant::CallRefusal;
 use plantevents::{each_event_is_in_one_part, what_a_part_shows};
 use plantlock::{Final, LockStart, Share, Shared, Shares};
-use seats::{Tallies, Tally};
+use planttallies::{Tallies, Tally};
 use std::sync::Wait;
 
 /// A locked call that files a receipt and leaves the plant: a tick had its receipt, and the plant

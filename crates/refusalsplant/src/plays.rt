@@ -7,8 +7,8 @@ ghost use Rattle.plant.specs.Shown.{is_full};
 ghost use Rattle.plantplay.specs.ByScenario.{events_on};
 ghost use Rattle.plantplay.specs.Installations.{IsInstallation};
 
-use driving::Observer;
 use ilcompile::Setup;
+use plantdriving::Observer;
 use plantplay::{Ending, Installation, play_on, plays_are_by_scenario};
 use simbus::{Scenario, SimBus};
 use std::alloc::Global;

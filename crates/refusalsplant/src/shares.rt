@@ -4,12 +4,12 @@ ghost use Rattle.std.specs.Prelude.{◌≡◌, ◌+◌, ◌*◌, ◌<◌, ◌≤
 ghost use Rattle.std.specs.Prelude.{slice_get};
 ghost use Rattle.limits.specs.Limits.{most_total};
 ghost use Rattle.plantevents.specs.Parts.{placed};
-ghost use Rattle.receipts.specs.Receipts.{seat_of};
-ghost use Rattle.receipts.specs.Tokens.{id_at};
+ghost use Rattle.plantreceipts.specs.Receipts.{seat_of};
+ghost use Rattle.plantreceipts.specs.Tokens.{id_at};
 
 use plantevents::Event;
-use receipts::{LockStart, NotedPart, Share};
-use seats::{Tallies, Tally};
+use plantreceipts::{LockStart, NotedPart, Share};
+use planttallies::{Tallies, Tally};
 use std::sync::{OnceLock, OnceToken, Wait};
 
 /// `a_place_stays_kept_back_after_its_tick`: the place that is kept back for a tick was kept on.

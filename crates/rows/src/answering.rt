@@ -1,12 +1,12 @@
 //! A bus whose line gives the answers of a file.
 
 ghost use Rattle.std.specs.Prelude.{◌≡◌, false};
-ghost use Rattle.building.specs.Sites.{IsNewBus};
+ghost use Rattle.livehouse.specs.Sites.{IsNewBus};
 ghost use Rattle.buslink.specs.BusLog.{after_mend};
 
 use buslink::{Bus, Fault};
 use daliframe::{BusNumber, Frame, Frame24};
-use linebus::{Greeted, LineBus};
+use liveline::{Greeted, LineBus};
 use std::alloc::AllocError;
 use std::io;
 use std::io::{Cursor, Sink};

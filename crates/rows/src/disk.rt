@@ -1,7 +1,7 @@
 //! What is written beside the buildings of a row: it stays in memory, as the files of the row do.
 
 use crate::simulated::RowsSite;
-use observing::{Care, Storage};
+use livejournal::{Care, Storage};
 use std::alloc::{AllocError, Global};
 use std::io;
 use std::io::ErrorKind;

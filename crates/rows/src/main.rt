@@ -17,7 +17,7 @@ mod running;
 mod simulated;
 mod wrong;
 
-use building::{HostDevices, HostSite, LineStarter, Site};
+use livehouse::{HostDevices, HostSite, LineStarter, Site};
 use pages::judge_page;
 use running::judge_lines;
 use std::process::ExitCode;

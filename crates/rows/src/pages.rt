@@ -4,7 +4,7 @@
 //! that is on the disk too must be equal to the file there.
 
 use crate::running::judge_lines;
-use building::Site;
+use livehouse::Site;
 use std::alloc::{AllocError, Global};
 use std::fs;
 use std::rt::Files;

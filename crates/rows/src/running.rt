@@ -2,8 +2,8 @@
 
 use crate::disk::RowsDisk;
 use crate::simulated::RowsSite;
-use building::Site;
 use commands::run;
+use livehouse::Site;
 use std::sync::Wait;
 use std::thread::Threads;
 use std::time::Clock as Timer;

@@ -1,14 +1,14 @@
 //! Where the lines of a row's buildings are: buses that scenarios simulate, and files of answers.
 
 ghost use Rattle.std.specs.Prelude.{⊤, IfOk};
-ghost use Rattle.building.specs.Sites.{IsNewBus};
+ghost use Rattle.livehouse.specs.Sites.{IsNewBus};
 ghost use Rattle.rows.specs.Lines.{line_log};
 
 use crate::answering::AnsweringLine;
 use crate::disk::RowsDisk;
-use building::{DownWatch, End, Site, SiteFault};
 use buslink::{Bus, Fault};
 use daliframe::{BusNumber, Frame, Frame24};
+use livehouse::{DownWatch, End, Site, SiteFault};
 use options::LineWord;
 use simbus::{BusSetup, SimBus, parse};
 use std::alloc::{AllocError, Global};

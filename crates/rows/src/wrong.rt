@@ -6,7 +6,7 @@
 
 use crate::pages::judge_page;
 use crate::running::judge_lines;
-use building::Site;
+use livehouse::Site;
 use std::alloc::Global;
 use std::rt::Files;
 use std::sync::Wait;

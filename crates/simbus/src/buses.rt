@@ -12,7 +12,7 @@ use crate::scripts::fate_at;
 use crate::{BusSetup, GearVariables, InstanceVariables, ScriptedReply};
 use buslink::{Arrival, Bus, Fault};
 use daliframe::{BusNumber, Frame, Frame24, InstanceNumber, ShortAddress};
-use memo::Trace;
+use ghosts::Trace;
 use std::alloc::{AllocError, Global};
 use std::collections::VecDeque;
 use std::marker::Model;

@@ -3,10 +3,11 @@
 
 use crate::house::House;
 use daliframe::BusNumber;
-use observing::{BuildingObserver, Care, Storage};
+use livejournal::{BuildingObserver, Care, Storage};
 use options::Beside;
 use plantlive::live;
 use plantplay::bus_of;
+use plantturns::{Gate, Happened};
 use simbus::{Scenario, ScriptedClock, SimBus};
 use std::alloc::Global;
 use std::io;
@@ -14,7 +15,6 @@ use std::sync::{Mutex, Wait};
 use std::test::Fail;
 use std::thread::Threads;
 use std::time::Clock as Timer;
-use turns::{Gate, Happened};
 use workers::Opening;
 
 /// A house in which each bus has an event, a task and a lamp, over several runs.

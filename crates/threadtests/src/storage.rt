@@ -1,8 +1,8 @@
 //! The files, the date and the memory of the machine, as what is written beside a building uses
 //! them: the rows have a disk in memory.
 
-use building::HostStorage;
-use observing::{Care, Storage};
+use livehouse::HostStorage;
+use livejournal::{Care, Storage};
 use std::alloc::{AllocError, Global};
 use std::os::unix::fs::{MetadataExt, symlink};
 use std::rt::Files;

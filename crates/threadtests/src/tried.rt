@@ -2,14 +2,14 @@
 //! of them, and whose date may be set back: how often each file is tried, and what it took.
 
 use crate::house::House;
-use observing::{BuildingObserver, Care, Storage};
+use livejournal::{BuildingObserver, Care, Storage};
 use options::Beside;
+use plantturns::{Gate, Happened};
 use std::alloc::Global;
 use std::io;
 use std::io::ErrorKind;
 use std::sync::{Mutex, Wait};
 use std::test::Fail;
-use turns::{Gate, Happened};
 
 /// A house to which only ticks come.
 const HOUSE: House = House {

@@ -1,10 +1,10 @@
 //! A gate that counts what is done by number, and lets scans, frames and the clock wait for counts.
 
+use plantturns::{Gate, Happened};
 use std::alloc::{AllocError, Global};
 use std::sync::atomic::{AtomicU64, Ordering};
 use std::thread;
 use std::time::{Clock as Timer, Duration};
-use turns::{Gate, Happened};
 
 /// The most turns that one waits, each a look and a sleep.
 const MOST_TURNS: u32 = 100_000;

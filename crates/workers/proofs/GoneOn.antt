@@ -12,12 +12,12 @@ use Rattle.plantevents.specs.Legal.{AreLegal}
 use Rattle.plantevents.specs.Plants.{Plant}
 use Rattle.plant.specs.Shown.{Shown, kept}
 use Rattle.plantlock.specs.Tied.{IsFront}
-use Rattle.driving.specs.Links.{HasGrown, IsNoLess, log_of}
-use Rattle.turns.specs.Logs.{HasEnded}
-use Rattle.driving.specs.Links.{IsLinked}
-use Rattle.driving.specs.Quiet.{HasNoFrame, IsQuiet}
-use Rattle.driving.specs.Open.{HasNothingOpen}
-use Rattle.driving.proofs.Turned.{log_stands}
+use Rattle.plantdriving.specs.Links.{HasGrown, IsNoLess, log_of}
+use Rattle.plantturns.specs.Logs.{HasEnded}
+use Rattle.plantdriving.specs.Links.{IsLinked}
+use Rattle.plantdriving.specs.Quiet.{HasNoFrame, IsQuiet}
+use Rattle.plantdriving.specs.Open.{HasNothingOpen}
+use Rattle.plantdriving.proofs.Turned.{log_stands}
 use Rattle.workers.specs.Beginnings.{IsInStep}
 use Rattle.workers.specs.Closings.{IsClosed}
 use Rattle.workers.specs.Runs.{HasEndedQuietly}

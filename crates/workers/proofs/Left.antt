@@ -8,19 +8,19 @@ use Rattle.buslink.specs.BusLog.{BusLog}
 use Rattle.buslink.specs.ClockLog.{ClockLog}
 use Rattle.plantevents.specs.Legal.{AreLegal}
 use Rattle.plantevents.specs.Plants.{Plant}
-use Rattle.driving.specs.declared.halt.Halt.{Halt}
-use Rattle.driving.specs.declared.halt.Halt.TheVariants.{Memory, Refused, Unwritten}
-use Rattle.driving.proofs.Refused.{stuck_is_full}
+use Rattle.plantdriving.specs.declared.halt.Halt.{Halt}
+use Rattle.plantdriving.specs.declared.halt.Halt.TheVariants.{Memory, Refused, Unwritten}
+use Rattle.plantdriving.proofs.Refused.{stuck_is_full}
 use Rattle.workers.specs.Endings.{ended_of}
 use Rattle.workers.specs.declared.ended.Ended.TheVariants.{Asked, Limit}
 use Rattle.plant.specs.Shown.{Shown, is_full}
-use Rattle.receipts.specs.Each.{Each}
-use Rattle.driving.specs.Links.{IsNoLess, log_of}
-use Rattle.driving.proofs.Counts.{grown_since, no_less_since}
-use Rattle.driving.specs.Driven.{CannotGoOn, IsDriven}
-use Rattle.driving.specs.Links.{HasHeard, IsLinked}
-use Rattle.driving.specs.Quiet.{HasNoFrame, IsQuiet}
-use Rattle.driving.proofs.Turned.{log_stands}
+use Rattle.plantreceipts.specs.Each.{Each}
+use Rattle.plantdriving.specs.Links.{IsNoLess, log_of}
+use Rattle.plantdriving.proofs.Counts.{grown_since, no_less_since}
+use Rattle.plantdriving.specs.Driven.{CannotGoOn, IsDriven}
+use Rattle.plantdriving.specs.Links.{HasHeard, IsLinked}
+use Rattle.plantdriving.specs.Quiet.{HasNoFrame, IsQuiet}
+use Rattle.plantdriving.proofs.Turned.{log_stands}
 use Rattle.workers.specs.Closings.{IsClosed}
 use Rattle.workers.specs.declared.closed.ClosedParts.{ClosedParts}
 use Rattle.workers.proofs.Lists.{each_at}

@@ -15,9 +15,9 @@ use Rattle.workers.specs.Closings.{IsClosed, IsLeft}
 use Rattle.workers.specs.Runs.{GoesOn, HasEndedQuietly, HasRun}
 use Rattle.workers.specs.Starts.{AreCounts}
 use Rattle.workers.proofs.Earlier.{buses_before, clock_before}
-use Rattle.receipts.specs.Each.{Each}
-use Rattle.driving.specs.Links.{IsLinked, IsNoLess, log_of}
-use Rattle.driving.specs.Open.{HasNothingOpen}
+use Rattle.plantreceipts.specs.Each.{Each}
+use Rattle.plantdriving.specs.Links.{IsLinked, IsNoLess, log_of}
+use Rattle.plantdriving.specs.Open.{HasNothingOpen}
 use Rattle.workers.proofs.Left.{all_made, of_made}
 use Rattle.workers.proofs.GoneOn.{closed_again, given_now, grew, linked_now, moments_now, quietly_since}
 

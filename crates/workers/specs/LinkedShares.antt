@@ -2,12 +2,12 @@
 use Rattle.std.specs.Prelude.{◌≡◌, ℕ, List, length}
 use Rattle.buslink.specs.BusLog.{BusLog}
 use Rattle.buslink.specs.ClockLog.{ClockLog}
-use Rattle.receipts.specs.Each.{Each}
-use Rattle.receipts.specs.Receipts.{ShareParts}
-use Rattle.turns.specs.declared.bus_worker.BusWithShare.{BusWithShare}
+use Rattle.plantreceipts.specs.Each.{Each}
+use Rattle.plantreceipts.specs.Receipts.{ShareParts}
+use Rattle.plantturns.specs.declared.bus_worker.BusWithShare.{BusWithShare}
 use Rattle.workers.specs.declared.linked_shares.LinkedShares.{LinkedShares}
-use Rattle.driving.specs.Links.{log_of}
-use Rattle.turns.specs.Logs.{IsServed, IsTimed, IsWorker}
+use Rattle.plantdriving.specs.Links.{log_of}
+use Rattle.plantturns.specs.Logs.{IsServed, IsTimed, IsWorker}
 
 -- each bus by its number, where the first has the number n
 abbrev pub AreServed : {B J T : Type 0} → List BusLog → (B → BusLog) → ℕ → List (BusWithShare B J T) → Type 0

@@ -7,10 +7,10 @@ use Rattle.plantevents.specs.declared.event.Event.{Event}
 use Rattle.plantevents.specs.Histories.{given_in}
 use Rattle.plantevents.specs.Plants.{Plant}
 use Rattle.plant.specs.Shown.{IsLimit, IsRoomy, is_full, plant_of, used}
-use Rattle.receipts.specs.Each.{Each}
-use Rattle.driving.specs.Links.{IsLinked, log_of}
-use Rattle.driving.specs.Quiet.{IsQuiet}
-use Rattle.turns.specs.Logs.{HasEnded}
+use Rattle.plantreceipts.specs.Each.{Each}
+use Rattle.plantdriving.specs.Links.{IsLinked, log_of}
+use Rattle.plantdriving.specs.Quiet.{IsQuiet}
+use Rattle.plantturns.specs.Logs.{HasEnded}
 use Rattle.workers.specs.declared.closed.ClosedParts.{ClosedParts}
 use Rattle.workers.specs.declared.closed.NotGoneOn.{NotGoneOn}
 use Rattle.workers.specs.declared.closed.NotStarted.{NotStarted}

@@ -5,8 +5,8 @@ use Rattle.workers.specs.declared.bus_threads.StartedBus.{StartedBus}
 use Rattle.workers.specs.declared.bus_threads.StartedBus.TheVariants as buses
 use Rattle.workers.specs.declared.scan_threads.StartedScans.{StartedScans}
 use Rattle.workers.specs.declared.scan_threads.StartedScans.TheVariants as scans
-use Rattle.driving.specs.Links.{log_of}
-use Rattle.turns.specs.Logs.{IsServed, IsWorker}
+use Rattle.plantdriving.specs.Links.{log_of}
+use Rattle.plantturns.specs.Logs.{IsServed, IsWorker}
 
 -- the worker of this bus
 abbrev pub IsStartedBus : {B J T : Type 0} → List BusLog → (B → BusLog) → ℕ → StartedBus B J T → Type 0

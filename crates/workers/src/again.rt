@@ -9,11 +9,11 @@ use crate::going_on::run_under;
 use buslink::{Bus, Clock};
 use limits::MOST_TOTAL;
 use plant::{LEAST_LIMIT, MOST_LIMIT, OpenFault};
+use plantturns::Gate;
 use std::alloc::Global;
 use std::sync::Wait;
 use std::thread::Threads;
 use std::time::Clock as Timer;
-use turns::Gate;
 
 /// Goes on from what a run left, with the same plant, buses and clock and as many scan workers,
 /// until the clock gives no moment more, the history is full, or memory or threads are wanting. The

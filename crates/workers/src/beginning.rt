@@ -1,11 +1,11 @@
 //! The lock, the Shares with their links, and the lists of threads, before the first thread begins.
 
 ghost use Rattle.std.specs.Prelude.{◌≡◌, ◌+◌, ◌≤◌, [], length, map, vec_len, vec_capacity, IfOk, IfErr};
-ghost use Rattle.driving.specs.Open.{HasNothingOpen};
+ghost use Rattle.plantdriving.specs.Open.{HasNothingOpen};
 ghost use Rattle.plant.specs.Shown.{IsWorkerCount};
 ghost use Rattle.std.specs.List.{range_with_len};
 ghost use Rattle.limits.specs.Limits.{most_buses, most_seats};
-ghost use Rattle.seats.specs.Openings.{fresh};
+ghost use Rattle.planttallies.specs.Openings.{fresh};
 ghost use Rattle.workers.specs.Beginnings.{AreRunParts, IsInStep};
 ghost use Rattle.workers.specs.WorkerThreads.{HasThreadRoom};
 
@@ -17,10 +17,10 @@ use buslink::{Bus, Clock};
 use plant::Plant;
 use plantevents::{what_a_part_shows, what_a_part_shows_of_links};
 use plantlock::{LockStart, NotedPart, Shared, Shares};
-use seats::{LedgerNames, LockTallies, NewTallies, ThreadTally};
+use planttallies::{LedgerNames, LockTallies, NewTallies, ThreadTally};
+use plantturns::{BusWithShare, ClockWithShare, Links};
 use std::alloc::{AllocError, Global};
 use std::sync::OnceLock;
-use turns::{BusWithShare, ClockWithShare, Links};
 
 /// What a run begins with.
 #[derive(Drop)]

@@ -1,19 +1,19 @@
 //! Threads that serve buses.
 
 ghost use Rattle.std.specs.Prelude.{ℕ};
-ghost use Rattle.driving.specs.Links.{log_of};
-ghost use Rattle.turns.specs.Logs.{IsServed};
+ghost use Rattle.plantdriving.specs.Links.{log_of};
+ghost use Rattle.plantturns.specs.Logs.{IsServed};
 ghost use Rattle.workers.specs.Started.{IsStartedBus};
 
 use crate::ended::{End, Ended};
 use crate::serving::serve_bus;
 use buslink::Bus;
 use plantlock::{LockStart, Shared};
-use seats::{Tallies, Tally};
+use planttallies::{Tallies, Tally};
+use plantturns::{BusWithShare, Gate, Links};
 use std::sync::Wait;
 use std::thread::{Promise, PromisedHandle, Scope, Threads};
 use std::time::Clock as Timer;
-use turns::{BusWithShare, Gate, Links};
 
 /// The work of a bus's worker. It is one value, so that a closure captures one.
 #[derive(Drop)]
@@ -32,8 +32,8 @@ pub(crate) struct Serves {
 }
 
 impl<'a, B: Bus, J: LockStart + Links, T: Tally> Promise<BusWithShare<'a, B, J, T>> for Serves {
-    ghost use Rattle.driving.specs.Links.{log_of};
-    ghost use Rattle.turns.specs.Logs.{IsServed};
+    ghost use Rattle.plantdriving.specs.Links.{log_of};
+    ghost use Rattle.plantturns.specs.Logs.{IsServed};
 
     ghost kept_by = { λ p r. IsServed (log_of J.buses p.bus) p.bus r.share (B.log r.line) };
 }

@@ -16,8 +16,8 @@ use buslink::{Bus, Clock};
 use plant::Plant;
 use plantevents::{what_a_part_shows, what_a_part_shows_of_links};
 use plantlock::{Final, LockStart, Share, Shared, Shares};
-use seats::{Tallies, Tally};
-use turns::{ClockWithShare, Links};
+use planttallies::{Tallies, Tally};
+use plantturns::{ClockWithShare, Links};
 
 /// Empty lists with room for the buses and their Shares.
 #[derive(Drop)]

@@ -1,6 +1,6 @@
 //! The end of a run.
 
-use driving::Halt;
+use plantdriving::Halt;
 use std::sync::{OnceLock, OnceToken, Wait};
 
 /// Why a run ended.

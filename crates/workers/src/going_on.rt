@@ -4,7 +4,7 @@ ghost use Rattle.std.specs.Prelude.{◌≡◌, ◌+◌, ◌≤◌, length, IfErr
 ghost use Rattle.limits.specs.Limits.{most_total};
 ghost use Rattle.plant.specs.Shown.{kept};
 ghost use Rattle.plant.specs.declared.open_fault.OpenFault.TheVariants.{Memory};
-ghost use Rattle.driving.specs.Open.{HasNothingOpen};
+ghost use Rattle.plantdriving.specs.Open.{HasNothingOpen};
 ghost use Rattle.workers.specs.Runs.{GoesOn};
 
 use crate::beginning::NotBegun;
@@ -14,13 +14,13 @@ use crate::ended::Ended;
 use crate::running::{new_cells, run_named};
 use buslink::{Bus, Clock};
 use plant::OpenFault;
-use seats::NewTallies;
+use planttallies::NewTallies;
+use plantturns::Gate;
 use std::alloc::Global;
 use std::marker::Brand;
 use std::sync::Wait;
 use std::thread::Threads;
 use std::time::Clock as Timer;
-use turns::Gate;
 
 /// What was to go on, as it was before, with this limit.
 fn as_before<B: Bus, C: Clock>(

@@ -6,7 +6,7 @@ ghost use Rattle.buslink.specs.ClockLog.{ClockLog};
 ghost use Rattle.plantevents.specs.Plants.{Plant as Planted};
 ghost use Rattle.plant.specs.Shown.{is_full};
 ghost use Rattle.plantlock.specs.Tied.{IsFront};
-ghost use Rattle.driving.specs.Quiet.{IsQuiet};
+ghost use Rattle.plantdriving.specs.Quiet.{IsQuiet};
 ghost use Rattle.workers.specs.Closings.{IsClosed};
 ghost use Rattle.workers.specs.declared.ended.Ended.TheVariants.{Asked, Limit};
 
@@ -14,9 +14,9 @@ use crate::closed::ClosedParts;
 use crate::closed_plant::ClosedPlant;
 use crate::ended::Ended;
 use buslink::{Bus, Clock};
-use driving::settle;
+use plantdriving::settle;
+use plantturns::{Gate, Passing};
 use std::alloc::Global;
-use turns::{Gate, Passing};
 
 /// Does what is left where the clock came to its end: scans, sends and hears until there is nothing
 /// left to be done, the history is full, or memory is wanting.

@@ -36,6 +36,6 @@ pub use again::{go_on, run_again};
 pub use closed::{Closed, ClosedParts, NotGoneOn, NotStarted};
 pub use closed_plant::ClosedPlant;
 pub use ended::Ended;
+pub use plantturns::{Gate, OpenGate};
 pub use rest::Rest;
 pub use running::{Opening, run};
-pub use turns::{Gate, OpenGate};

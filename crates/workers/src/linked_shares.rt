@@ -2,8 +2,8 @@
 
 use buslink::{Bus, Clock};
 use plantlock::{LockStart, Share};
-use seats::Tally;
-use turns::{BusWithShare, ClockWithShare};
+use planttallies::Tally;
+use plantturns::{BusWithShare, ClockWithShare};
 
 /// The buses and the clock with their Shares, and the Shares of the scan workers.
 #[derive(Drop)]

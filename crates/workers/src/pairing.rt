@@ -2,16 +2,16 @@
 
 ghost use Rattle.std.specs.Prelude.{◌≡◌, ◌≤◌, [], length, map, vec_len, vec_capacity};
 ghost use Rattle.plantevents.specs.declared.role.Role.TheVariants as roles;
-ghost use Rattle.receipts.specs.Each.{Each};
-ghost use Rattle.receipts.specs.Receipts.{ShareParts, AreFresh, IsFresh};
-ghost use Rattle.driving.specs.Links.{log_of};
-ghost use Rattle.turns.specs.Logs.{IsServed};
+ghost use Rattle.plantreceipts.specs.Each.{Each};
+ghost use Rattle.plantreceipts.specs.Receipts.{ShareParts, AreFresh, IsFresh};
+ghost use Rattle.plantdriving.specs.Links.{log_of};
+ghost use Rattle.plantturns.specs.Logs.{IsServed};
 ghost use Rattle.workers.specs.LinkedShares.{AreServed};
 
 use buslink::Bus;
 use plantlock::{LockStart, Share};
-use seats::Tally;
-use turns::{BusWithShare, Links};
+use planttallies::Tally;
+use plantturns::{BusWithShare, Links};
 
 /// Puts each bus and its Share together. Both lists are empty afterwards, and keep their room.
 pub(crate) fn put_together<'a, B: Bus, J: LockStart + Links, T: Tally>(

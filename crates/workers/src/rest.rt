@@ -6,7 +6,7 @@ use crate::closed::{Closed, ClosedParts};
 use crate::closed_plant::ClosedPlant;
 use crate::ended::Ended;
 use buslink::{Bus, Clock};
-use memo::Memo;
+use ghosts::Memo;
 use std::marker::Model;
 
 /// What a run left, without its buses. Contracts see them still.

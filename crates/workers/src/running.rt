@@ -5,7 +5,7 @@ ghost use Rattle.limits.specs.Limits.{most_buses};
 ghost use Rattle.plant.specs.declared.open_fault.OpenFault.TheVariants.{Memory};
 ghost use Rattle.plant.specs.Shown.{IsWorkerCount, is_full};
 ghost use Rattle.plantlock.specs.Tied.{IsFront};
-ghost use Rattle.driving.specs.Open.{HasNothingOpen};
+ghost use Rattle.plantdriving.specs.Open.{HasNothingOpen};
 ghost use Rattle.workers.specs.Beginnings.{IsInStep};
 ghost use Rattle.workers.specs.Closings.{IsClosed};
 ghost use Rattle.workers.specs.Runs.{HasEndedQuietly, HasRun, IsNotStarted};
@@ -22,13 +22,13 @@ use buslink::{Bus, Clock};
 use ilcompile::Setup;
 use plant::{OpenFault, Plant};
 use plantlock::{LockStart, NotedPart, Shared};
-use seats::{LedgerNames, NewTallies, Tallies, Tally};
+use planttallies::{LedgerNames, NewTallies, Tallies, Tally};
+use plantturns::{Gate, Links};
 use std::alloc::{AllocError, Global};
 use std::marker::Brand;
 use std::sync::{OnceLock, Wait};
 use std::thread::Threads;
 use std::time::Clock as Timer;
-use turns::{Gate, Links};
 
 /// What a run is opened with: what a text was loaded to, and the most events of its history, 100 to
 /// 1,000,000.

@@ -1,18 +1,18 @@
 //! Threads of scan workers.
 
 ghost use Rattle.std.specs.Prelude.{ℕ};
-ghost use Rattle.turns.specs.Logs.{IsWorker};
+ghost use Rattle.plantturns.specs.Logs.{IsWorker};
 ghost use Rattle.workers.specs.Started.{IsStartedScans};
 
 use crate::ended::{End, Ended};
 use crate::serving::serve_tasks;
 use plantlock::{LockStart, Share, Shared};
-use seats::{Tallies, Tally};
+use planttallies::{Tallies, Tally};
+use plantturns::Gate;
 use std::alloc::Global;
 use std::sync::Wait;
 use std::thread::{Promise, PromisedHandle, Scope, Threads};
 use std::time::Clock as Timer;
-use turns::Gate;
 
 /// The work of a scan worker. It is one value, so that a closure captures one.
 #[derive(Drop)]
@@ -32,7 +32,7 @@ pub(crate) struct Scans {
 }
 
 impl<'a, J: LockStart, T: Tally> Promise<Share<'a, J, T>> for Scans {
-    ghost use Rattle.turns.specs.Logs.{IsWorker};
+    ghost use Rattle.plantturns.specs.Logs.{IsWorker};
 
     ghost kept_by = { λ p r. IsWorker p.worker r };
 }

@@ -1,24 +1,24 @@
 //! The loops of the workers, until the end is told.
 
 ghost use Rattle.std.specs.Prelude.{◌≡◌, IfErr, IfOk, OnErr, OnOk, Ok, Some};
-ghost use Rattle.driving.specs.Links.{log_of};
-ghost use Rattle.turns.specs.Handouts.{AreFollowed};
-ghost use Rattle.turns.specs.Logs.{HasEnded, IsServed, IsTimed, IsWorker};
+ghost use Rattle.plantdriving.specs.Links.{log_of};
+ghost use Rattle.plantturns.specs.Handouts.{AreFollowed};
+ghost use Rattle.plantturns.specs.Logs.{HasEnded, IsServed, IsTimed, IsWorker};
 ghost use Rattle.workers.specs.declared.ended.Ended.TheVariants.{Asked};
 
 use crate::ended::{End, Ended, ToldEnd};
 use crate::pause::Pause;
 use buslink::{Bus, Clock};
-use driving::{Halt, Observer};
+use plantdriving::{Halt, Observer};
 use plantlock::{LockStart, Share, Shared};
-use seats::{Tallies, Tally};
-use std::alloc::Global;
-use std::sync::Wait;
-use std::time::Clock as Timer;
-use turns::{
+use planttallies::{Tallies, Tally};
+use plantturns::{
     BusWithShare, ClockWithShare, Gate, Links, Passing, Turn, come_up, hear_turn, scan_turn,
     send_turn, tick_once,
 };
+use std::alloc::Global;
+use std::sync::Wait;
+use std::time::Clock as Timer;
 
 /// What a turn did. Where its worker cannot go on, it tells the end, and shows that it is told.
 fn or_told<'e, R: Wait>(rt: &R, end: &'e End, turn: Result<Turn, Halt>) -> Result<Turn, ToldEnd<'e>>

@@ -10,12 +10,12 @@ use crate::ended::End;
 use crate::scan_threads::{ScanTask, StartedScans, finish_scans, start_scans};
 use buslink::Bus;
 use plantlock::{LockStart, Share, Shared};
-use seats::{Tallies, Tally};
+use planttallies::{Tallies, Tally};
+use plantturns::{BusWithShare, Gate, Links};
 use std::alloc::Global;
 use std::sync::Wait;
 use std::thread::{Scope, Threads};
 use std::time::Clock as Timer;
-use turns::{BusWithShare, Gate, Links};
 
 /// What all workers share.
 #[derive(Drop)]

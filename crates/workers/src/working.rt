@@ -1,7 +1,7 @@
 //! All workers, until the end is told.
 
 ghost use Rattle.std.specs.Prelude.{◌≡◌, IfOk};
-ghost use Rattle.turns.specs.Logs.{HasEnded};
+ghost use Rattle.plantturns.specs.Logs.{HasEnded};
 ghost use Rattle.workers.specs.WorkerThreads.{AreReadyToStart, HasThreadRoom};
 ghost use Rattle.workers.specs.LinkedShares.{AreLinkedShares, HasSameCounts};
 ghost use Rattle.workers.specs.declared.ended.Ended.TheVariants.{Asked};
@@ -16,13 +16,13 @@ use crate::worker_threads::{
 };
 use buslink::{Bus, Clock};
 use plantlock::LockStart;
-use seats::{Tallies, Tally};
+use planttallies::{Tallies, Tally};
+use plantturns::{Gate, Links};
 use std::alloc::{AllocError, Global};
 use std::sync::Wait;
 use std::thread;
 use std::thread::{Scope, Threads};
 use std::time::Clock as Timer;
-use turns::{Gate, Links};
 
 /// Room for the threads, made before the first begins.
 #[derive(Drop)]

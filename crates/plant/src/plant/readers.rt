@@ -16,9 +16,9 @@ ghost use Rattle.plant.specs.Shown.{is_full, is_reserved, kept, used};
 
 use super::Plant;
 use busqueue::Class;
+use ilcells::ValueRow;
 use ilcompile::Setup;
 use ilplan::TaskState;
-use ilrows::ValueRow;
 use iltypes::Value;
 use plantevents::Role;
 use std::alloc::{AllocError, Global};

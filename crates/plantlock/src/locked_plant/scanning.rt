@@ -6,15 +6,15 @@ ghost use Rattle.plantevents.specs.declared.role.Role.TheVariants as roles;
 ghost use Rattle.plant.specs.Matches.{IsOpenScan};
 ghost use Rattle.plant.specs.Refusals.{GivesFirstOrMemory, take_cases};
 ghost use Rattle.plant.specs.Shown.{grown};
-ghost use Rattle.receipts.specs.Receipts.{IsNoted, whole};
+ghost use Rattle.plantreceipts.specs.Receipts.{IsNoted, whole};
 ghost use Rattle.plantlock.specs.Answers.{Decides, IsOwn, ShowsScan};
 
 use super::LockedPlant;
 use ilmachine::ScanResult;
 use plant::{CallError, Order};
 use plantevents::{Event, NotedResult, NotedSnapshot, what_a_part_shows};
-use receipts::{LockStart, Share};
-use seats::{Tallies, Tally};
+use plantreceipts::{LockStart, Share};
+use planttallies::{Tallies, Tally};
 use std::alloc::Global;
 use std::sync::Wait;
 

@@ -9,14 +9,14 @@ ghost use Rattle.limits.specs.Limits.{AreTries};
 ghost use Rattle.plant.specs.Matches.{IsReportOf};
 ghost use Rattle.plant.specs.Refusals.{GivesFirst, down_cases, hand_cases, up_cases};
 ghost use Rattle.plant.specs.Shown.{grown};
-ghost use Rattle.receipts.specs.Receipts.{IsNoted, whole};
+ghost use Rattle.plantreceipts.specs.Receipts.{IsNoted, whole};
 ghost use Rattle.plantlock.specs.Answers.{Decides, IsNotUp, ShowsTransaction};
 
 use super::LockedPlant;
 use plant::{CallRefusal, Handed};
 use plantevents::{Event, what_a_part_shows};
-use receipts::{LockStart, Share};
-use seats::{Tallies, Tally};
+use plantreceipts::{LockStart, Share};
+use planttallies::{Tallies, Tally};
 use std::sync::Wait;
 use transact::{Report, Transaction};
 

@@ -1,6 +1,6 @@
 use Rattle.std.proofs.Common.{rules, ◌≡◌, ◌∙◌, Some, option_map, ap, subst, sym}
-use Rattle.keeping.specs.Faults.{IsKeptFaultOrMemory}
-use Rattle.keeping.specs.declared.fault.KeptFault.TheVariants.{Empty, Torn}
+use Rattle.livekeep.specs.Faults.{IsKeptFaultOrMemory}
+use Rattle.livekeep.specs.declared.fault.KeptFault.TheVariants.{Empty, Torn}
 use Rattle.commands.proofs.KeptNotes.{noted_unused}
 use Rattle.commands.proofs.UnusedValues.{begun_without, unusable_unused}
 use Rattle.commands.proofs.beginning.beginning_of.Goals as goal

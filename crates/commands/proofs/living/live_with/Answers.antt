@@ -1,5 +1,5 @@
 use Rattle.std.proofs.Common.{ℕ, subst}
-use Rattle.building.specs.Buildings.{IsOpened}
+use Rattle.livehouse.specs.Buildings.{IsOpened}
 use Rattle.commands.proofs.LivesOut.{lived_out}
 use Rattle.commands.proofs.living.live_with.Goals as goal
 

@@ -1,5 +1,5 @@
 use Rattle.std.proofs.Common.{◌∙◌, ap, inl, inr, refl, IsTrue}
-use Rattle.exits.specs.ExitStatuses.{status_of_play}
+use Rattle.exitstatus.specs.ExitStatuses.{status_of_play}
 use Rattle.commands.specs.Plays.{status_of_played}
 use Rattle.commands.proofs.PlaysOut.{judged_by, played_under}
 use Rattle.commands.proofs.playing.report.Goals as goal

@@ -1,4 +1,4 @@
-use Rattle.answers.specs.Printed.{printed_task}
+use Rattle.inquiries.specs.Printed.{printed_task}
 use Rattle.commands.specs.Reports.{task_line}
 use Rattle.commands.proofs.ReportedLines.{one_line_more, task_is}
 use Rattle.commands.proofs.report.tasks.Goals as goal

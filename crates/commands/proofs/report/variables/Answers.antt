@@ -1,5 +1,5 @@
 use Rattle.std.specs.Prelude.{option_map}
-use Rattle.answers.specs.Printed.{printed_variable}
+use Rattle.inquiries.specs.Printed.{printed_variable}
 use Rattle.commands.specs.Reports.{variable_line}
 use Rattle.commands.proofs.ReportedLines.{one_line_more, variable_is}
 use Rattle.commands.proofs.report.variables.Goals as goal

@@ -1,6 +1,6 @@
 use Rattle.std.proofs.Common.{ℕ, List, ◌++◌, map, take, drop, length, sym, ap, ◌∙◌}
 use Rattle.iltypes.specs.declared.value.IlType.{IlType}
-use Rattle.ilrows.specs.Banks.{kinds_of_types}
+use Rattle.ilcells.specs.Banks.{kinds_of_types}
 use Rattle.ilcode.specs.Lasting.{least_of}
 use Rattle.ilmachine.proofs.WholeRows.{whole_kinds, is_whole}
 use Rattle.ilmachine.proofs.whole_row.whole_row.Goals as goal

@@ -1,6 +1,6 @@
 use Rattle.std.proofs.Common.{◌≡◌, ap, ◌∙◌}
 use Rattle.ilplan.specs.Plans.{Planned}
-use Rattle.keeping.specs.KeptPlans.{global_firsts, task_firsts}
+use Rattle.livekeep.specs.KeptPlans.{global_firsts, task_firsts}
 use Rattle.plantload.proofs.KeptSetups.{kept_setup}
 use Rattle.plantload.proofs.kept.begin_kept.Goals as goal
 

@@ -1,5 +1,5 @@
 use Rattle.std.proofs.Common.{◌≡◌, ℕ, ◌<◌, Some, slice_get}
-use Rattle.receipts.specs.Receipts.{ShareParts}
+use Rattle.plantreceipts.specs.Receipts.{ShareParts}
 use Rattle.plantlock.specs.Tied.{IsMet}
 use Rattle.plantlock.proofs.shared.meet_all.Given as goal
 

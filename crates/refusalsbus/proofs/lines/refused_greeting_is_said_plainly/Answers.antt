@@ -1,5 +1,5 @@
-use Rattle.linebus.specs.Greetings.{Ends, IsGreeted, ends}
-use Rattle.linebus.specs.Lines.{greeting, line_end, numbered_greeting}
+use Rattle.liveline.specs.Greetings.{Ends, IsGreeted, ends}
+use Rattle.liveline.specs.Lines.{greeting, line_end, numbered_greeting}
 use Rattle.std.proofs.Common.{◌++◌}
 use Rattle.std.specs.Io.KnownBytes.{Appends}
 use Rattle.refusalsbus.proofs.Logs.{if_ok}

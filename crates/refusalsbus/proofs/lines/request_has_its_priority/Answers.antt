@@ -1,7 +1,7 @@
 use Rattle.std.proofs.Common.{◌++◌}
 use Rattle.std.specs.Io.KnownBytes.{Appends}
-use Rattle.linebus.specs.Exchanges.{IsExchange}
-use Rattle.linebus.specs.Lines.{IsReply, line_end, send_line}
+use Rattle.liveline.specs.Exchanges.{IsExchange}
+use Rattle.liveline.specs.Lines.{IsReply, line_end, send_line}
 use Rattle.refusalsbus.proofs.Logs.{if_ok}
 use Rattle.refusalsbus.proofs.lines.request_has_its_priority.Goals as goal
 

@@ -1,5 +1,5 @@
 use Rattle.std.proofs.Common.{◌∙◌}
-use Rattle.linebus.specs.Greetings.{ends}
+use Rattle.liveline.specs.Greetings.{ends}
 use Rattle.refusalsbus.proofs.ShortTexts.{no_greeting}
 use Rattle.refusalsbus.proofs.lines.short_text_is_no_greeting.Goals as goal
 

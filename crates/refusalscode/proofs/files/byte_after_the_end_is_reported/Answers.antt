@@ -1,5 +1,5 @@
 use Rattle.std.proofs.Common.{arith}
-use Rattle.codefile.specs.declared.fault.FileCause.TheVariants.{Trailing}
+use Rattle.ilcodefile.specs.declared.fault.FileCause.TheVariants.{Trailing}
 use Rattle.refusalscode.proofs.FileFaults.{byte_more, with_a_byte_more, refused_with}
 use Rattle.refusalscode.proofs.files.byte_after_the_end_is_reported.Goals as goal
 

@@ -1,7 +1,7 @@
 use Rattle.std.proofs.Common.{◌≡◌, ◌∙◌, ℕ, List, refl, sym, ap}
 use Rattle.std.specs.Prelude.{slice_index}
 use Rattle.ilcode.specs.Listings.{Listing}
-use Rattle.codefile.specs.Files.{IsFileOf, file}
+use Rattle.ilcodefile.specs.Files.{IsFileOf, file}
 use Rattle.refusalscode.proofs.Results.{if_ok}
 use Rattle.refusalscode.proofs.files.file_of_17_buses_is_of_version_2.Goals as goal
 

@@ -1,5 +1,5 @@
 use Rattle.std.proofs.Common.{arith}
-use Rattle.codefile.specs.declared.fault.FileCause.TheVariants.{Cut}
+use Rattle.ilcodefile.specs.declared.fault.FileCause.TheVariants.{Cut}
 use Rattle.refusalscode.proofs.FileFaults.{half_a_function, with_half_a_function, refused_with}
 use Rattle.refusalscode.proofs.files.function_has_16_bytes.Goals as goal
 

@@ -1,7 +1,7 @@
 use Rattle.std.proofs.Common.{◌≡◌, [], refl}
 use Rattle.std.specs.List.{AllByRecursion}
 use Rattle.ilcode.specs.Words.{IsOldWord}
-use Rattle.codefile.specs.Files.{IsFileOf}
+use Rattle.ilcodefile.specs.Files.{IsFileOf}
 use Rattle.refusalscode.proofs.Results.{if_ok}
 use Rattle.refusalscode.proofs.files.old_code_has_old_words.Goals as goal
 

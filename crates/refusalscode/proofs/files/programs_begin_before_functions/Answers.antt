@@ -1,7 +1,7 @@
 use Rattle.std.proofs.Common.{◌≤◌}
 use Rattle.std.specs.List.{All}
 use Rattle.ilcode.specs.Listings.{end_of}
-use Rattle.codefile.specs.Files.{IsFileOf}
+use Rattle.ilcodefile.specs.Files.{IsFileOf}
 use Rattle.refusalscode.proofs.Results.{if_ok}
 use Rattle.refusalscode.proofs.files.programs_begin_before_functions.Goals as goal
 

@@ -1,7 +1,7 @@
 use Rattle.std.proofs.Common.{◌≡◌, ℕ, ◌+◌, Some, slice_get}
 use Rattle.ilcode.specs.Listings.{slots_end}
 use Rattle.ilcode.specs.declared.function.FunctionBody.{FunctionBody}
-use Rattle.codefile.specs.Files.{IsFileOf}
+use Rattle.ilcodefile.specs.Files.{IsFileOf}
 use Rattle.refusalscode.proofs.Results.{if_ok}
 use Rattle.refusalscode.proofs.files.slots_of_functions_follow_one_another.Goals as goal
 

@@ -1,5 +1,5 @@
 use Rattle.std.specs.List.Sorted.{IsNonDecreasing}
-use Rattle.codefile.specs.Files.{IsFileOf}
+use Rattle.ilcodefile.specs.Files.{IsFileOf}
 use Rattle.refusalscode.proofs.Results.{if_ok}
 use Rattle.refusalscode.proofs.files.starts_do_not_fall.Goals as goal
 

@@ -1,4 +1,4 @@
-use Rattle.codefile.specs.declared.fault.FileCause.TheVariants.{Magic}
+use Rattle.ilcodefile.specs.declared.fault.FileCause.TheVariants.{Magic}
 use Rattle.refusalscode.proofs.FileFaults.{third, version_3, refused_with}
 use Rattle.refusalscode.proofs.files.version_3_is_refused.Goals as goal
 

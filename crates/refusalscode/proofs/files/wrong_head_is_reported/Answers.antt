@@ -1,5 +1,5 @@
 use Rattle.std.proofs.Common.{[], ◌∷◌}
-use Rattle.codefile.specs.declared.fault.FileCause.TheVariants.{Magic}
+use Rattle.ilcodefile.specs.declared.fault.FileCause.TheVariants.{Magic}
 use Rattle.refusalscode.proofs.FileFaults.{other_head, refused_with}
 use Rattle.refusalscode.proofs.files.wrong_head_is_reported.Goals as goal
 

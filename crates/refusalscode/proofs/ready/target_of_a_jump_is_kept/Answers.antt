@@ -5,7 +5,7 @@ use Rattle.iltypes.specs.declared.value.IlType.{IlType}
 use Rattle.ilcode.specs.declared.word.Word.{Word}
 use Rattle.ilcode.specs.declared.word.Word.TheVariants as words
 use Rattle.ilcode.specs.declared.word.WordOperand.TheVariants as operands
-use Rattle.ilrows.specs.Banks.{kinds_of_types}
+use Rattle.ilcells.specs.Banks.{kinds_of_types}
 use Rattle.ilready.specs.declared.choice.Choice.{Choice}
 use Rattle.ilready.specs.declared.choice.Choice.TheVariants as choices
 use Rattle.ilready.specs.declared.ready_word.ReadyWord.{ReadyWord}

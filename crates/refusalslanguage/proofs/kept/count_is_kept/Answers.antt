@@ -1,7 +1,7 @@
 use Rattle.std.proofs.Common.{◌≡◌, ◌∙◌, [], ◌∷◌, ap, length, sym}
-use Rattle.keeping.specs.KeptFiles.{entry_of}
-use Rattle.keeping.specs.KeptStates.{entries_of}
-use Rattle.keeping.specs.KeptValues.{global_name}
+use Rattle.livekeep.specs.KeptFiles.{entry_of}
+use Rattle.livekeep.specs.KeptStates.{entries_of}
+use Rattle.livekeep.specs.KeptValues.{global_name}
 use Rattle.refusalslanguage.proofs.KeptVariables.{count_kept, none_zip}
 use Rattle.refusalslanguage.proofs.Results.{if_ok}
 use Rattle.refusalslanguage.proofs.kept.count_is_kept.Goals as goal

@@ -1,10 +1,10 @@
 use Rattle.std.proofs.Common.{◌≡◌, ◌∙◌, ℕ, List, [], ◌∷◌, codes, pos, refl, ap}
 use Rattle.std.specs.Fmt.{digits}
 use Rattle.iltypes.specs.declared.value.Value.TheVariants.{Int}
-use Rattle.keeping.specs.CheckSums.{sum_of}
-use Rattle.keeping.specs.KeptFiles.{KeptEntry, entry_of}
-use Rattle.keeping.specs.Printed.{printed_file}
-use Rattle.keeping.specs.declared.kept_at.KeptAt.{KeptAt}
+use Rattle.livekeep.specs.CheckSums.{sum_of}
+use Rattle.livekeep.specs.KeptFiles.{KeptEntry, entry_of}
+use Rattle.livekeep.specs.Printed.{printed_file}
+use Rattle.livekeep.specs.declared.kept_at.KeptAt.{KeptAt}
 use Rattle.refusalslanguage.proofs.Results.{if_ok}
 use Rattle.refusalslanguage.proofs.kept.file_of_a_value.Goals as goal
 

@@ -1,6 +1,6 @@
 use Rattle.std.proofs.Common.{◌≡◌, ◌∙◌, List, [], ◌∷◌, ap, map}
 use Rattle.ilblocks.specs.Stores.{Lasting}
-use Rattle.keeping.specs.KeptPlans.{task_firsts}
+use Rattle.livekeep.specs.KeptPlans.{task_firsts}
 use Rattle.refusalslanguage.proofs.KeptVariables.{kept_instance}
 use Rattle.refusalslanguage.proofs.Results.{if_ok}
 use Rattle.refusalslanguage.proofs.kept.instance_begins_as_kept.Goals as goal

@@ -1,6 +1,6 @@
 use Rattle.std.proofs.Common.{◌≡◌, ◌∙◌, [], ◌∷◌, ap, length, sym}
-use Rattle.keeping.specs.KeptBlocks.{block_entries}
-use Rattle.keeping.specs.KeptStates.{entries_of}
+use Rattle.livekeep.specs.KeptBlocks.{block_entries}
+use Rattle.livekeep.specs.KeptStates.{entries_of}
 use Rattle.refusalslanguage.proofs.KeptVariables.{one_zip, instance_kept}
 use Rattle.refusalslanguage.proofs.Results.{if_ok}
 use Rattle.refusalslanguage.proofs.kept.instance_is_kept.Goals as goal

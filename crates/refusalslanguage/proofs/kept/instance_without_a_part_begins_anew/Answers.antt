@@ -1,7 +1,7 @@
 use Rattle.std.proofs.Common.{◌≡◌, ◌∙◌, List, [], ◌∷◌, ap, map}
 use Rattle.ilblocks.specs.Calls.{at_first}
 use Rattle.ilblocks.specs.Stores.{Lasting}
-use Rattle.keeping.specs.KeptPlans.{task_firsts}
+use Rattle.livekeep.specs.KeptPlans.{task_firsts}
 use Rattle.refusalslanguage.proofs.KeptVariables.{new_instance}
 use Rattle.refusalslanguage.proofs.Results.{if_ok}
 use Rattle.refusalslanguage.proofs.kept.instance_without_a_part_begins_anew.Goals as goal

@@ -1,7 +1,7 @@
 use Rattle.std.proofs.Common.{◌≡◌, ◌∙◌, List, [], ◌∷◌, true}
 use Rattle.iltypes.specs.declared.value.Value.{Value}
 use Rattle.iltypes.specs.declared.value.Value.TheVariants as values
-use Rattle.keeping.specs.KeptPlans.{global_firsts}
+use Rattle.livekeep.specs.KeptPlans.{global_firsts}
 use Rattle.refusalslanguage.proofs.KeptVariables.{firsts_true}
 use Rattle.refusalslanguage.proofs.Results.{if_ok}
 use Rattle.refusalslanguage.proofs.kept.kept_value_that_fits_is_used.Goals as goal

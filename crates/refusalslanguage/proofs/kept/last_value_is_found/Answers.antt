@@ -1,7 +1,7 @@
 use Rattle.std.proofs.Common.{◌≡◌, ◌∙◌, ℕ, List, [], ◌∷◌, Some, refl}
 use Rattle.std.proofs.lemmas.Slice.Eq.{bytes_eq-Decides}
-use Rattle.keeping.specs.KeptFiles.{KeptEntry}
-use Rattle.keeping.specs.KeptValues.{kept_under}
+use Rattle.livekeep.specs.KeptFiles.{KeptEntry}
+use Rattle.livekeep.specs.KeptValues.{kept_under}
 use Rattle.refusalslanguage.proofs.kept.last_value_is_found.Goals as goal
 
 found : (values : List KeptEntry) (last : KeptEntry) (name : List ℕ) → values ≡ last ∷ [] → name ≡ last.name

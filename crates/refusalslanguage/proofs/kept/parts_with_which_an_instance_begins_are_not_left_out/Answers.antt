@@ -1,5 +1,5 @@
 use Rattle.std.proofs.Common.{◌≡◌, ◌∙◌, []}
-use Rattle.keeping.specs.KeptPlans.{left_out_of}
+use Rattle.livekeep.specs.KeptPlans.{left_out_of}
 use Rattle.refusalslanguage.proofs.Results.{if_ok}
 use Rattle.refusalslanguage.proofs.kept.parts_with_which_an_instance_begins_are_not_left_out.Goals as goal
 

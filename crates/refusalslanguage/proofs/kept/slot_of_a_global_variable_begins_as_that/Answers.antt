@@ -1,7 +1,7 @@
 use Rattle.std.proofs.Common.{◌≡◌, ◌∙◌, List, [], ◌∷◌, ap, map, true}
 use Rattle.ilblocks.specs.Stores.{Lasting}
 use Rattle.iltypes.specs.declared.value.Value.TheVariants as values
-use Rattle.keeping.specs.KeptPlans.{task_firsts}
+use Rattle.livekeep.specs.KeptPlans.{task_firsts}
 use Rattle.refusalslanguage.proofs.KeptVariables.{global_slot}
 use Rattle.refusalslanguage.proofs.Results.{if_ok}
 use Rattle.refusalslanguage.proofs.kept.slot_of_a_global_variable_begins_as_that.Goals as goal

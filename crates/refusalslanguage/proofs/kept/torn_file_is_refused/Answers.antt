@@ -1,8 +1,8 @@
 use Rattle.std.proofs.Common.{◌≡◌, ◌≢◌, ℕ, List, Result, Ok, Err, IfErr, refl}
-use Rattle.keeping.specs.Faults.{AreTorn, IsKeptFaultOrMemory}
-use Rattle.keeping.specs.KeptFiles.{IsKeptFile}
-use Rattle.keeping.specs.declared.fault.KeptFault.{KeptFault}
-use Rattle.keeping.specs.declared.fault.KeptFault.TheVariants.{Empty, Memory, Torn}
+use Rattle.livekeep.specs.Faults.{AreTorn, IsKeptFaultOrMemory}
+use Rattle.livekeep.specs.KeptFiles.{IsKeptFile}
+use Rattle.livekeep.specs.declared.fault.KeptFault.{KeptFault}
+use Rattle.livekeep.specs.declared.fault.KeptFault.TheVariants.{Empty, Memory, Torn}
 use Rattle.refusalslanguage.proofs.Results.{if_ok}
 use Rattle.refusalslanguage.proofs.kept.torn_file_is_refused.Goals as goal
 

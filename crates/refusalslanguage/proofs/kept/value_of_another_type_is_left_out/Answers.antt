@@ -1,5 +1,5 @@
 use Rattle.std.proofs.Common.{◌≡◌, ◌∙◌, [], ◌∷◌}
-use Rattle.keeping.specs.KeptPlans.{left_out_of}
+use Rattle.livekeep.specs.KeptPlans.{left_out_of}
 use Rattle.refusalslanguage.proofs.KeptVariables.{left_out}
 use Rattle.refusalslanguage.proofs.Results.{if_ok}
 use Rattle.refusalslanguage.proofs.kept.value_of_another_type_is_left_out.Goals as goal

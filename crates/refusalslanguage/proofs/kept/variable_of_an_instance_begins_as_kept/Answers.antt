@@ -1,7 +1,7 @@
 use Rattle.std.proofs.Common.{◌≡◌, ◌∙◌, List, [], ◌∷◌, ap, map, true}
 use Rattle.ilblocks.specs.Stores.{Lasting}
 use Rattle.iltypes.specs.declared.value.Value.TheVariants as values
-use Rattle.keeping.specs.KeptPlans.{task_firsts}
+use Rattle.livekeep.specs.KeptPlans.{task_firsts}
 use Rattle.refusalslanguage.proofs.KeptVariables.{own_slot}
 use Rattle.refusalslanguage.proofs.Results.{if_ok}
 use Rattle.refusalslanguage.proofs.kept.variable_of_an_instance_begins_as_kept.Goals as goal

@@ -1,7 +1,7 @@
 use Rattle.std.proofs.Common.{◌≡◌, ◌∙◌, [], ◌∷◌, ap, length, sym}
-use Rattle.keeping.specs.KeptFiles.{entry_of}
-use Rattle.keeping.specs.KeptStates.{entries_of}
-use Rattle.keeping.specs.KeptValues.{own_name}
+use Rattle.livekeep.specs.KeptFiles.{entry_of}
+use Rattle.livekeep.specs.KeptStates.{entries_of}
+use Rattle.livekeep.specs.KeptValues.{own_name}
 use Rattle.refusalslanguage.proofs.KeptVariables.{one_zip, own_kept}
 use Rattle.refusalslanguage.proofs.Results.{if_ok}
 use Rattle.refusalslanguage.proofs.kept.variable_of_an_instance_is_kept.Goals as goal

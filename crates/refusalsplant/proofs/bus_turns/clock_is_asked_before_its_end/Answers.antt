@@ -1,4 +1,4 @@
-use Rattle.turns.specs.Logs.{HasEnded}
+use Rattle.plantturns.specs.Logs.{HasEnded}
 use Rattle.refusalsplant.proofs.Turned.{ended}
 use Rattle.refusalsplant.proofs.bus_turns.clock_is_asked_before_its_end.Goals as goal
 

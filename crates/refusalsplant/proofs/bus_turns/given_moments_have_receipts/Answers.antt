@@ -1,6 +1,6 @@
 use Rattle.std.proofs.Common.{◌∙◌, ◌++◌, List, ℕ, ap}
 use Rattle.plantevents.specs.Parts.{shown_given}
-use Rattle.receipts.specs.Receipts.{whole}
+use Rattle.plantreceipts.specs.Receipts.{whole}
 use Rattle.refusalsplant.proofs.bus_turns.given_moments_have_receipts.Goals as goal
 
 pub returns : goal.returns

@@ -1,6 +1,6 @@
 use Rattle.std.proofs.Common.{◌∙◌, ◌++◌, List, ℕ, ap}
 use Rattle.plantevents.specs.Parts.{shown_heard}
-use Rattle.receipts.specs.Receipts.{whole}
+use Rattle.plantreceipts.specs.Receipts.{whole}
 use Rattle.refusalsplant.proofs.bus_turns.heard_frames_have_receipts.Goals as goal
 
 pub returns : goal.returns

@@ -4,9 +4,9 @@ use Rattle.ilmachine.specs.Scans.{Scan}
 use Rattle.plantevents.specs.declared.event.Event.{Event}
 use Rattle.plantevents.specs.declared.event.Event.TheVariants.{Commit, Hand}
 use Rattle.plantevents.specs.declared.event.Origin.{Origin}
-use Rattle.driving.specs.Driven.{IsHeardFirst}
-use Rattle.driving.specs.Order.{with_events}
-use Rattle.driving.specs.Quiet.{HasNoScan}
+use Rattle.plantdriving.specs.Driven.{IsHeardFirst}
+use Rattle.plantdriving.specs.Order.{with_events}
+use Rattle.plantdriving.specs.Quiet.{HasNoScan}
 use Rattle.refusalsplant.proofs.Results.{on_ok}
 use Rattle.refusalsplant.proofs.SentInTurn.{no_task_ready_then}
 use Rattle.refusalsplant.proofs.links.all_ready_tasks_are_scanned.Goals as goal

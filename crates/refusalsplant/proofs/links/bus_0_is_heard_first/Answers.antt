@@ -1,7 +1,7 @@
 use Rattle.std.proofs.Common.{◌≡◌, ◌<◌, ◌++◌, ◌∷◌, List, Result, Ok, Err, OnOk, length, map, arith}
 use Rattle.std.proofs.lemmas.List.{length-map}
 use Rattle.plantevents.specs.declared.event.Event.{Event}
-use Rattle.driving.specs.Driven.{IsHeardFirst}
+use Rattle.plantdriving.specs.Driven.{IsHeardFirst}
 use Rattle.refusalsplant.specs.Hearings.{IsOfHearing}
 use Rattle.refusalsplant.proofs.HeardFirst.{heard_first}
 use Rattle.refusalsplant.proofs.Results.{on_ok}

@@ -3,7 +3,7 @@ use Rattle.gearcmd.specs.FrameLists.{FrameList}
 use Rattle.plantevents.specs.declared.event.Event.{Event}
 use Rattle.plantevents.specs.declared.event.Event.TheVariants.{Hand}
 use Rattle.plantevents.specs.declared.event.Origin.{Origin}
-use Rattle.driving.specs.Driven.{IsHeardFirst}
+use Rattle.plantdriving.specs.Driven.{IsHeardFirst}
 use Rattle.refusalsplant.proofs.Results.{on_ok}
 use Rattle.refusalsplant.proofs.SentInTurn.{nothing_waits_below}
 use Rattle.refusalsplant.proofs.links.bus_0_sends_before_bus_1.Goals as goal

@@ -1,6 +1,6 @@
 use Rattle.std.proofs.Common.{◌∙◌, ◌<◌, map, sym, subst}
 use Rattle.plantevents.specs.Plants.{Plant}
-use Rattle.driving.specs.Links.{log_of}
+use Rattle.plantdriving.specs.Links.{log_of}
 use Rattle.refusalsplant.proofs.Driven.{silent_if_up}
 use Rattle.refusalsplant.proofs.links.bus_is_heard_to_its_end.Goals as goal
 

@@ -4,9 +4,9 @@ use Rattle.transact.specs.Attempts.{ReportParts}
 use Rattle.plantevents.specs.declared.event.Event.{Event}
 use Rattle.plantevents.specs.declared.event.Event.TheVariants.{Done, Hand}
 use Rattle.plantevents.specs.declared.event.Origin.{Origin}
-use Rattle.driving.specs.Driven.{IsHeardFirst}
-use Rattle.driving.specs.Order.{with_events}
-use Rattle.driving.specs.Quiet.{HasNoHandout}
+use Rattle.plantdriving.specs.Driven.{IsHeardFirst}
+use Rattle.plantdriving.specs.Order.{with_events}
+use Rattle.plantdriving.specs.Quiet.{HasNoHandout}
 use Rattle.refusalsplant.proofs.Results.{on_ok}
 use Rattle.refusalsplant.proofs.SentInTurn.{nothing_waits_then}
 use Rattle.refusalsplant.proofs.links.bus_sends_all_that_waits.Goals as goal

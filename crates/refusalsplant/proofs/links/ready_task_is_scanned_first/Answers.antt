@@ -3,7 +3,7 @@ use Rattle.gearcmd.specs.FrameLists.{FrameList}
 use Rattle.plantevents.specs.declared.event.Event.{Event}
 use Rattle.plantevents.specs.declared.event.Event.TheVariants.{Hand}
 use Rattle.plantevents.specs.declared.event.Origin.{Origin}
-use Rattle.driving.specs.Driven.{IsHeardFirst}
+use Rattle.plantdriving.specs.Driven.{IsHeardFirst}
 use Rattle.refusalsplant.proofs.Results.{on_ok}
 use Rattle.refusalsplant.proofs.SentInTurn.{no_task_ready}
 use Rattle.refusalsplant.proofs.links.ready_task_is_scanned_first.Goals as goal

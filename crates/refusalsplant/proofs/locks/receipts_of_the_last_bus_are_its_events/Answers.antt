@@ -1,5 +1,5 @@
 use Rattle.std.proofs.Common.{◌∙◌, List, slice_get, ap}
-use Rattle.receipts.specs.Receipts.{ShareParts}
+use Rattle.plantreceipts.specs.Receipts.{ShareParts}
 use Rattle.refusalsplant.proofs.locks.receipts_of_the_last_bus_are_its_events.Goals as goal
 
 pub returns : goal.returns

@@ -2,8 +2,8 @@ use Rattle.std.proofs.Common.{◌≡◌, ◌∙◌, ℕ, ◌-◌, List, Option, 
 use Rattle.std.specs.Sync.OnceLock.{Named}
 use Rattle.std.specs.declared.sync.OnceToken.{OnceToken}
 use Rattle.plantevents.specs.Parts.{Placed}
-use Rattle.receipts.specs.declared.receipt.NotedPart.{NotedPart}
-use Rattle.receipts.specs.Tokens.{Held, id_at}
+use Rattle.plantreceipts.specs.declared.receipt.NotedPart.{NotedPart}
+use Rattle.plantreceipts.specs.Tokens.{Held, id_at}
 use Rattle.refusalsplant.proofs.shares.first_event_is_filed_in_the_first_cell.Goals as goal
 
 in_first : (base : ℕ) (cells : List Named) (token : Option (OnceToken NotedPart)) (receipts : List Placed) → base ≡ 5

@@ -1,6 +1,6 @@
 use Rattle.std.proofs.Common.{◌≡◌, ℕ, ◌+◌, List, [], ◌∷◌, Some, slice_get, ap, arith}
 use Rattle.plantevents.specs.Parts.{Placed}
-use Rattle.receipts.specs.Receipts.{reach_of}
+use Rattle.plantreceipts.specs.Receipts.{reach_of}
 use Rattle.refusalsplant.proofs.shares.newest_receipt_has_its_own_place.Goals as goal
 
 reached : (receipts : List Placed) (newest : Placed) → slice_get receipts 0 ≡ Some newest

@@ -1,5 +1,5 @@
 use Rattle.std.proofs.Common.{◌≢◌, [], ◌∷◌, ap, arith}
-use Rattle.receipts.specs.Receipts.{reach_of}
+use Rattle.plantreceipts.specs.Receipts.{reach_of}
 use Rattle.refusalsplant.proofs.shares.tick_is_filed_at_its_place.Goals as goal
 
 pub last_place-requires : goal.last_place-requires

@@ -1,9 +1,9 @@
 use Rattle.std.proofs.Common.{◌∙◌, map, subst, sym}
 use Rattle.plantevents.specs.Legal.{AreLegal}
-use Rattle.receipts.specs.Each.{Each}
-use Rattle.receipts.specs.Receipts.{HasPart, HaveParts}
-use Rattle.driving.specs.Links.{IsLinked}
-use Rattle.driving.specs.Links.{IsNoLess, log_of}
+use Rattle.plantreceipts.specs.Each.{Each}
+use Rattle.plantreceipts.specs.Receipts.{HasPart, HaveParts}
+use Rattle.plantdriving.specs.Links.{IsLinked}
+use Rattle.plantdriving.specs.Links.{IsNoLess, log_of}
 use Rattle.workers.proofs.Told.{all_linked, all_no_less, nothing_open, timed}
 use Rattle.workers.proofs.closing.close.Goals as goal
 

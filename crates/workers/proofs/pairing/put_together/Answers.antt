@@ -1,10 +1,10 @@
 use Rattle.std.proofs.Common.{◌≡◌, ◌+◌, ◌<◌, ◌∙◌, length, arith, refl, subst, sym, ap}
 use Rattle.plantevents.specs.declared.role.Role.TheVariants.{Bus}
-use Rattle.receipts.specs.Each.{Each}
-use Rattle.receipts.specs.Receipts.{ShareParts, IsFresh}
-use Rattle.receipts.proofs.Eaching.{each_first, each_rest, each_push, each_none}
-use Rattle.driving.specs.Links.{log_of}
-use Rattle.turns.specs.Logs.{IsServed}
+use Rattle.plantreceipts.specs.Each.{Each}
+use Rattle.plantreceipts.specs.Receipts.{ShareParts, IsFresh}
+use Rattle.plantreceipts.proofs.Eaching.{each_first, each_rest, each_push, each_none}
+use Rattle.plantdriving.specs.Links.{log_of}
+use Rattle.plantturns.specs.Logs.{IsServed}
 use Rattle.workers.specs.LinkedShares.{AreServed}
 use Rattle.workers.proofs.pairing.put_together.Goals as goal
 

@@ -1,6 +1,6 @@
-use Rattle.driving.specs.Links.{log_of}
-use Rattle.turns.specs.Handouts.{AreFollowed}
-use Rattle.turns.specs.Logs.{IsServed}
+use Rattle.plantdriving.specs.Links.{log_of}
+use Rattle.plantturns.specs.Handouts.{AreFollowed}
+use Rattle.plantturns.specs.Logs.{IsServed}
 use Rattle.workers.proofs.serving.serve_bus.Given as goal
 
 abbrev pub invariant-loop : goal.invariant-loop

@@ -1,4 +1,4 @@
-use Rattle.turns.specs.Logs.{IsTimed}
+use Rattle.plantturns.specs.Logs.{IsTimed}
 use Rattle.workers.proofs.serving.serve_clock.Given as goal
 
 abbrev pub invariant-loop : goal.invariant-loop

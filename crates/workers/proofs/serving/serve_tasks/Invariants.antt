@@ -1,4 +1,4 @@
-use Rattle.turns.specs.Logs.{IsWorker}
+use Rattle.plantturns.specs.Logs.{IsWorker}
 use Rattle.workers.proofs.serving.serve_tasks.Given as goal
 
 abbrev pub invariant-loop : goal.invariant-loop

@@ -1,8 +1,8 @@
 use Rattle.std.proofs.Common.{◌≡◌, ◌+◌, ◌<◌, ◌∙◌, length, arith, subst, sym}
-use Rattle.receipts.specs.Each.{Each}
-use Rattle.receipts.proofs.Eaching.{each_first, each_rest, each_push}
-use Rattle.driving.specs.Links.{log_of}
-use Rattle.turns.specs.Logs.{IsServed}
+use Rattle.plantreceipts.specs.Each.{Each}
+use Rattle.plantreceipts.proofs.Eaching.{each_first, each_rest, each_push}
+use Rattle.plantdriving.specs.Links.{log_of}
+use Rattle.plantturns.specs.Logs.{IsServed}
 use Rattle.workers.specs.Started.{IsStartedBus}
 use Rattle.workers.specs.LinkedShares.{AreServed}
 use Rattle.workers.proofs.worker_threads.finish_buses.Goals as goal

@@ -1,8 +1,8 @@
 use Rattle.std.proofs.Common.{◌≡◌, ◌+◌, ◌<◌, ◌∙◌, length, arith, subst, sym}
-use Rattle.receipts.proofs.Eaching.{each_first, each_rest, each_push}
+use Rattle.plantreceipts.proofs.Eaching.{each_first, each_rest, each_push}
 use Rattle.workers.specs.WorkerThreads.{AreStartedBuses}
-use Rattle.driving.specs.Links.{log_of}
-use Rattle.turns.specs.Logs.{IsServed}
+use Rattle.plantdriving.specs.Links.{log_of}
+use Rattle.plantturns.specs.Logs.{IsServed}
 use Rattle.workers.specs.Started.{IsStartedBus}
 use Rattle.workers.specs.LinkedShares.{AreServed}
 use Rattle.workers.proofs.worker_threads.start_buses.Goals as goal

@@ -1,7 +1,7 @@
 use Rattle.std.proofs.Common.{◌≡◌, ◌+◌, ◌<◌, ◌∙◌, length, arith, subst, sym}
-use Rattle.receipts.proofs.Eaching.{each_first, each_rest, each_push}
+use Rattle.plantreceipts.proofs.Eaching.{each_first, each_rest, each_push}
 use Rattle.workers.specs.WorkerThreads.{AreStartedScans}
-use Rattle.turns.specs.Logs.{IsWorker}
+use Rattle.plantturns.specs.Logs.{IsWorker}
 use Rattle.workers.specs.Started.{IsStartedScans}
 use Rattle.workers.specs.LinkedShares.{AreWorkers}
 use Rattle.workers.proofs.worker_threads.start_workers.Goals as goal

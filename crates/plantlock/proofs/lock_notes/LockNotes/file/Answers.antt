@@ -1,7 +1,7 @@
 use Rattle.std.proofs.Common.{◌≡◌, ◌<◌, List, ◌++◌, None, length, get_or, refl, sym, ap, ◌∙◌, arith}
 use Rattle.plantevents.specs.Parts.{Placed, part}
 use Rattle.plant.specs.Shown.{is_reserved}
-use Rattle.receipts.specs.Receipts.{index_of}
+use Rattle.plantreceipts.specs.Receipts.{index_of}
 use Rattle.plantlock.proofs.Filing.{filed, said_at, get_or_any}
 use Rattle.plantlock.proofs.Fitting.{has_cell, place_of, not_later}
 use Rattle.plantlock.proofs.lock_notes.LockNotes.file.Goals as goal

@@ -1,6 +1,6 @@
 use Rattle.std.proofs.Common.{◌≡◌, refl, sym}
 use Rattle.plantevents.specs.declared.event.Event.TheVariants.{Commit}
-use Rattle.receipts.specs.Receipts.{whole}
+use Rattle.plantreceipts.specs.Receipts.{whole}
 use Rattle.plantlock.proofs.Ending.{scan_shown, scan_own, scan_open}
 use Rattle.plantlock.proofs.locked_plant.LockedPlant.commit.Goals as goal
 

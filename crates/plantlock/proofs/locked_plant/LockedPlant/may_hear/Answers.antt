@@ -2,7 +2,7 @@ use Rattle.std.proofs.Common.{ap, subst, arith}
 use Rattle.plantevents.specs.Plants.{Plant}
 use Rattle.plantevents.specs.declared.role.Role.{Role}
 use Rattle.plantevents.specs.declared.role.Role.TheVariants.{Bus}
-use Rattle.receipts.specs.Receipts.{IsRole}
+use Rattle.plantreceipts.specs.Receipts.{IsRole}
 use Rattle.plantlock.specs.Tied.{HasPlace}
 use Rattle.plantlock.proofs.Refusing.{error_as, bus_known, heard_up, unheard}
 use Rattle.plantlock.proofs.locked_plant.LockedPlant.may_hear.Goals as goal

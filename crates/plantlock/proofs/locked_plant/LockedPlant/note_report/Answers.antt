@@ -1,7 +1,7 @@
 use Rattle.std.proofs.Common.{◌≡◌, ◌∙◌, refl, ap, sym}
 use Rattle.transact.specs.Attempts.{ReportParts}
 use Rattle.plantevents.specs.Plants.{Plant, tries_of}
-use Rattle.receipts.specs.Receipts.{whole}
+use Rattle.plantreceipts.specs.Receipts.{whole}
 use Rattle.plantlock.proofs.Ending.{hand_shown, transaction_open}
 use Rattle.plantlock.proofs.Refusing.{bus_known}
 use Rattle.plantlock.proofs.locked_plant.LockedPlant.note_report.Goals as goal

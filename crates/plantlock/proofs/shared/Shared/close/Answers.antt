@@ -1,7 +1,7 @@
 use Rattle.std.proofs.Common.{◌≡◌, ◌∙◌, List, sym, subst}
 use Rattle.plant.specs.Shown.{Shown}
-use Rattle.receipts.specs.Each.{Each}
-use Rattle.receipts.specs.Receipts.{ShareParts}
+use Rattle.plantreceipts.specs.Each.{Each}
+use Rattle.plantreceipts.specs.Receipts.{ShareParts}
 use Rattle.plantlock.specs.Tied.{IsMet}
 use Rattle.plantlock.proofs.Since.{have_parts, has_receipts, have_receipts}
 use Rattle.plantlock.proofs.shared.Shared.close.Goals as goal

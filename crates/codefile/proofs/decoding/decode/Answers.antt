@@ -1,6 +1,0 @@
-use Rattle.codefile.proofs.FirstFaults.{no_fault}
-use Rattle.codefile.proofs.decoding.decode.Goals as goal
-
-pub returns-in-Err-clause-only : goal.returns-in-Err-clause-only
-returns-in-Err-clause-only c =
-    λ code is. no_fault c.args.bytes.now c.in-Err.cause c.in-Err.ensures.err (code, is)

@@ -1,8 +1,0 @@
-use Rattle.std.proofs.Common.{◌≡◌, ◌++◌, drop}
-use Rattle.codefile.specs.Files.{words}
-use Rattle.codefile.proofs.encoding.push_words.Given as goal
-
--- the bytes so far, and those of what is left
-abbrev pub invariant-loop-word : goal.invariant-loop-word
-invariant-loop-word l =
-    l.bytes.items ++ words (drop l.word-index l.given) ≡ l.initial.bytes.items ++ words l.given

@@ -1,7 +1,0 @@
-use Rattle.codefile.proofs.FirstFaults.{no_fault, one_fault}
-use Rattle.codefile.proofs.OneCode.{one_code}
-use Rattle.codefile.proofs.laws.a_file_has_one_code.Goals as goal
-
-pub returns : goal.returns
-returns c =
-    record { one = one_code; no_fault = λ bytes cause is first. no_fault bytes cause first is; one_fault = one_fault }

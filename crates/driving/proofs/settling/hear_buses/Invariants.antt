@@ -1,7 +1,0 @@
-use Rattle.std.proofs.Common.{map}
-use Rattle.driving.specs.TurnSteps.{HaveHeard}
-use Rattle.driving.proofs.settling.hear_buses.Given as goal
-
-abbrev pub invariant-loop-bus : goal.invariant-loop-bus
-invariant-loop-bus g l =
-    HaveHeard l.fn.plant l.plant (map g.B.Bus.log l.fn.lines.items) (map g.B.Bus.log l.lines.items) l.bus

@@ -1,0 +1,207 @@
+//! Why a line is bad, where its words alone say it.
+
+use crate::forms::{Field, Form, Part, fields_behind, form_of, parts_of};
+use crate::reason::{Meant, Reason};
+use explaincures::is_near;
+use limits::{MOST_BUSES, MOST_SOURCES};
+use wordlines::{hex_of, number_of, parts_around_dot};
+
+/// What stands between the words of a list.
+const SIGNS: [char; 3] = [',', ' ', '\n'];
+
+/// Why the words of a line are bad by themselves: their blanks, the first one, or what follows it.
+/// Else the form of the line.
+pub(crate) fn bad_words(line: &[u8], forms: &'static [Form]) -> Result<&'static Form, Reason> {
+    if let [0xef, 0xbb, 0xbf, ..] = line {
+        let cure = "save the file without one: as ASCII, or as UTF-8 without a mark";
+        let reason = Reason::of("a byte order mark", cure);
+        return Err(reason.at(0, 3).meaning(Meant::With("")));
+    }
+    if let Some(reason) = bad_blanks(line) {
+        return Err(reason);
+    }
+    let word = first_word(line);
+    let Some(form) = form_of(forms, word) else {
+        return Err(unknown(word, forms));
+    };
+    match bad_fields(line, form) {
+        Some(reason) => Err(reason),
+        None => Ok(form),
+    }
+}
+
+/// The first word of a line.
+pub(crate) fn first_word(line: &[u8]) -> &[u8] {
+    match line.split(|byte| *byte == b' ').next() {
+        Some(word) => word,
+        None => line,
+    }
+}
+
+/// Why the blanks of a line are bad.
+fn bad_blanks(line: &[u8]) -> Option<Reason> {
+    let tab = line.iter().position(|byte| *byte == b'\t');
+    let (what, at) = match (tab, empty_word(line)) {
+        (Some(at), _) => ("a tab", at),
+        (None, Some(0)) => ("a blank at the front of the line", 0),
+        (None, Some(at)) if at >= line.len() => ("a blank at the end of the line", at),
+        (None, Some(at)) => ("two blanks", at),
+        (None, None) => return None,
+    };
+    let at = at.min(line.len().saturating_sub(1));
+    let cure = "write one blank between two words, and none elsewhere";
+    Some(Reason::of(what, cure).at(at, at).meaning(Meant::Spaced))
+}
+
+/// Where the first empty word stands.
+fn empty_word(line: &[u8]) -> Option<usize> {
+    let mut at: usize = 0;
+    for word in line.split(|byte| *byte == b' ') {
+        if word.is_empty() {
+            return Some(at);
+        }
+        at = at.saturating_add(word.len()).saturating_add(1);
+    }
+    None
+}
+
+/// Why a first word is none: with the one that is meant, which is near, or differs in letter case.
+fn unknown(word: &[u8], forms: &'static [Form]) -> Reason {
+    let meant = forms.iter().find(|form| {
+        let other = form.0.as_bytes();
+        word.eq_ignore_ascii_case(other) || is_near(word, other)
+    });
+    let is_large = word.iter().any(|byte| byte.is_ascii_uppercase());
+    let what = if meant.is_some() && is_large {
+        "{word} is not in small letters"
+    } else {
+        "no line begins with {word}"
+    };
+    let reason = Reason::of(what, "lines begin with {words}, or # for a comment");
+    let reason = reason.at(0, word.len());
+    match meant {
+        Some(form) => reason.meaning(Meant::With(form.0)),
+        None => reason,
+    }
+}
+
+/// Why the words behind the first are bad: one is not what it has to be, is too much, or is
+/// missing.
+fn bad_fields(line: &[u8], form: &Form) -> Option<Reason> {
+    let mut fields = form.1;
+    let mut parts = parts_of(form);
+    let mut from = form.0.len().saturating_add(1);
+    for word in line.split(|byte| *byte == b' ').skip(1) {
+        let to = from.saturating_add(word.len());
+        match fields {
+            [field, ..] if !is_met(*field, word) => {
+                return Some(wanted(*field, unmet(*field, word)).at(from, to));
+            }
+            [Field::OneOf(..), ..] => fields = fields_behind(word),
+            [_, rest @ ..] => fields = rest,
+            [] => match part_at(parts, word) {
+                Some((part, rest)) => (fields, parts) = (part.1, rest),
+                None => {
+                    let cure = left_out(form, word);
+                    return Some(Reason::of("{word} is a word too many", cure).at(from, to));
+                }
+            },
+        }
+        from = to.saturating_add(1);
+    }
+    let end = line.len();
+    Some(wanted(*fields.first()?, "the {name} is missing").at(end, end))
+}
+
+/// The part that a word begins, with those that may stand behind it.
+fn part_at(parts: &'static [Part], word: &[u8]) -> Option<(&'static Part, &'static [Part])> {
+    let at = parts.iter().position(|part| part.0.as_bytes() == word)?;
+    let (_, left) = parts.split_at(at.min(parts.len()));
+    let [part, rest @ ..] = left else {
+        return None;
+    };
+    Some((part, if part.2 { left } else { rest }))
+}
+
+/// What is said of a word that is not as its field says.
+fn unmet(field: Field, word: &[u8]) -> &'static str {
+    match field {
+        Field::Number(_, _, most) if number_of(word, u64::MAX).is_some() => {
+            if most == u64::MAX {
+                "the {name} is {word}, and not {0} or more"
+            } else {
+                "the {name} is {word}, and not {0} to {1}"
+            }
+        }
+        Field::Number(..) => "{word} is no number",
+        Field::OneOf(_, list)
+            if list
+                .split(SIGNS)
+                .any(|one| one.as_bytes().eq_ignore_ascii_case(word)) => {
+            "{word} is not in small letters"
+        }
+        _ => "{word} is no {name}",
+    }
+}
+
+/// What helps where a number, a place or a frame is wanted.
+const UPWARD: &str = "the {name} is a number of decimal digits alone, {0} or more";
+
+const WITHIN: &str = "the {name} is {0} to {1}, in decimal digits alone";
+
+const PLACE: &str = "a place is the number of a bus, a dot and a number of 0 to 63, in one word";
+
+const FRAME: &str = "a frame is six hexadecimal digits, such as 048402";
+
+/// A reason of a field, with what the field may be.
+fn wanted(field: Field, what: &'static str) -> Reason {
+    let (name, list, cure) = match field {
+        Field::Number(name, _, u64::MAX) => (name, "", UPWARD),
+        Field::Number(name, ..) => (name, "", WITHIN),
+        Field::OneOf(name, list) => (name, list, "the {name} is {list}"),
+        Field::Place => ("place", "", PLACE),
+        Field::Frame => ("frame", "", FRAME),
+    };
+    let numbers = match field {
+        Field::Number(_, least, most) => [least, most, 0, 0],
+        _ => [0; 4],
+    };
+    let reason = Reason::of(what, cure).with(numbers);
+    Reason {
+        name,
+        list,
+        ..reason
+    }
+}
+
+/// Whether a word is as its field says.
+fn is_met(field: Field, word: &[u8]) -> bool {
+    match field {
+        Field::Number(_, least, most) => number_of(word, most).is_some_and(|one| one >= least),
+        Field::Place => is_place(word),
+        Field::OneOf(_, list) => list.split(SIGNS).any(|one| one.as_bytes() == word),
+        Field::Frame => hex_of(word).is_some(),
+    }
+}
+
+/// Whether a word is `B.K`.
+fn is_place(word: &[u8]) -> bool {
+    match parts_around_dot(word) {
+        Some((bus, number)) => {
+            number_of(bus, u64::from(MOST_BUSES - 1)).is_some()
+                && number_of(number, u64::from(MOST_SOURCES - 1)).is_some()
+        }
+        None => false,
+    }
+}
+
+/// What helps where a word is one too many.
+fn left_out(form: &Form, word: &[u8]) -> &'static str {
+    if word.starts_with(b"#") {
+        "give a comment a line of its own"
+    } else if parts_of(form).iter().any(|part| part.0.as_bytes() == word) {
+        "give the level once, then the groups, and then the scenes"
+    } else {
+        "leave out what stands here, or give it a line of its own"
+    }
+}

@@ -1,0 +1,112 @@
+//! The faults of names of a text besides the one that is explained.
+
+use crate::name_answers::what_of;
+use crate::standing::FaultPlace;
+use crate::told::Told;
+use explaincures::{AskedText, place_of};
+use ilscope::{Found, NameCause, NameFault, Scope, report_of};
+use ilsyms::next_fault;
+use iltext::parse;
+use std::alloc::{AllocError, Global};
+
+/// How many faults are named at most.
+const MOST_NAMED: usize = 20;
+
+/// How many bytes of texts are gone over at most to count the faults that are not named: each of
+/// them takes a pass over the text.
+const MOST_READ: usize = 1_048_576;
+
+/// The faults of names of a text besides the one that is explained.
+#[derive(Drop)]
+pub struct OtherFaults {
+    /// The first of them, in the order of the text.
+    pub named: Vec<NamedFault>,
+    /// How many more were found.
+    pub more: usize,
+    /// Whether the text has others that were not looked at.
+    pub is_cut: bool,
+}
+
+/// A fault of names with its place, of which line and column count from 1.
+#[derive(Drop)]
+pub struct NamedFault {
+    pub line: usize,
+    pub col: usize,
+    pub cause: NameCause,
+    /// What is wrong.
+    pub what: String,
+}
+
+impl OtherFaults {
+    /// Those of a text behind the fault at this place.
+    ///
+    /// # Errors
+    ///
+    /// The allocator is out of memory.
+    pub fn of(
+        alloc: Global,
+        asked: &AskedText,
+        line: usize,
+        col: usize,
+        cause: NameCause,
+    ) -> Result<OtherFaults, AllocError> {
+        // The text was parsed before, so that memory alone is refused here.
+        let Ok(source) = parse(alloc, asked.text) else {
+            return Err(AllocError);
+        };
+        let scope = Scope::of(alloc, &source, asked.binding)?;
+        let at = place_of(asked.text, line, col);
+        OtherFaults::behind(alloc, asked, &scope, Found { at, cause })
+    }
+
+    /// Those of a text behind this fault.
+    fn behind(
+        alloc: Global,
+        asked: &AskedText,
+        scope: &Scope,
+        first: Found,
+    ) -> Result<OtherFaults, AllocError> {
+        let mut all = OtherFaults {
+            named: Vec::new(alloc),
+            more: 0,
+            is_cut: false,
+        };
+        let mut told = Told::of(&FaultPlace::of(alloc, asked, scope, first.at)?, first);
+        let mut next = next_fault(alloc, scope, Some(first))?;
+        for _ in 0..most_found(asked.text) {
+            let Some(found) = next else {
+                return Ok(all);
+            };
+            let place = FaultPlace::of(alloc, asked, scope, found.at)?;
+            if told.add(&place, found) {
+                all.add(&place, found)?;
+            }
+            next = next_fault(alloc, scope, Some(found))?;
+        }
+        all.is_cut = next.is_some();
+        Ok(all)
+    }
+
+    /// One more: named where there is room.
+    fn add(&mut self, place: &FaultPlace, found: Found) -> Result<(), AllocError> {
+        if self.named.len() >= MOST_NAMED {
+            self.more = self.more.saturating_add(1);
+            return Ok(());
+        }
+        if let NameFault::At { line, col, cause } = report_of(place.asked.text, found) {
+            let what = what_of(place, cause)?;
+            self.named.push(NamedFault {
+                line,
+                col,
+                cause,
+                what,
+            })?;
+        }
+        Ok(())
+    }
+}
+
+/// How many faults of a text are looked at.
+fn most_found(text: &[u8]) -> usize {
+    (MOST_READ / text.len().max(1)).max(MOST_NAMED)
+}

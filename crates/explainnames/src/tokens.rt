@@ -1,0 +1,124 @@
+//! Where words stand in a text, one after another.
+
+use explaincures::Spot;
+use iltokens::{Delimiter, Keyword, Lexed, What, token};
+
+/// A token of the bytes `from..to` of a text.
+#[derive(Clone, Copy)]
+pub(crate) struct Token {
+    pub what: What,
+    pub from: usize,
+    pub to: usize,
+}
+
+/// What a name or an address is where it stands.
+#[derive(Clone, Copy)]
+pub(crate) enum Role {
+    /// It is declared.
+    Given,
+    Label,
+    /// An instruction stores to it.
+    Stored,
+}
+
+/// The next token from a place on, if there is one.
+pub(crate) fn token_at(text: &[u8], at: usize) -> Option<Token> {
+    if at > text.len() {
+        return None;
+    }
+    match token(text, at) {
+        Lexed::Token { what, from, to } => Some(Token { what, from, to }),
+        _ => None,
+    }
+}
+
+/// What the next token from a place on is.
+pub(crate) fn what_at(text: &[u8], at: usize) -> Option<What> {
+    Some(token_at(text, at)?.what)
+}
+
+/// Where the name or the address that was found has a role first, from a place on and before the
+/// one at fault.
+pub(crate) fn same_before(spot: &Spot, start: usize, role: Role) -> Option<usize> {
+    let from = next_same(spot, start, role)?.from;
+    if from < spot.at { Some(from) } else { None }
+}
+
+/// The name or the address that was found, where it stands next with a role.
+pub(crate) fn next_same(spot: &Spot, start: usize, role: Role) -> Option<Token> {
+    let mut before: Option<What> = None;
+    let mut at = start;
+    for _ in 0..spot.text.len() {
+        let found = token_at(spot.text, at)?;
+        at = found.to;
+        if is_same(spot, found) && has_role(role, before, what_at(spot.text, at)) {
+            return Some(found);
+        }
+        before = Some(found.what);
+    }
+    None
+}
+
+/// Whether a token is the name or the address that was found.
+fn is_same(spot: &Spot, found: Token) -> bool {
+    match found.what {
+        What::Name => spot
+            .part(found.from, found.to)
+            .eq_ignore_ascii_case(spot.token()),
+        What::Address { .. } => what_at(spot.text, spot.at) == Some(found.what),
+        _ => false,
+    }
+}
+
+/// Whether what stands between these two tokens has a role.
+fn has_role(role: Role, before: Option<What>, behind: Option<What>) -> bool {
+    let before = word_of(before);
+    match (role, behind) {
+        (Role::Label, behind) => behind == Some(What::Delimiter(Delimiter::Colon)),
+        (Role::Stored, _) => matches!(
+            before,
+            Some(Keyword::St | Keyword::Stn | Keyword::S | Keyword::R)
+        ),
+        (Role::Given, Some(What::Delimiter(Delimiter::Colon | Delimiter::Comma)))
+        | (Role::Given, Some(What::Delimiter(Delimiter::Assign)))
+        | (Role::Given, Some(What::Keyword(Keyword::At | Keyword::With))) => true,
+        (Role::Given, _) => matches!(
+            before,
+            Some(Keyword::Program | Keyword::Function | Keyword::Task | Keyword::At)
+        ),
+    }
+}
+
+/// The reserved word that a token is.
+fn word_of(what: Option<What>) -> Option<Keyword> {
+    match what {
+        Some(What::Keyword(word)) => Some(word),
+        _ => None,
+    }
+}
+
+/// Where the type stands that is declared behind a place: between the colon and what ends it.
+pub(crate) fn type_behind(text: &[u8], place: usize) -> (usize, usize) {
+    let mut from: Option<usize> = None;
+    let mut last = place;
+    let mut at = place;
+    for _ in 0..text.len() {
+        let Some(found) = token_at(text, at) else {
+            return (last, last);
+        };
+        at = found.to;
+        match (found.what, from) {
+            (What::Delimiter(Delimiter::Semicolon | Delimiter::Assign), Some(from)) => {
+                return (from, last);
+            }
+            (What::Delimiter(Delimiter::Colon), None) => {
+                from = Some(match token_at(text, at) {
+                    Some(next) => next.from,
+                    None => at,
+                });
+            }
+            _ => last = found.to,
+        }
+    }
+    (last, last)
+}

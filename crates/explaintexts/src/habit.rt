@@ -1,0 +1,99 @@
+//! A row of what people write: where it stands, and how it is changed.
+
+use explaincures::Advice;
+
+/// Something that people write and the language does not have: what is said of it, and how it may
+/// be written.
+#[derive(Clone, Copy)]
+pub(crate) struct Habit {
+    pub row: Advice,
+    pub written: &'static [Written],
+}
+
+/// Which part of the text it is, where that stands, how it may be written in small letters, and how
+/// it is changed.
+pub(crate) type Written = (Part, Where, &'static [&'static str], Fix);
+
+/// Rows of habits: what is said, and behind `=>` which part it is, where that stands, how it is
+/// written, and how it is changed.
+macro_rules! habits {
+    ($($row:expr => $($part:ident $at:ident [$($text:literal),+]
+        $fix:ident $(($($with:literal),+))?),+;)+) => {
+        &[$(Habit {
+            row: $row,
+            written: &[$((Part::$part, Where::$at, &[$($text),+], Fix::$fix $(($($with),+))?)),+],
+        }),+]
+    };
+}
+
+pub(crate) use habits;
+
+/// Which part of a text something is that people write.
+#[derive(Clone, Copy)]
+pub(crate) enum Part {
+    Token, // what was found
+    Rest, // what was found begins with it
+    Before, // the word before it
+    Line, // the first word of the line
+    Block, // the word of other languages that begins the block of variables
+    Literal, // the number, time or address begins with it
+    Whole, // the number, time or address
+    Unit, // what stands behind the number
+    Second, // a comma, a name or a number where an instruction has its operand
+}
+
+/// Where something stands that people write.
+#[derive(Clone, Copy)]
+pub(crate) enum Where {
+    Anywhere,
+    InBody, // among instructions
+    InFunction,
+    InProgram,
+    Outside, // outside programs, functions and configurations
+    InGlobal,
+    InOther, // in another block of variables than VAR_GLOBAL
+    Names, // in VAR_GLOBAL, behind a name
+    Types, // where a variable begins
+    Qualifies, // where a name is declared
+    Lists, // behind a colon
+    Bounds, // behind a type of whole numbers
+    Opens, // behind the word LIMIT, MIN or MAX
+    Called, // behind a name
+    Invoked, // the same, with inputs behind it
+    Ends, // among instructions and not in a call
+    Takes, // before a name or a number, as an instruction
+    Opened, // before a parenthesis, first on its line
+    Leads, // first on its line
+    LeadsInBody, // the same, among instructions
+    Apart, // behind a blank
+    Prefix, // the same, right before a name
+    Plain, // with no `:=` behind it
+    Quotes, // around a name
+    Parts, // between two digits
+    Split, // before a word that begins something
+    Bit, // before a number
+    Unitless, // where it is no time
+    Dotted, // where it has a dot in it
+    Address, // where it is one
+    Absolute, // where it is one as Siemens' lists have it
+}
+
+/// How a text is changed to what is meant.
+#[derive(Clone, Copy)]
+pub(crate) enum Fix {
+    Nothing,
+    LeaveOut,
+    LeaveOutBefore, // the word before what was found
+    Replace(&'static str), // the first word of the line
+    Front(u8, &'static str), // so many characters at the number's front
+    Literal(&'static str), // the number
+    Block(&'static str), // the word that begins the block of variables
+    Comment, // the rest of the line becomes one
+    Untyped, // without what stands up to the `#`
+    Milliseconds, // in place of the part behind the dot
+    Bare, // without the parentheses
+    LoadAndStore, // in place of `a := b;`
+    Call, // with CAL before the instance
+    Unquoted,
+    Joined, // with the word before it
+}

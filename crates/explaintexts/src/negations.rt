@@ -1,0 +1,100 @@
+//! What is said of NOT, `!` or `~` before an operand: N behind the instruction's word says it.
+
+use crate::said::{Place, Said, Standing, advice};
+use explaincures::{Advice, Spot, Surroundings, content_len, is_one_of};
+
+const NEGATED: Advice = advice!("{0} before an operand";
+    "write N behind the instruction's word: LDN, STN, ANDN, ORN, XORN, JMPCN, CALCN\n\
+        or RETCN; for an input of a block, write LDN and ST before the call";
+    "LDN button\nST rest.IN\nCAL rest(PT := T#3m)");
+
+/// Words behind which an N says the same of the opposite.
+const TURNED: &[&str] = &["LD", "ST", "AND", "OR", "XOR", "JMPC", "CALC", "RETC"];
+
+/// What is said of a negation that was found before an operand: the same with N behind the word of
+/// the instruction, or with LDN and ST before a call of a block.
+pub(crate) fn negation(standing: &Standing) -> Option<Said> {
+    let spot = &standing.spot;
+    let around = &standing.around;
+    let to = match spot.rest() {
+        [b'!', b'=', ..] => return None,
+        [b'!' | b'~', ..] => spot.at.saturating_add(1),
+        _ if is_one_of(spot.token(), &["NOT"]) => spot.found_to(),
+        _ => return None,
+    };
+    let operand = operand_at(spot, to);
+    let (from, behind) = around.before;
+    let is_return = is_one_of(spot.part(from, behind), &["RETC"]);
+    let is_alone = content_len(spot.part(operand.0, spot.line_to)) == 0 && !is_return;
+    if spot.is_first() || is_alone {
+        return None;
+    }
+    let mut said = Said::of(NEGATED, operand);
+    if is_return {
+        let Advice { cure, line, .. } = NEGATED;
+        let what = "{0} behind RETC";
+        said.row = Advice { what, cure, line };
+    }
+    said.parts = [(spot.at, to), operand, operand, operand, operand];
+    Some(match around.parenthesis {
+        _ if operand.0 >= operand.1 && !is_return => said,
+        Some(open) if open >= spot.line_from && from == open => nested(said, spot, operand),
+        Some(open) if open >= spot.line_from => before_call(said, spot, (open, from), operand),
+        _ => with_letter(said, spot, around.before, operand),
+    })
+}
+
+/// Where the name or the value behind a place stands, up to a blank, a comma or a parenthesis.
+fn operand_at(spot: &Spot, from: usize) -> Place {
+    let (from, _) = spot.trimmed(from, spot.line_to);
+    (from, Spot::of(spot.text, from).literal().1)
+}
+
+/// With N behind the word of the instruction before the place, where it has such a form.
+fn with_letter(said: Said, spot: &Spot, (first, behind): Place, (operand, to): Place) -> Said {
+    if first < spot.line_from || !is_one_of(spot.part(first, behind), TURNED) {
+        return said;
+    }
+    said.put((behind, operand), if operand < to { "N " } else { "N" })
+}
+
+/// Within parentheses: with the operand, and NOT on a line of its own below.
+fn nested(said: Said, spot: &Spot, (from, to): Place) -> Said {
+    if content_len(spot.part(to, spot.line_to)) > 0 {
+        return said;
+    }
+    said.put((spot.at, to), "{1}\nNOT")
+}
+
+/// `CAL t(IN := NOT b, ..)` as `LDN b`, `ST t.IN` and the call without this input: what is open,
+/// and where `:=` stands.
+fn before_call(said: Said, spot: &Spot, (open, given): Place, (_, to): Place) -> Said {
+    let name = Surroundings::of(spot.text, open).before;
+    let call = Surroundings::of(spot.text, name.0).before;
+    let is_call = is_one_of(spot.part(call.0, call.1), &["CAL"]) && call.0 >= spot.line_from;
+    if !is_call || name.1 != open {
+        return said;
+    }
+    let port_to = content_len(spot.part(0, given));
+    let port = (Spot::of(spot.text, port_to).literal().0, port_to);
+    let (cut, cut_to) = argument(spot, open, port.0, to);
+    let lines = "LDN {1}\n{i}ST {2}.{3}\n{i}{4}";
+    let [sign, operand, ..] = said.parts;
+    let mut said = said.put((call.0, cut_to), lines);
+    said.parts = [sign, operand, name, port, (call.0, cut)];
+    said
+}
+
+/// Where an argument stands with the comma behind it, or else with that before it; the only one
+/// with the parentheses around it.
+fn argument(spot: &Spot, open: usize, from: usize, to: usize) -> Place {
+    let (behind, _) = spot.trimmed(to, spot.line_to);
+    let (next, _) = spot.trimmed(behind.saturating_add(1), spot.line_to);
+    let front = spot.part(0, from).trim_ascii_end();
+    match (front, spot.part(behind, spot.line_to)) {
+        (_, [b',', ..]) => (from, next),
+        ([before @ .., b','], _) => (before.len(), behind),
+        (_, [b')', ..]) => (open, behind.saturating_add(1)),
+        _ => (from, to),
+    }
+}

@@ -1,7 +1,0 @@
-use Rattle.std.proofs.Common.{◌≡◌, take, map}
-use Rattle.keeping.specs.KeptBlocks.{block_first}
-use Rattle.keeping.proofs.first_values.blocks_first.Given as goal
-
-abbrev pub invariant-loop-block : goal.invariant-loop-block
-invariant-loop-block l =
-    l.blocks.items ≡ map (block_first l.plan l.kept.values) (take l.block-index l.block-items)

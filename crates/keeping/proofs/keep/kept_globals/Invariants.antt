@@ -1,9 +1,0 @@
-use Rattle.std.proofs.Common.{◌≡◌}
-use Rattle.keeping.specs.KeptStates.{global_entries}
-use Rattle.keeping.proofs.KeptEntries.{kept_and_left}
-use Rattle.keeping.proofs.keep.kept_globals.Given as goal
-
-abbrev pub invariant-loop-global : goal.invariant-loop-global
-invariant-loop-global l =
-    kept_and_left l.fn.plan.text l.fn.plan.globals l.fn.values l.global l.kept.items
-    ≡ global_entries l.fn.plan.text l.fn.plan.globals l.fn.values

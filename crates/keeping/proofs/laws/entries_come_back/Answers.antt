@@ -1,5 +1,0 @@
-use Rattle.keeping.proofs.ComesBack.{entries_back}
-use Rattle.keeping.proofs.laws.entries_come_back.Goals as goal
-
-pub returns : goal.returns
-returns c = entries_back

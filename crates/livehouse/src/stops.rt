@@ -1,0 +1,50 @@
+//! Why a building does not run.
+
+use crate::lineup::LineupFault;
+use options::LineWord;
+use plant::StartFault;
+use std::alloc::AllocError;
+use std::fmt;
+
+/// Why a building does not run. Nothing was sent on any bus.
+#[derive(Clone, Copy)]
+pub enum LiveStop<'a> {
+    /// The words of `--line` are not the lines of the binding's buses.
+    Lineup(LineupFault),
+    /// This line is not opened, or its interface does not greet.
+    NotOpened(LineWord<'a>),
+    /// The machine's clock cannot be read.
+    NoClock,
+    /// The plant does not start, or the allocator is out of memory.
+    Start(StartFault),
+}
+
+impl fmt::Display for LiveStop<'_> {
+    fn fmt<W: fmt::Write>(&self, f: &mut fmt::Formatter<W>) -> fmt::Result {
+        match self {
+            LiveStop::Lineup(fault) => write!(f, "error: {fault}"),
+            LiveStop::NotOpened(LineWord { from, to: None, .. }) => write!(f, "cannot open {from}"),
+            LiveStop::NotOpened(
+                LineWord {
+                    from,
+                    to: Some(to),
+                    ..
+                },
+            ) => write!(f, "cannot open {from},{to}"),
+            LiveStop::NoClock => write!(f, "cannot read the clock"),
+            LiveStop::Start(fault) => write!(f, "{fault}"),
+        }
+    }
+}
+
+impl From<AllocError> for LiveStop<'_> {
+    ghost use Rattle.std.specs.Prelude.{◌≡◌};
+    ghost use Rattle.plant.specs.declared.start_fault.StartFault.TheVariants.{Memory};
+    ghost use Rattle.livehouse.specs.declared.stops.LiveStop.TheVariants.{Start};
+
+    ghost from_gives = { λ _ stop. stop ≡ Start Memory };
+
+    fn from(_refused: AllocError) -> Self {
+        LiveStop::Start(StartFault::Memory)
+    }
+}

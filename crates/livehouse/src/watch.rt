@@ -1,0 +1,113 @@
+//! What ends a building.
+
+ghost use Rattle.std.specs.Prelude.{◌≡◌};
+
+use liveclock::StopCondition;
+use plantturns::{Gate, Happened};
+use std::fs;
+use std::rt::Files;
+use std::sync::Arc;
+use std::sync::atomic::{AtomicBool, Ordering};
+
+/// Whether a bus went down at which the building is to end, and whether its clock came to its end.
+#[derive(Drop)]
+pub struct DownWatch {
+    /// Whether the building ends where a bus goes down.
+    pub ends: bool,
+    is_over: AtomicBool,
+    has_ended: AtomicBool,
+}
+
+impl DownWatch {
+    /// No bus went down yet.
+    pub fn new(ends: bool) -> DownWatch
+        ensures { result.ends ≡ ends }
+    {
+        DownWatch {
+            ends,
+            is_over: AtomicBool::new(false),
+            has_ended: AtomicBool::new(false),
+        }
+    }
+
+    /// A bus went down.
+    pub fn note_down(&self) {
+        if self.ends {
+            self.is_over.store(true, Ordering::Relaxed);
+        }
+    }
+
+    /// Whether a bus went down at which the building is to end.
+    pub fn is_over(&self) -> bool {
+        self.is_over.load(Ordering::Relaxed)
+    }
+}
+
+impl DownWatch {
+    /// The clock came to its end.
+    pub fn note_end(&self) {
+        self.has_ended.store(true, Ordering::Relaxed);
+    }
+
+    /// Whether the clock came to its end.
+    pub fn has_ended(&self) -> bool {
+        self.has_ended.load(Ordering::Relaxed)
+    }
+}
+
+/// Whoever tells a watch of each bus that went down, and another gate of each event.
+#[derive(Drop)]
+pub struct WatchedGate<'w, G: Gate> {
+    pub watch: &'w DownWatch,
+    pub gate: &'w G,
+}
+
+impl<G: Gate> Gate for WatchedGate<'_, G> {
+    fn before_scan(&self, worker: usize, task: usize) {
+        self.gate.before_scan(worker, task);
+    }
+
+    fn before_transaction(&self, bus: u8) {
+        self.gate.before_transaction(bus);
+    }
+
+    fn after(&self, place: u64, happened: Happened) {
+        if let Happened::WentDown { .. } = happened {
+            self.watch.note_down();
+        }
+        self.gate.after(place, happened);
+    }
+}
+
+/// When the clock of a building ends.
+#[derive(Drop)]
+pub struct End<'a> {
+    /// No moment after this one, in milliseconds.
+    pub until: u64,
+    /// As soon as there is a file at this path.
+    pub stop: Option<&'a str>,
+    /// As soon as a bus went down, if the building is to end then.
+    pub watch: Arc<DownWatch>,
+}
+
+/// The end is wanted where there is a file at this path, if there is a path, and where a bus went
+/// down at which the building is to end.
+#[derive(Drop)]
+pub struct StopAt<'r, R> {
+    pub rt: &'r R,
+    pub path: Option<String>,
+    pub watch: Arc<DownWatch>,
+}
+
+impl<R: Files> StopCondition for StopAt<'_, R> {
+    fn is_wanted(&self) -> bool {
+        match &self.path {
+            Some(path) if fs::exists(self.rt, path.as_str()).unwrap_or(false) => true,
+            _ => self.watch.is_over(),
+        }
+    }
+
+    fn note_end(&self) {
+        self.watch.note_end();
+    }
+}

@@ -1,0 +1,302 @@
+//! Buses behind a line.
+
+ghost use Rattle.std.specs.Prelude.{◌≡◌, ◌<◌, ◌≤◌, ◌++◌, ◌&&◌, IfOk, IsNone, IsOk, IsErr, OnOk, true};
+ghost use Rattle.std.specs.Prelude.{false, is_ok, IfSome};
+ghost use Rattle.buslink.specs.BusLog.{TellsAll, after_hear, after_mend, after_resume, after_send};
+ghost use Rattle.buslink.specs.BusLog.{with_sent, with_spare};
+ghost use Rattle.liveline.specs.Greetings.{ends};
+ghost use Rattle.liveline.specs.Lines.{IsMessage, IsReply, hear_line, line_end, send_line};
+ghost use Rattle.liveline.specs.Exchanges.{IsAtMost, IsExchange, IsSilent, fresh_log, silent_line};
+ghost use Rattle.liveline.specs.Exchanges.{with_line, without_line};
+
+use crate::answers::{message_in, reply_in};
+use crate::ends::{ask_to_hear, ask_to_send, read_line};
+use crate::greetings::Greeted;
+use crate::troubles::Trouble;
+use buslink::{Bus, Fault};
+use daliframe::{BusNumber, Frame, Frame24};
+use ghosts::Trace;
+use std::alloc::AllocError;
+use std::io::{Read, Write};
+use std::marker::Model;
+use transact::{Mark, Reply, Sent};
+
+/// A bus behind a line. Once a request was not answered as it should be, the bus says nothing more
+/// and fails, since a later line might answer that request, until it has a line that greeted. What
+/// was sent and heard has no bytes.
+#[derive(Drop)]
+pub struct LineBus<R: Read, W: Write> {
+    line: Option<Greeted<R, W>>,
+    is_in_step: bool,
+    /// Why the last request on the line came to nothing.
+    trouble: Trouble,
+    number: BusNumber,
+    sent: Trace<Sent>,
+    heard: Trace<Frame24>,
+    spare: usize,
+    failures: u64,
+    hears: u64,
+    heard_none: bool,
+    mends: u64,
+    is_mended: bool,
+}
+
+impl<R: Read, W: Write> Model for LineBus<R, W> {
+    ghost use Rattle.std.specs.Prelude.{None, reverse};
+    ghost use Rattle.liveline.specs.Exchanges.{LineState, unread_on, written_on};
+
+    ghost Value = { LineState };
+
+    ghost view = { λ b. record {
+      log = record {
+        number = b.number;
+        arrivals = None;
+        sent = reverse b.sent.items;
+        heard = reverse b.heard.items;
+        spare = b.spare;
+        failures = b.failures;
+        hears = b.hears;
+        heard_none = b.heard_none;
+        mends = b.mends;
+        is_mended = b.is_mended;
+      };
+      unread = unread_on b.line;
+      written = written_on b.line;
+      is_in_step = b.is_in_step;
+    } };
+}
+
+impl<R: Read + Drop, W: Write + Drop> LineBus<R, W> {
+    /// A bus whose line is not there yet. Each call fails, and says and reads nothing.
+    pub fn absent(number: BusNumber) -> LineBus<R, W>
+        ensures { result ≡ without_line (silent_line number None None) }
+    {
+        LineBus {
+            line: None,
+            is_in_step: false,
+            trouble: Trouble::Absent,
+            number,
+            sent: Trace::new(),
+            heard: Trace::new(),
+            spare: 0,
+            failures: 0,
+            hears: 0,
+            heard_none: false,
+            mends: 0,
+            is_mended: false,
+        }
+    }
+
+    /// A bus behind a line whose interface greeted. It has sent and heard nothing.
+    pub fn over(greeted: Greeted<R, W>, number: BusNumber) -> LineBus<R, W>
+        ensures { result ≡ silent_line number greeted.unread greeted.written }
+    {
+        let mut bus = LineBus::absent(number);
+        bus.begin(greeted);
+        bus
+    }
+
+    /// Gives the bus its line, whose interface greeted. What was sent and heard stays what it was.
+    pub fn begin(&mut self, greeted: Greeted<R, W>)
+        ensures { self.new ≡ with_line greeted self.old }
+    {
+        self.line = Some(greeted);
+        self.is_in_step = true;
+    }
+
+    /// Gives the bus another line, whose interface greeted, so that it may be taken up again. What
+    /// was sent and heard stays what it was.
+    pub fn renew(&mut self, greeted: Greeted<R, W>)
+        ensures { self.new ≡ with_line greeted (record self.old {
+          log = after_mend true self.old.log;
+        }) }
+    {
+        self.begin(greeted);
+        self.is_mended = true;
+    }
+
+    /// Gives the two ends of the line away, where there is a line. What was sent and heard stays
+    /// what it was.
+    pub fn let_go(&mut self) -> Option<(R, W)>
+        ensures ends { IfSome result (λ pair. (R.remaining pair.0 ≡ self.old.unread)
+            × (W.contents pair.1 ≡ self.old.written)) }
+        ensures left { self.new ≡ without_line self.old }
+    {
+        self.is_in_step = false;
+        let greeted = self.line.take()?;
+        Some(greeted.into_ends())
+    }
+
+    /// Whether each request on the line so far was answered as it should be.
+    pub fn is_in_step(&self) -> bool
+        ensures value { result ≡ self.now.is_in_step }
+    {
+        self.is_in_step
+    }
+
+    /// Why the last request on the line came to nothing, where one did.
+    pub fn trouble(&self) -> &Trouble {
+        &self.trouble
+    }
+
+    /// Notes why a request came to nothing: the first that did tells why those after it fail.
+    fn note_trouble(&mut self, trouble: Trouble)
+        ensures { self.new ≡ self.old }
+    {
+        if !matches!(trouble, Trouble::Absent) {
+            self.trouble = trouble;
+        }
+    }
+
+    /// Has a frame sent, and reads what became of it.
+    #[tactic(auto, using(crate::proofs::Writing::not_begun))]
+    fn try_to_send(&mut self, frame: &Frame, priority: u8) -> Result<Reply, Trouble>
+        ensures log { self.new.log ≡ self.old.log }
+        ensures asked { IfOk result (λ reply. IsExchange (send_line frame.now priority)
+            (λ line. IsReply reply line) self.old self.new) }
+        ensures at_most { IsAtMost (send_line frame.now priority ++ line_end)
+            self.old.written self.new.written }
+        ensures step { self.new.is_in_step ≡ is_ok result }
+        ensures silent { self.old.is_in_step ≡ false → IsErr result × (self.new ≡ self.old) }
+    {
+        if !self.is_in_step {
+            return Err(Trouble::Absent);
+        }
+        self.is_in_step = false;
+        let Some(line) = &mut self.line else {
+            return Err(Trouble::Absent);
+        };
+        ask_to_send(&mut line.to, frame, priority)?;
+        let answer = read_line(&mut line.from)?;
+        let Some(reply) = reply_in(answer.as_slice()) else {
+            return Err(Trouble::of(answer));
+        };
+        self.is_in_step = true;
+        Ok(reply)
+    }
+
+    /// Asks for what has come, and reads it.
+    #[tactic(auto, using(crate::proofs::Writing::not_begun))]
+    fn try_to_hear(&mut self) -> Result<Option<Frame24>, Trouble>
+        ensures log { self.new.log ≡ self.old.log }
+        ensures asked { IfOk result (λ message. IsExchange hear_line
+            (λ line. IsMessage message line) self.old self.new) }
+        ensures at_most { IsAtMost (hear_line ++ line_end) self.old.written self.new.written }
+        ensures step { self.new.is_in_step ≡ is_ok result }
+        ensures silent { self.old.is_in_step ≡ false → IsErr result × (self.new ≡ self.old) }
+    {
+        if !self.is_in_step {
+            return Err(Trouble::Absent);
+        }
+        self.is_in_step = false;
+        let Some(line) = &mut self.line else {
+            return Err(Trouble::Absent);
+        };
+        ask_to_hear(&mut line.to)?;
+        let answer = read_line(&mut line.from)?;
+        let Some(message) = message_in(answer.as_slice()) else {
+            return Err(Trouble::of(answer));
+        };
+        self.is_in_step = true;
+        Ok(message)
+    }
+
+    /// Notes a frame that was sent, and what became of it.
+    fn note_sent(&mut self, frame: Frame, priority: u8, mark: Mark)
+        requires { 0 < self.old.log.spare }
+        ensures { self.new ≡ record self.old {
+          log = with_sent frame priority mark self.old.log;
+        } }
+    {
+        self.sent.push(&Sent {
+            frame,
+            priority,
+            mark,
+        });
+        self.spare -= 1;
+    }
+}
+
+impl<R: Read + Drop, W: Write + Drop> Bus for LineBus<R, W> {
+    ghost log = { λ b. b.log };
+
+    fn room(&mut self, frames: usize) -> Result<(), AllocError>
+        ensures made { OnOk result (frames ≤ self.new.log.spare) }
+        ensures already { frames ≤ self.old.log.spare → IsOk result }
+        ensures keeps { self.old.log.spare ≤ self.new.log.spare }
+        ensures always { IsOk result }
+        ensures same { self.new ≡ record self.old {
+          log = with_spare self.new.log.spare self.old.log;
+        } }
+    {
+        self.spare = self.spare.max(frames);
+        Ok(())
+    }
+
+    fn send(&mut self, frame: Frame, priority: u8) -> Result<Reply, Fault>
+        requires { 0 < self.old.log.spare }
+        ensures logged { self.new.log ≡ after_send frame priority result self.old.log }
+        ensures asked { IfOk result (λ reply. IsExchange (send_line frame priority)
+            (λ line. IsReply reply line) self.old self.new) }
+        ensures at_most { IsAtMost (send_line frame priority ++ line_end)
+            self.old.written self.new.written }
+        ensures step { self.new.is_in_step ≡ is_ok result }
+        ensures silent { self.old.is_in_step ≡ false → IsSilent result self.old self.new }
+    {
+        match self.try_to_send(&frame, priority) {
+            Ok(reply) => {
+                self.note_sent(frame, priority, Mark::from(reply));
+                Ok(reply)
+            }
+            Err(trouble) => {
+                self.note_trouble(trouble);
+                self.note_sent(frame, priority, Mark::Failed);
+                self.failures = self.failures.wrapping_add(1);
+                Err(Fault)
+            }
+        }
+    }
+
+    fn hear(&mut self) -> Result<Option<Frame24>, Fault>
+        requires { 0 < self.old.log.spare }
+        ensures logged { self.new.log ≡ after_hear result self.old.log }
+        ensures all { TellsAll result self.old.log }
+        ensures asked { IfOk result (λ message. IsExchange hear_line
+            (λ line. IsMessage message line) self.old self.new) }
+        ensures at_most { IsAtMost (hear_line ++ line_end) self.old.written self.new.written }
+        ensures step { self.new.is_in_step ≡ is_ok result }
+        ensures silent { self.old.is_in_step ≡ false → IsSilent result self.old self.new }
+    {
+        let message = self.try_to_hear();
+        self.hears = self.hears.saturating_add(1);
+        self.heard_none = matches!(message, Ok(None));
+        match message {
+            Ok(Some(frame)) => {
+                self.heard.push(&frame);
+                self.spare -= 1;
+                Ok(Some(frame))
+            }
+            Ok(None) => Ok(None),
+            Err(trouble) => {
+                self.note_trouble(trouble);
+                self.failures = self.failures.wrapping_add(1);
+                Err(Fault)
+            }
+        }
+    }
+
+    fn mend(&mut self) -> bool
+        ensures same { self.new ≡ record self.old { log = after_mend result self.old.log } }
+        ensures when { result ≡ (self.old.is_in_step && self.old.log.is_mended) }
+    {
+        self.is_mended = self.is_in_step && self.is_mended;
+        self.is_mended
+    }
+
+    fn resume(&mut self)
+        ensures { self.new ≡ record self.old { log = after_resume self.old.log } }
+    {
+        self.mends = self.mends.wrapping_add(1);
+        self.is_mended = false;
+    }
+}

@@ -1,0 +1,316 @@
+//! The line, as whoever has its bus sees it.
+
+ghost use Rattle.std.specs.Prelude.{◌≡◌, ◌<◌, ◌+◌, ◌⊎◌, IfOk, IsErr, false, true};
+ghost use Rattle.buslink.specs.BusLog.{TellsAll, after_hear, after_mend};
+ghost use Rattle.liveline.specs.Exchanges.{fresh_log};
+ghost use Rattle.livemend.specs.Mended.{IsCounted, IsLastCounted, most_kept};
+
+use crate::reasons::Reason;
+use crate::starter::{LineStarter, Order};
+use crate::thread::{Job, Outcome, Tries};
+use buslink::{Bus, Fault};
+use crossbeam_channel::{Receiver, Sender, bounded};
+use daliframe::{BusNumber, Frame, Frame24};
+use ghosts::Memo;
+use liveline::{LineBus, Trouble};
+use liveread::TimedReader;
+use std::alloc::{AllocError, Global};
+use std::io::Write;
+use std::marker::Model;
+use std::sync::Wait;
+use std::time::Clock;
+use transact::Reply;
+
+/// The most frames that are heard once the building's end was asked for: as many as an interface
+/// keeps.
+const MOST_KEPT: u32 = 256;
+
+/// Whoever tells what becomes of a line.
+pub trait Teller: Drop {
+    ghost use Rattle.std.specs.Prelude.{Bool};
+
+    // Asked whether the building's end was asked for, it may answer this.
+    ghost answers: { Self → Bool → Type 0 };
+
+    /// The line is down.
+    fn tell_down(&self, reason: &Reason);
+
+    /// It is up again.
+    fn tell_up(&self);
+
+    /// Whether the building's end was asked for.
+    fn is_at_end(&self) -> bool
+        ensures { answers self.now result };
+}
+
+/// A bus behind a line, which a thread of its own opens and greets.
+#[derive(Drop)]
+pub struct MendedLine<R: Wait + Clock + Drop, W: Write + Drop, T: Teller, O> {
+    rt: R,
+    bus: LineBus<TimedReader<R>, W>,
+    /// What the thread is to try.
+    jobs: Sender<Job<R, W>>,
+    /// What became of it.
+    outcomes: Receiver<Outcome<R, W>>,
+    /// Whether the thread tries, or has tried, and that was not looked at.
+    is_tried: bool,
+    /// Why the last try failed.
+    why: Reason,
+    /// The milliseconds that the interface has for an answer.
+    patience: u64,
+    /// Whether it was told that the line is down.
+    is_down: bool,
+    /// How many frames were heard since the building's end was asked for.
+    heard_last: u32,
+    teller: T,
+    /// Who opens the line, in its thread.
+    opener: Memo<O>,
+}
+
+impl<R: Wait + Clock + Drop, W: Write + Drop, T: Teller, O> Model for MendedLine<R, W, T, O> {
+    ghost use Rattle.std.specs.Prelude.{◌≤◌};
+    ghost use Rattle.livemend.specs.Mended.{MendedState, most_kept};
+
+    ghost Value = { MendedState O T };
+
+    ghost view = { λ m. record {
+      log = m.bus.log;
+      is_in_step = m.bus.is_in_step;
+      heard_last = m.heard_last;
+      set = record { opener = m.opener.value; teller = m.teller; patience = m.patience };
+    } };
+
+    ghost invariant = { λ m. m.heard_last ≤ most_kept };
+}
+
+impl<R: Wait + Clock + Drop, W: Write + Drop, T: Teller, O: Drop> MendedLine<R, W, T, O> {
+    /// A bus whose line is not open yet: a thread of its own, which the starter starts, begins to
+    /// open it. Each call fails, and says nothing, until the line has greeted. The interface has so
+    /// many milliseconds for an answer.
+    ///
+    /// # Errors
+    ///
+    /// The allocator is out of memory, or the starter's thread has ended.
+    pub fn start(
+        alloc: Global,
+        rt: R,
+        opener: O,
+        teller: T,
+        number: BusNumber,
+        patience: u64,
+        starter: &LineStarter<R, W, O>,
+    ) -> Result<MendedLine<R, W, T, O>, AllocError>
+    where
+        R: Clone,
+        ensures log { IfOk result (λ line. line.log ≡ fresh_log number) }
+        ensures step { IfOk result (λ line. line.is_in_step ≡ false) }
+        ensures set { IfOk result (λ line. line.set ≡ record {
+          opener = opener;
+          teller = teller;
+          patience = patience;
+        }) }
+    {
+        let (jobs, theirs) = bounded::<Job<R, W>, Global>(alloc, 1)?;
+        let (to, outcomes) = bounded::<Outcome<R, W>, Global>(alloc, 1)?;
+        let noted = Memo::of(&opener);
+        let tries = Tries {
+            rt: rt.clone()?,
+            alloc,
+            opener,
+            patience,
+            ends: None,
+            began: None,
+            number: 0,
+        };
+        starter.order(
+            &rt,
+            Order {
+                tries,
+                jobs: theirs,
+                to,
+            },
+        )?;
+        let mut line = MendedLine {
+            rt,
+            bus: LineBus::absent(number),
+            jobs,
+            outcomes,
+            is_tried: false,
+            why: Reason::NotYet,
+            patience,
+            is_down: false,
+            heard_last: 0,
+            teller,
+            opener: noted,
+        };
+        line.ask(None);
+        Ok(line)
+    }
+
+    /// Whether the first try is over.
+    pub fn is_settled(&self) -> bool {
+        !self.is_tried || !self.outcomes.is_empty()
+    }
+
+    /// Whether each request on the line so far was answered as it should be, and there is a line.
+    pub fn is_in_step(&self) -> bool
+        ensures value { result ≡ self.now.is_in_step }
+    {
+        self.bus.is_in_step()
+    }
+
+    /// Takes the line that the first try handed over, if it did.
+    pub fn begin(&mut self)
+        ensures log { self.new.log ≡ self.old.log }
+        ensures heard { self.new.heard_last ≡ self.old.heard_last }
+        ensures set { self.new.set ≡ self.old.set }
+    {
+        if self.is_down || self.bus.is_in_step() {
+            return;
+        }
+        match self.outcomes.try_recv(&self.rt) {
+            Ok(Ok(greeted)) => {
+                self.is_tried = false;
+                self.bus.begin(greeted);
+            }
+            Ok(Err(why)) => {
+                self.is_tried = false;
+                self.why = why;
+            }
+            Err(_) => {}
+        }
+    }
+
+    /// Asks the thread to try, over these ends where there are any.
+    fn ask(&mut self, ends: Job<R, W>)
+        ensures { self.new ≡ self.old }
+    {
+        self.is_tried = self.jobs.try_send(&self.rt, ends).is_ok();
+    }
+
+    /// Looks what became of the last try, and has the next one begin where that failed. A line that
+    /// is out of step is let go of: the thread greets it again while it is read.
+    fn look(&mut self)
+        ensures log { after_mend false self.new.log ≡ after_mend false self.old.log }
+        ensures heard { self.new.heard_last ≡ self.old.heard_last }
+        ensures set { self.new.set ≡ self.old.set }
+    {
+        if !self.is_tried {
+            let ends = self.bus.let_go();
+            self.ask(ends);
+            return;
+        }
+        match self.outcomes.try_recv(&self.rt) {
+            Ok(Ok(greeted)) => {
+                self.is_tried = false;
+                self.bus.renew(greeted);
+            }
+            Ok(Err(why)) => {
+                self.why = why;
+                self.ask(None);
+            }
+            Err(_) => {}
+        }
+    }
+
+    /// Lets go of a line on which as many frames were heard since the building's end was asked for
+    /// as an interface keeps: the next call fails. Else a building would not end on a line that
+    /// always has an event.
+    fn end_where_heard(&mut self)
+        ensures log { self.new.log ≡ self.old.log }
+        ensures heard { self.new.heard_last ≡ self.old.heard_last }
+        ensures set { self.new.set ≡ self.old.set }
+        ensures ends { self.old.heard_last ≡ most_kept → self.new.is_in_step ≡ false }
+        ensures left { (self.old.heard_last < most_kept) ⊎ (self.new.is_in_step ≡ false) }
+    {
+        if self.heard_last >= MOST_KEPT {
+            self.why = Reason::SpeaksOn;
+            let _ends = self.bus.let_go();
+        }
+    }
+
+    /// Counts a frame that was heard, where the building's end was asked for.
+    fn count_last(&mut self)
+        requires few { self.old.heard_last < most_kept }
+        ensures same { (self.new.log ≡ self.old.log) × (self.new.is_in_step ≡ self.old.is_in_step) }
+        ensures set { self.new.set ≡ self.old.set }
+        ensures counted { IsLastCounted (T.answers self.old.set.teller)
+            self.old.heard_last self.new.heard_last }
+    {
+        if self.teller.is_at_end() {
+            self.heard_last += 1;
+        }
+    }
+
+    /// Tells that the line is down, if that was not told yet.
+    fn note_down(&mut self)
+        ensures { self.new ≡ self.old }
+    {
+        if self.is_down {
+            return;
+        }
+        self.is_down = true;
+        match self.bus.trouble() {
+            Trouble::Absent => self.teller.tell_down(&self.why),
+            trouble => self.teller.tell_down(&Reason::of(trouble, self.patience)),
+        }
+    }
+}
+
+impl<R: Wait + Clock + Drop, W: Write + Drop, T: Teller, O: Drop> Bus for MendedLine<R, W, T, O> {
+    ghost log = { λ m. m.log };
+
+    fn room(&mut self, frames: usize) -> Result<(), AllocError> {
+        self.bus.room(frames)
+    }
+
+    fn send(&mut self, frame: Frame, priority: u8) -> Result<Reply, Fault> {
+        self.begin();
+        let reply = self.bus.send(frame, priority);
+        if reply.is_err() {
+            self.note_down();
+        }
+        reply
+    }
+
+    fn hear(&mut self) -> Result<Option<Frame24>, Fault>
+        requires { 0 < self.old.log.spare }
+        ensures logged { self.new.log ≡ after_hear result self.old.log }
+        ensures all { TellsAll result self.old.log }
+        ensures few { self.old.heard_last ≡ most_kept → IsErr result }
+        ensures counted { IsCounted (T.answers self.old.set.teller) result
+            self.old.heard_last self.new.heard_last }
+        ensures set { self.new.set ≡ self.old.set }
+    {
+        self.begin();
+        self.end_where_heard();
+        match self.bus.hear() {
+            Ok(Some(frame)) => {
+                self.count_last();
+                Ok(Some(frame))
+            }
+            Ok(None) => Ok(None),
+            Err(Fault) => {
+                self.note_down();
+                Err(Fault)
+            }
+        }
+    }
+
+    #[tactic(auto, using(crate::proofs::Mending::alike))]
+    fn mend(&mut self) -> bool
+        ensures same { self.new.log ≡ after_mend result self.old.log }
+        ensures step { result ≡ true → self.new.is_in_step ≡ true }
+    {
+        if !self.bus.is_in_step() {
+            self.look();
+        }
+        self.bus.mend()
+    }
+
+    fn resume(&mut self) {
+        self.bus.resume();
+        self.is_down = false;
+        self.teller.tell_up();
+    }
+}

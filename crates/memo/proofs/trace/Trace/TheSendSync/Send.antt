@@ -1,7 +1,0 @@
-use denote.RattleType.{RattleType}
-use denote.Param.Send.{IsSend}
-use Rattle.memo.proofs.TraceSent.{trace_send}
-use Rattle.memo.specs.contracts.trace.Trace.{the_row}
-
-pub send : (T : RattleType) → IsSend (the_row T)
-send = trace_send

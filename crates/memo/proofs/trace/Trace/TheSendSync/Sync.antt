@@ -1,7 +1,0 @@
-use denote.RattleType.{RattleType}
-use denote.Param.Send.{IsSync}
-use Rattle.memo.proofs.TraceSent.{trace_sync}
-use Rattle.memo.specs.contracts.trace.Trace.{the_row}
-
-pub sync : (T : RattleType) → IsSync (the_row T)
-sync = trace_sync

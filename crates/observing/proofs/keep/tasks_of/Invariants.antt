@@ -1,6 +1,0 @@
-use Rattle.observing.proofs.TaskLists.{FitFirst}
-use Rattle.observing.proofs.keep.tasks_of.Given as goal
-
--- what lasts of each task so far
-abbrev pub invariant-loop-task : goal.invariant-loop-task
-invariant-loop-task l = FitFirst l.plant.plant.plan.tasks l.task l.tasks.items

@@ -1,0 +1,50 @@
+use Rattle.plantdriving.specs.Order.{sends_at}
+use Rattle.plantdriving.specs.Quiet.{HasNoHandout}
+use Rattle.plantdriving.proofs.Again.{turned_more, turned_out}
+use Rattle.plantdriving.proofs.Linked.{step_then}
+use Rattle.plantdriving.proofs.Order.{none_left, on_and_on}
+use Rattle.plantdriving.proofs.Turned.{handout_moved}
+use Rattle.plantdriving.proofs.serving.send_all.Goals as goal
+
+pub returns-in_err-send_turn-clause-step : goal.returns-in_err-send_turn-clause-step
+returns-in_err-send_turn-clause-step g c =
+    step_then c.args.bus c.args.plant.now c.loop.plant c.send_turn.new.plant (g.B.Bus.log c.args.line.now)
+    (g.B.Bus.log c.loop.line) (g.B.Bus.log c.send_turn.new.line) c.loop.invariant.step c.in_err-send_turn.ensures.step
+
+pub returns-then-not-branch-clause-turn : goal.returns-then-not-branch-clause-turn
+returns-then-not-branch-clause-turn g c =
+    turned_out c.args.plant.now c.loop.plant c.send_turn.new.plant c.loop.counter c.loop.any c.in_ok-send_turn.field-0
+    (HasNoHandout c.loop.plant c.args.bus) (HasNoHandout c.args.plant.now c.args.bus) c.loop.invariant.turned
+    c.in_ok-send_turn.ensures.turn c.if-not-branch.true
+    (λ same none.
+    handout_moved c.args.plant.now c.loop.plant c.args.bus same c.loop.invariant.step.later.plant none)
+
+pub loop-preserved : goal.loop-preserved
+loop-preserved g c = record {
+  step = step_then c.args.bus c.args.plant.now c.loop.plant c.send_turn.new.plant (g.B.Bus.log c.args.line.now)
+      (g.B.Bus.log c.loop.line) (g.B.Bus.log c.send_turn.new.line) c.loop.invariant.step
+      c.in_ok-send_turn.ensures.step;
+  goes_on = let at = sends_at c.args.bus in
+      on_and_on at at at c.args.plant.now c.loop.plant c.send_turn.new.plant c.loop.invariant.goes_on
+      c.in_ok-send_turn.ensures.goes_on;
+  turned = turned_more c.args.plant.now c.loop.plant c.send_turn.new.plant c.loop.counter c.loop.any
+      c.in_ok-send_turn.field-0 (HasNoHandout c.loop.plant c.args.bus) c.loop.invariant.turned
+      c.in_ok-send_turn.ensures.turn c.if-not-branch.false;
+}
+
+pub returns-in_err-send_turn-clause-goes_on : goal.returns-in_err-send_turn-clause-goes_on
+returns-in_err-send_turn-clause-goes_on g c =
+    let at = sends_at c.args.bus in
+    on_and_on at at at c.args.plant.now c.loop.plant c.send_turn.new.plant c.loop.invariant.goes_on
+    c.in_err-send_turn.ensures.goes_on
+
+pub returns-then-not-branch-clause-goes_on : goal.returns-then-not-branch-clause-goes_on
+returns-then-not-branch-clause-goes_on g c =
+    let at = sends_at c.args.bus in
+    on_and_on at at at c.args.plant.now c.loop.plant c.send_turn.new.plant c.loop.invariant.goes_on
+    c.in_ok-send_turn.ensures.goes_on
+
+pub returns-then-not-branch-clause-none : goal.returns-then-not-branch-clause-none
+returns-then-not-branch-clause-none g c =
+    none_left c.args.bus c.loop.plant c.send_turn.new.plant c.in_ok-send_turn.field-0
+    c.in_ok-send_turn.ensures.step.later.plant c.in_ok-send_turn.ensures.turn c.if-not-branch.true
