@@ -1,26 +1,18 @@
 //! The program over a runtime: its words, its files, its terminal and its threads.
 
-use crate::beginning::KeptNote;
-use crate::code_files::{serve_check_code, serve_code};
-use crate::hints::{NamedFiles, hint_of};
-use crate::living::{Grounds, Notice, serve_live, status_of_live};
-use crate::looking::serve_look;
-use crate::misuse::check_invocation;
-use crate::paths::PathFault;
-use crate::playing::serve_play;
-use crate::reading::{DiskFault, HostDisk};
-use crate::running::{serve_run, status_of_run};
-use crate::serving::{Unserved, serve};
 use crate::shell_tools::{Complaints, run_ask, run_blink, run_listen, run_probe};
-use crate::telling::serve_question;
-use crate::tools::ToolLine;
-use crate::wording::{serve_event, serve_frames};
 use buslink::{Bus, Clock};
+use commandcodes::{serve_check_code, serve_code, serve_event, serve_frames};
+use commandfiles::{DiskFault, HostDisk, KeptNote, Unserved, serve};
 use commandline::{Invocation, Tool};
+use commandlives::{Grounds, Notice, ToolLine, serve_live, status_of_live};
+use commandpaths::{PathFault, check_invocation};
+use commandplays::{serve_look, serve_play, serve_run, status_of_run};
+use commandtexts::{NamedFiles, hint_of, serve_question};
 use exitstatus::ExitStatus;
 use livehouse::{Departure, LiveStop, Site};
 use livejournal::Storage;
-use options::{LineWord, LiveFiles, LiveOptions};
+use options::{LineWord, LiveFiles, LiveOptions, PlayFiles, RunSize};
 use std::rt::{Env, Files};
 use std::sync::Wait;
 use std::thread::Threads;
@@ -36,13 +28,13 @@ where
     T: Threads + Wait + Timer + Sync,
     S: Site + Storage + Sync,
 {
-    match words(rt) {
-        Ok(words) => run_words(rt, threads, site, words.as_slice()),
-        Err(error) => match error.kind() {
-            io::ErrorKind::OutOfMemory => no_memory(rt),
-            io::ErrorKind::InvalidData => not_text(rt),
-            _ => ExitStatus::Failed,
-        },
+    let words = match words(rt) {
+        Ok(words) => words,
+        Err(error) => return no_words(rt, &error),
+    };
+    match invocation_in(rt, &words) {
+        Ok(invocation) => run_invocation(rt, threads, site, &invocation),
+        Err(status) => status,
     }
 }
 
@@ -60,78 +52,94 @@ fn words<R: Env + AllocGlobal>(rt: &R) -> io::Result<Vec<String>> {
     Ok(words)
 }
 
-/// Does what these words ask for.
-fn run_words<R, T, S>(rt: &R, threads: &T, site: &S, words: &[String]) -> ExitStatus
-where
-    R: Files + Print + Eprint + AllocGlobal,
-    T: Threads + Wait + Timer + Sync,
-    S: Site + Storage + Sync,
-{
-    match commandline::read(rt.alloc(), words) {
-        Ok(invocation) => run_invocation(rt, threads, site, invocation),
-        Err(error) => match ExitStatus::of_words(error.kind()) {
-            ExitStatus::Failed => no_memory(rt),
-            ExitStatus::Accepted => match error.print(rt) {
-                Ok(()) => ExitStatus::Accepted,
-                Err(error) => not_printed(rt, &error),
-            },
-            status => match commandline::said(rt.alloc(), &error) {
-                Ok(said) => printed(rt, eprint!(rt; "{said}"), status),
-                Err(_) => status,
-            },
-        },
+/// Reports that the words of the command line are not there.
+fn no_words<R: Print + Eprint>(rt: &R, error: &io::Error) -> ExitStatus {
+    match error.kind() {
+        io::ErrorKind::OutOfMemory => no_memory(rt),
+        io::ErrorKind::InvalidData => not_text(rt),
+        _ => ExitStatus::Failed,
     }
 }
 
+/// What the words ask for.
+///
+/// # Errors
+///
+/// How the program ends, once the help, the version or what is wrong with the words is printed.
+fn invocation_in<'w, R: Print + Eprint + AllocGlobal>(
+    rt: &R,
+    words: &'w [String],
+) -> Result<Invocation<'w>, ExitStatus> {
+    let error = match commandline::read(rt.alloc(), words) {
+        Ok(invocation) => return Ok(invocation),
+        Err(error) => error,
+    };
+    Err(match ExitStatus::of_words(error.kind()) {
+        ExitStatus::Failed => no_memory(rt),
+        ExitStatus::Accepted => match error.print(rt) {
+            Ok(()) => ExitStatus::Accepted,
+            Err(error) => not_printed(rt, &error),
+        },
+        status => match commandline::said(rt.alloc(), &error) {
+            Ok(said) => printed(rt, eprint!(rt; "{said}"), status),
+            Err(_) => status,
+        },
+    })
+}
+
 /// Serves an invocation from the machine's files, or a building from its devices.
-fn run_invocation<R, T, S>(rt: &R, threads: &T, site: &S, invocation: Invocation) -> ExitStatus
+fn run_invocation<R, T, S>(rt: &R, threads: &T, site: &S, invocation: &Invocation) -> ExitStatus
 where
     R: Files + Print + Eprint + AllocGlobal,
     T: Threads + Wait + Timer + Sync,
     S: Site + Storage + Sync,
 {
-    let alloc = rt.alloc();
-    if let Err(fault) = check_invocation(rt, alloc, &invocation) {
+    if let Err(fault) = check_invocation(rt, rt.alloc(), invocation) {
         return misplaced(rt, &fault);
     }
-    let named = NamedFiles::of(&invocation);
-    let disk = HostDisk { rt };
-    let out = io::writer(rt);
-    let mut complaints = Complaints { rt };
-    let served = match invocation {
-        Invocation::Ask(inquiry) => serve(alloc, &disk, out, &mut complaints, inquiry),
-        Invocation::Play {
-            files,
-            limit,
-            shows,
-        } => serve_play(alloc, &disk, out, &mut complaints, files, limit, &shows),
-        Invocation::Run { files, size } => {
-            match serve_run(threads, alloc, &disk, out, &mut complaints, files, size) {
-                Ok((out, end)) => Ok((out, status_of_run(&end))),
-                Err(unserved) => Err(unserved),
-            }
-        }
-        Invocation::Look {
-            files,
-            options,
-            watches,
-        } => serve_look(alloc, &disk, out, rt, files, options, &watches),
-        Invocation::Tell { files, question } => {
-            serve_question(alloc, &disk, out, &mut complaints, files, question)
-        }
-        Invocation::Code { files, task, to } => {
-            serve_code(alloc, &disk, out, &mut complaints, files, task, to)
-        }
-        Invocation::CheckCode { path } => serve_check_code(alloc, &disk, out, path),
+    let status = match invocation {
+        Invocation::Run { files, size } => run_scenario(rt, threads, *files, *size),
         Invocation::Live {
             files,
             lines,
             options,
-        } => {
-            let status = run_building(rt, threads, site, files, &lines, &options);
-            return with_hint(rt, named, status);
+        } => run_building(rt, threads, site, *files, lines, options),
+        Invocation::Tool(tool) => run_tool(rt, threads, site, tool),
+        _ => serve_files(rt, invocation),
+    };
+    with_hint(rt, NamedFiles::of(invocation), status)
+}
+
+/// Serves an invocation that asks for files alone. One that asks for threads or lines does nothing
+/// here.
+fn serve_files<R: Files + Print + Eprint + AllocGlobal>(
+    rt: &R,
+    invocation: &Invocation,
+) -> ExitStatus {
+    let alloc = rt.alloc();
+    let disk = HostDisk { rt };
+    let out = io::writer(rt);
+    let mut complaints = Complaints { rt };
+    let served = match invocation {
+        Invocation::Ask(inquiry) => serve(alloc, &disk, out, &mut complaints, *inquiry),
+        Invocation::Play {
+            files,
+            limit,
+            shows,
+        } => serve_play(alloc, &disk, out, &mut complaints, *files, *limit, shows),
+        Invocation::Look {
+            files,
+            options,
+            watches,
+        } => serve_look(alloc, &disk, out, rt, *files, *options, watches),
+        Invocation::Tell { files, question } => {
+            serve_question(alloc, &disk, out, &mut complaints, *files, *question)
         }
-        Invocation::Frame { words } => serve_frames(rt, alloc, out, &mut complaints, words),
+        Invocation::Code { files, task, to } => {
+            serve_code(alloc, &disk, out, &mut complaints, *files, *task, *to)
+        }
+        Invocation::CheckCode { path } => serve_check_code(alloc, &disk, out, *path),
+        Invocation::Frame { words } => serve_frames(rt, alloc, out, &mut complaints, *words),
         Invocation::EventLine {
             binding,
             source,
@@ -141,39 +149,51 @@ where
             &disk,
             out,
             &mut complaints,
-            binding,
-            source,
-            information,
+            *binding,
+            *source,
+            *information,
         ),
-        Invocation::Tool(tool) => return run_tool(rt, threads, site, tool),
+        Invocation::Run { .. } | Invocation::Live { .. } | Invocation::Tool(_) => {
+            return ExitStatus::Accepted;
+        }
     };
+    ended(rt, served)
+}
+
+/// How the program ends by what a command came to; why one is not served is reported.
+fn ended<R: Print + Eprint, W: Drop>(
+    rt: &R,
+    served: Result<(W, ExitStatus), Unserved>,
+) -> ExitStatus {
     match served {
-        Ok((_, status)) => with_hint(rt, named, status),
+        Ok((_, status)) => status,
         Err(unserved) => not_served(rt, unserved),
     }
 }
 
 /// How a command ends; where a fault of a file is printed, standard error says which file it is in.
-fn with_hint<R>(rt: &R, named: Option<NamedFiles>, status: ExitStatus) -> ExitStatus
-where
-    R: Files + Eprint + AllocGlobal,
-{
+fn with_hint<R: Files + Eprint + AllocGlobal>(
+    rt: &R,
+    named: Option<NamedFiles>,
+    status: ExitStatus,
+) -> ExitStatus {
     if let (ExitStatus::Refused, Some(files)) = (status, named) {
         if let Some(hint) = hint_of(rt.alloc(), &HostDisk { rt }, files) {
-            let _told = eprintln!(rt; "{hint}");
+            let mut complaints = Complaints { rt };
+            let _told = hint.page(rt.alloc()).write_to(&mut complaints);
         }
     }
     status
 }
 
 /// Does what is asked for at one line.
-fn run_tool<R, T, S>(rt: &R, timer: &T, site: &S, tool: Tool) -> ExitStatus
-where
-    R: Files + Print + Eprint + AllocGlobal,
-    T: Timer,
-    S: Site + Storage + Sync,
-{
-    match tool {
+fn run_tool<R: Files + Print + Eprint + AllocGlobal, T: Timer, S: Site + Storage>(
+    rt: &R,
+    timer: &T,
+    site: &S,
+    tool: &Tool,
+) -> ExitStatus {
+    match *tool {
         Tool::Probe {
             line,
             patience,
@@ -204,6 +224,30 @@ where
             patience,
             words,
         } => run_ask(rt, site, ToolLine { line, patience }, words),
+    }
+}
+
+/// Runs a scenario in threads.
+fn run_scenario<R: Files + Print + Eprint + AllocGlobal, T: Threads + Wait + Timer + Sync>(
+    rt: &R,
+    threads: &T,
+    files: PlayFiles,
+    size: RunSize,
+) -> ExitStatus {
+    let disk = HostDisk { rt };
+    let mut complaints = Complaints { rt };
+    let out = io::writer(rt);
+    match serve_run(
+        threads,
+        rt.alloc(),
+        &disk,
+        out,
+        &mut complaints,
+        files,
+        size,
+    ) {
+        Ok((_, end)) => status_of_run(&end),
+        Err(unserved) => not_served(rt, unserved),
     }
 }
 
@@ -270,35 +314,32 @@ impl<R: Eprint> Notice for HostNotice<'_, R> {
 
 /// Reports why a command is not served.
 pub(crate) fn not_served<R: Print + Eprint>(rt: &R, unserved: Unserved) -> ExitStatus {
-    match unserved {
-        Unserved::NotRead { path, why } => not_read(rt, path, why),
-        Unserved::NotWritten { path, why } => not_written(rt, path, why),
-        Unserved::NotPrinted(error) => not_printed(rt, &error),
-    }
+    let told = match unserved {
+        Unserved::NotRead {
+            why: DiskFault::Memory,
+            ..
+        }
+        | Unserved::NotWritten {
+            why: DiskFault::Memory,
+            ..
+        } => return no_memory(rt),
+        Unserved::NotRead { path, why } => {
+            let why = reason_of(why);
+            eprintln!(rt; "cannot read {path}: {why}")
+        }
+        Unserved::NotWritten { path, .. } => eprintln!(rt; "cannot write {path}"),
+        Unserved::NotPrinted(error) => return not_printed(rt, &error),
+    };
+    printed(rt, told, ExitStatus::Failed)
 }
 
-/// Reports that a file was not read, and why.
-fn not_read<R: Print + Eprint>(rt: &R, path: &str, why: DiskFault) -> ExitStatus {
-    let why = match why {
-        DiskFault::Memory => return no_memory(rt),
+/// Why a file was not read, as it is printed.
+fn reason_of(why: DiskFault) -> &'static str {
+    match why {
+        DiskFault::Memory => "no memory",
         DiskFault::Absent => "no such file",
         DiskFault::Denied => "permission denied",
         DiskFault::Failed => "an input error",
-    };
-    printed(
-        rt,
-        eprintln!(rt; "cannot read {path}: {why}"),
-        ExitStatus::Failed,
-    )
-}
-
-/// Reports that a file was not written.
-fn not_written<R: Print + Eprint>(rt: &R, path: &str, why: DiskFault) -> ExitStatus {
-    match why {
-        DiskFault::Memory => no_memory(rt),
-        DiskFault::Absent | DiskFault::Denied | DiskFault::Failed => {
-            printed(rt, eprintln!(rt; "cannot write {path}"), ExitStatus::Failed)
-        }
     }
 }
 

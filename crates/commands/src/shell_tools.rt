@@ -1,18 +1,21 @@
 //! The commands at one line, over a runtime.
 
-use crate::living::{Halted, Notice};
-use crate::naming::request_in;
-use crate::reading::HostDisk;
-use crate::serving::Unserved;
 use crate::shell::{HostNotice, no_memory, not_printed, not_served};
-use crate::tools::{ProbeWish, ToolEnd, ToolLine, ask_once, blink, listen, probe, status_of_tool};
+use commandcodes::request_in;
+use commandfiles::{HostDisk, Unserved};
 use commandline::{GivenListenEnd, GivenRequest};
+use commandlives::{
+    Notice, ToolEnd, ToolLine, ToolStop, binding_at, opened, setup_at, status_of_live_stop,
+};
 use daliframe::ShortAddress;
 use exitstatus::ExitStatus;
+use gearcmd::Command;
 use liveclock::StopCondition;
 use livehouse::Site;
 use livejournal::{Care, Storage};
-use livesurvey::{ListenEnd, Served};
+use livesurvey::{
+    DeclaredBus, ListenEnd, ProbeForm, Served, serve_ask, serve_blink, serve_listen, serve_probe,
+};
 use options::LiveFiles;
 use std::io::Write;
 use std::rt::Files;
@@ -81,55 +84,66 @@ impl<R: Files> StopCondition for StopPath<'_, R> {
     }
 }
 
-/// `probe`
-pub(crate) fn run_probe<R, S>(
+/// `probe`: asks what is there on a bus, and compares it with a text where one is named. The gear
+/// that answers goes to the record, as lines of a scenario.
+pub(crate) fn run_probe<R: Files + Print + Eprint + AllocGlobal, S: Site + Storage>(
     rt: &R,
     site: &S,
     at: ToolLine,
     against: Option<LiveFiles>,
     record: Option<&str>,
     as_json: bool,
-) -> ExitStatus
-where
-    R: Files + Print + Eprint + AllocGlobal,
-    S: Site + Storage,
-{
+) -> ExitStatus {
+    let mut house = Vec::new(rt.alloc());
+    let end = probe(rt, site, at, against, &mut house, as_json);
+    let is_done = matches!(end, Ok(Served::Done));
+    match record {
+        Some(path) if is_done && !is_replaced(rt, site, path, &house) => not_opened(rt, path),
+        _ => ended(rt, end),
+    }
+}
+
+/// Whether a file has these bytes in place of what was there.
+fn is_replaced<R: AllocGlobal, S: Storage>(rt: &R, site: &S, path: &str, bytes: &[u8]) -> bool {
+    site.replace(rt.alloc(), path, bytes, Care::Passing).is_ok()
+}
+
+/// Asks what is there on a bus; `record` gets the gear that answers.
+///
+/// # Errors
+///
+/// A file is not read, what stands against the files or the line, or a writer's error.
+fn probe<'a, R: Files + Print + Eprint + AllocGlobal, S: Site>(
+    rt: &R,
+    site: &S,
+    at: ToolLine<'a>,
+    against: Option<LiveFiles<'a>>,
+    record: &mut Vec<u8>,
+    as_json: bool,
+) -> ToolEnd<'a> {
+    let alloc = rt.alloc();
+    let bus = at.line.bus;
+    let setup = setup_at(alloc, &HostDisk { rt }, against, bus)?;
+    let mut line = opened(alloc, site, at)?;
+    let declared = match &setup {
+        Some(setup) => Some(DeclaredBus {
+            plan: setup.plan(),
+            bus,
+        }),
+        None => None,
+    };
+    let form = ProbeForm {
+        bus,
+        declared,
+        as_json,
+    };
     let mut out = io::writer(rt);
     let mut progress = Complaints { rt };
-    let mut house = Vec::new(rt.alloc());
-    let disk = HostDisk { rt };
-    let end = probe(
-        rt.alloc(),
-        &disk,
-        site,
-        &mut out,
-        &mut progress,
-        &mut house,
-        at,
-        ProbeWish { against, as_json },
-    );
-    if let Some(path) = record {
-        if is_done(&end)
-            && site
-                .replace(rt.alloc(), path, &house, Care::Passing)
-                .is_err()
-        {
-            return not_opened(rt, path);
-        }
-    }
-    ended(rt, end)
+    Ok(serve_probe(alloc, &mut line, &mut out, &mut progress, record, form)?)
 }
 
-/// Whether a tool did all that was asked of it.
-fn is_done(end: &Result<ToolEnd, Unserved>) -> bool {
-    match end {
-        Ok(Ok(served)) => *served == Served::Done,
-        _ => false,
-    }
-}
-
-/// `listen`
-pub(crate) fn run_listen<'f, R, T, S>(
+/// `listen`: writes each event that comes on a bus, until the end.
+pub(crate) fn run_listen<'f, R: Files + Print + Eprint + AllocGlobal, T: Timer, S: Site + Storage>(
     rt: &R,
     timer: &T,
     site: &'f S,
@@ -137,16 +151,10 @@ pub(crate) fn run_listen<'f, R, T, S>(
     binding: Option<&str>,
     record: Option<&'f str>,
     words: GivenListenEnd,
-) -> ExitStatus
-where
-    R: Files + Print + Eprint + AllocGlobal,
-    T: Timer,
-    S: Site + Storage,
-{
+) -> ExitStatus {
     if let Some(path) = record {
-        match site.replace(rt.alloc(), path, b"", Care::Passing) {
-            Ok(()) => {}
-            Err(_) => return not_opened(rt, path),
+        if !is_replaced(rt, site, path, b"") {
+            return not_opened(rt, path);
         }
     }
     let mut recorded = MaybeFile {
@@ -154,73 +162,118 @@ where
         path: record,
         refused: None,
     };
+    let end = listen(rt, timer, site, at, binding, &mut recorded, words);
+    match (end, recorded.refused) {
+        (Err(ToolStop::Unserved(Unserved::NotPrinted(_))), Some(path)) => not_opened(rt, path),
+        (end, _) => ended(rt, end),
+    }
+}
+
+/// Writes each event that comes on a bus, until the end.
+///
+/// # Errors
+///
+/// The binding is not read, what stands against it or the line, or a writer's error.
+fn listen<'a, R: Files + Print + Eprint + AllocGlobal, T: Timer, S: Site + Storage>(
+    rt: &R,
+    timer: &T,
+    site: &S,
+    at: ToolLine<'a>,
+    binding: Option<&'a str>,
+    record: &mut MaybeFile<S>,
+    words: GivenListenEnd,
+) -> ToolEnd<'a> {
+    let alloc = rt.alloc();
+    let binding = binding_at(alloc, &HostDisk { rt }, binding)?;
+    let mut line = opened(alloc, site, at)?;
     let end = ListenEnd {
-        millis: match words.seconds {
-            Some(seconds) => Some(u64::from(seconds) * 1000),
-            None => None,
-        },
+        millis: words.seconds.map(milliseconds),
         stop: StopPath {
             rt,
             path: words.stop,
         },
     };
     let mut out = io::writer(rt);
-    let disk = HostDisk { rt };
-    let end = listen(
-        rt.alloc(),
-        &disk,
-        site,
+    let bus = at.line.bus;
+    Ok(serve_listen(
+        &mut line,
+        bus,
+        binding.as_ref(),
         &mut out,
-        &mut recorded,
-        at,
-        binding,
+        record,
         timer,
         &end,
-    );
-    match (end, recorded.refused) {
-        (Err(Unserved::NotPrinted(_)), Some(path)) => not_opened(rt, path),
-        (end, _) => ended(rt, end),
-    }
+    )?)
+}
+
+/// The milliseconds of these seconds.
+fn milliseconds(seconds: u32) -> u64 {
+    u64::from(seconds) * 1000
 }
 
 /// `blink`
-pub(crate) fn run_blink<R, T, S>(
+pub(crate) fn run_blink<R: Print + Eprint + AllocGlobal, T: Timer, S: Site>(
     rt: &R,
     timer: &T,
     site: &S,
     at: ToolLine,
     address: u8,
-) -> ExitStatus
-where
-    R: Files + Print + Eprint + AllocGlobal,
-    T: Timer,
-    S: Site,
-{
-    let Some(address) = ShortAddress::new(address) else {
-        return ExitStatus::Misused;
-    };
+) -> ExitStatus {
+    match ShortAddress::new(address) {
+        Some(address) => ended(rt, blink(rt, timer, site, at, address)),
+        None => ExitStatus::Misused,
+    }
+}
+
+/// Switches a lamp on and off three times, and gives it its level back.
+///
+/// # Errors
+///
+/// What stands against the line, or the writer's error.
+fn blink<'a, R: Print + AllocGlobal, T: Timer, S: Site>(
+    rt: &R,
+    timer: &T,
+    site: &S,
+    at: ToolLine<'a>,
+    address: ShortAddress,
+) -> ToolEnd<'a> {
+    let mut line = opened(rt.alloc(), site, at)?;
     let mut out = io::writer(rt);
-    let end = blink(rt.alloc(), site, &mut out, at, address, timer);
-    ended(rt, end)
+    Ok(serve_blink(&mut line, address, &mut out, timer)?)
 }
 
 /// `ask`
-pub(crate) fn run_ask<R, S>(rt: &R, site: &S, at: ToolLine, words: GivenRequest) -> ExitStatus
-where
-    R: Files + Print + Eprint + AllocGlobal,
-    S: Site,
-{
-    let command = match request_in(rt.alloc(), words) {
-        Ok(Ok(command)) => command,
+pub(crate) fn run_ask<R: Print + Eprint + AllocGlobal, S: Site>(
+    rt: &R,
+    site: &S,
+    at: ToolLine,
+    words: GivenRequest,
+) -> ExitStatus {
+    match request_in(rt.alloc(), words) {
+        Ok(Ok(command)) => ended(rt, ask(rt, site, at, command)),
         Ok(Err(refusal)) => {
-            let _told = eprintln!(rt; "{refusal}");
-            return ExitStatus::Misused;
+            let mut complaints = Complaints { rt };
+            let _told = refusal.page(rt.alloc()).write_to(&mut complaints);
+            ExitStatus::Misused
         }
-        Err(_) => return no_memory(rt),
-    };
+        Err(_) => no_memory(rt),
+    }
+}
+
+/// Makes one request at a bus, and writes its frames and its answer.
+///
+/// # Errors
+///
+/// What stands against the line, or the writer's error.
+fn ask<'a, R: Print + AllocGlobal, S: Site>(
+    rt: &R,
+    site: &S,
+    at: ToolLine<'a>,
+    command: Command,
+) -> ToolEnd<'a> {
+    let mut line = opened(rt.alloc(), site, at)?;
     let mut out = io::writer(rt);
-    let end = ask_once(rt.alloc(), site, &mut out, at, command);
-    ended(rt, end)
+    Ok(serve_ask(&mut line, command, &mut out)?)
 }
 
 /// Reports that a file cannot be written.
@@ -229,34 +282,20 @@ fn not_opened<R: Eprint>(rt: &R, path: &str) -> ExitStatus {
     ExitStatus::Failed
 }
 
-/// How the program ends by what a tool came to; what stands against it is reported.
-fn ended<R: Print + Eprint>(rt: &R, end: Result<ToolEnd, Unserved>) -> ExitStatus {
-    let end = match end {
-        Ok(end) => end,
-        Err(unserved) => return not_served(rt, unserved),
-    };
-    if let Err(halted) = &end {
-        if let Err(status) = told(rt, halted) {
-            return status;
-        }
-    }
-    status_of_tool(&end)
-}
-
-/// Reports what stands against a tool: of a text on standard output, else on standard error.
-///
-/// # Errors
-///
-/// How the program ends where standard output takes nothing.
-fn told<R: Print + Eprint>(rt: &R, halted: &Halted) -> Result<(), ExitStatus> {
-    match halted {
-        Halted::Text(stop) => match println!(rt; "{stop}") {
-            Ok(()) => Ok(()),
-            Err(error) => Err(not_printed(rt, &error)),
+/// How the program ends by what a tool came to; what stands against it is reported, of a text on
+/// standard output, else on standard error.
+fn ended<R: Print + Eprint>(rt: &R, end: ToolEnd) -> ExitStatus {
+    match end {
+        Ok(Served::Done) => ExitStatus::Accepted,
+        Ok(Served::NoMemory | Served::Failed) => ExitStatus::Failed,
+        Err(ToolStop::Unserved(unserved)) => not_served(rt, unserved),
+        Err(ToolStop::Text(stop)) => match println!(rt; "{stop}") {
+            Ok(()) => ExitStatus::of_stop(&stop),
+            Err(error) => not_printed(rt, &error),
         },
-        Halted::Building(stop) => {
-            let _told = HostNotice { rt }.halts(stop);
-            Ok(())
+        Err(ToolStop::Line(stop)) => {
+            let _told = HostNotice { rt }.halts(&stop);
+            status_of_live_stop(&stop)
         }
     }
 }

@@ -1,0 +1,5 @@
+mod FileFronts
+pub mod KeptNotes
+pub mod MeantOut
+mod ReportedLines
+mod UnusedValues

@@ -1,0 +1,3 @@
+mod PlaysOut
+mod RunsOut
+mod ScenarioFaults
