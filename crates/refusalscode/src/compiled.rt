@@ -2,9 +2,9 @@
 
 ghost use Rattle.std.specs.Prelude.{◌≡◌, ◌<◌, [], ◌∷◌, IfOk, Some, length, slice_get};
 ghost use Rattle.std.specs.Arc.{arc_value};
-ghost use Rattle.ilcompile.specs.Rows.{averaging, bodies_of_averaging, functions, limited, task};
-ghost use Rattle.ilcompile.specs.Rows.{two_jumps, whole, words_of_averaging, words_of_limited};
-ghost use Rattle.ilcompile.specs.Rows.{truth, words_of_two_jumps};
+ghost use Rattle.ilcompile.specs.Rows.{averaging, bodies_of_averaging, calling, functions, limited};
+ghost use Rattle.ilcompile.specs.Rows.{task, truth, two_jumps, whole, words_calling};
+ghost use Rattle.ilcompile.specs.Rows.{words_of_averaging, words_of_limited, words_of_two_jumps};
 ghost use Rattle.ilverify.specs.Verdicts.{Accepted};
 ghost use Rattle.refusalscode.specs.Plans.{HasFirst};
 
@@ -33,7 +33,17 @@ pub fn jumps_lead_to_their_labels(alloc: Global, plan: &Plan) -> Result<Code, Al
     compile(alloc, plan, 0)
 }
 
+/// `call_before_its_arguments`: a block was called before its arguments were passed.
+pub fn arguments_stand_before_their_call(alloc: Global, plan: &Plan) -> Result<Code, AllocError>
+    requires some { 0 < length plan.now.tasks }
+    requires first { HasFirst plan.now [] (task (calling ∷ []) (whole 500 ∷ [])) }
+    ensures { IfOk result (λ code. code.instructions ≡ words_calling) }
+{
+    compile(alloc, plan, 0)
+}
+
 /// `starting_values_are_given_to_the_inputs`: a function's starting values went to its inputs.
+/// `second_argument_goes_to_the_first_input`: the second argument of a call went to the first.
 pub fn starting_values_go_to_variables(alloc: Global, plan: &Plan) -> Result<Code, AllocError>
     requires some { 0 < length plan.now.tasks }
     requires first { HasFirst plan.now functions

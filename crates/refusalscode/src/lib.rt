@@ -21,6 +21,7 @@ pub mod images;
 pub mod known;
 pub mod machines;
 pub mod packing;
+pub mod places;
 pub mod ready;
 pub mod rows;
 pub mod verdicts;
