@@ -4,10 +4,12 @@ use Rattle.std.proofs.Common.{IfOk, false, inl, inr, refl, sym, ap, arith, lengt
 use Rattle.std.specs.Fmt.{decimal}
 use Rattle.std.specs.Io.KnownBytes.{Appends, Consumes}
 use Rattle.std.proofs.KnownBytes.{Appends-trans}
+use Rattle.transact.specs.declared.marks.Reply.{Reply}
+use Rattle.transact.specs.declared.marks.Reply.TheVariants.{Quiet, Answer, Damaged, Lost}
 use Rattle.liveline.specs.Exchanges.{IsExchange, LineState}
 use Rattle.liveline.specs.Greetings.{Ends, IsGreeted, ended, ends}
-use Rattle.liveline.specs.Lines.{IsMessage, fault_line, greeting, hear_line, line_end, numbered_answer}
-use Rattle.liveline.specs.Lines.{numbered_greeting}
+use Rattle.liveline.specs.Lines.{IsMessage, IsReply, fault_line, greeting, hear_line, line_end}
+use Rattle.liveline.specs.Lines.{numbered_answer, numbered_greeting}
 
 -- bytes that were read of a text begin it
 pub record BeginBy (text bytes : List ℕ) (left : Option (List ℕ)) : Type 0 where
@@ -36,6 +38,25 @@ no_message (Ok message) old new text is short said =
     let read = begin_by old.unread new.unread text (said.line ++ line_end) is said.answer in
     let long = message_long message said.line said.says in
     absurd (omega
+    (arith, ap length read.are, length-append (said.line ++ line_end) read.rest, length-append said.line line_end))
+
+-- ---- a reply
+
+reply_of_four : (reply : Reply) (line : List ℕ) → IsReply reply line → length line < 5 → reply ≡ Lost
+reply_of_four Quiet line says short = absurd (omega (arith, ap length says))
+reply_of_four (Answer byte) line says short =
+    absurd (omega (arith, ap length says.1, length-append (codes "answer ") says.0))
+reply_of_four Damaged line says short = absurd (omega (arith, ap length says))
+reply_of_four Lost line says short = refl
+
+-- a text of five bytes says that a frame was lost, or nothing
+pub lost_alone : {E : Type 0} (asked : List ℕ) (given : Result Reply E) (old new : LineState) (text : List ℕ)
+    → old.unread ≡ Some text → length text < 6
+    → IfOk given (λ reply. IsExchange asked (λ line. IsReply reply line) old new) → IfOk given (λ reply. reply ≡ Lost)
+lost_alone asked (Err fault) old new text is short said = tt
+lost_alone asked (Ok reply) old new text is short said =
+    let read = begin_by old.unread new.unread text (said.line ++ line_end) is said.answer in
+    reply_of_four reply said.line said.says (omega
     (arith, ap length read.are, length-append (said.line ++ line_end) read.rest, length-append said.line line_end))
 
 -- ---- a greeting

@@ -12,6 +12,7 @@
 #![tactic(auto)]
 
 pub mod bindings;
+pub mod clocks;
 pub mod events;
 pub mod frames;
 pub mod lines;

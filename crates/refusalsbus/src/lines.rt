@@ -1,7 +1,7 @@
 //! Buses and clocks of any kind, and buses behind a line.
 
 ghost use Rattle.std.specs.Prelude.{◌≡◌, ◌<◌, ◌≤◌, ◌++◌, [], ◌∷◌, All, IfOk, IfSome, None, Some};
-ghost use Rattle.std.specs.Prelude.{false, length, true};
+ghost use Rattle.std.specs.Prelude.{codes, false, length, true};
 ghost use Rattle.std.specs.Io.KnownBytes.{Appends};
 ghost use Rattle.buslink.specs.BusLog.{mark_of_send};
 ghost use Rattle.liveline.specs.Exchanges.{IsAtMost};
@@ -66,7 +66,8 @@ pub fn end_of_a_clock_is_kept<C: Clock>(clock: &mut C) -> Option<u64>
     clock.now()
 }
 
-/// `clock_goes_back`: a clock gave a moment before one that it had given.
+/// `clock_goes_back`, `it_goes_back_with_its_timer`: a clock gave a moment before one that it had
+/// given.
 pub fn clock_does_not_go_back<C: Clock>(clock: &mut C) -> Option<u64>
     ensures { IfSome result (λ moment. All (λ earlier. earlier ≤ moment) (C.log clock.old).given) }
 {
@@ -104,6 +105,18 @@ pub fn request_has_its_priority<R: Read + Drop, W: Write + Drop>(
     requires { 0 < bus.old.log.spare }
     ensures { IfOk result (λ reply.
         Appends bus.old.written bus.new.written (send_line frame 3 ++ line_end)) }
+{
+    bus.send(frame, 3)
+}
+
+/// `a_lost_frame_counts_as_quiet`: a frame that was lost was one that nothing answered.
+pub fn lost_frame_is_lost<R: Read + Drop, W: Write + Drop>(
+    bus: &mut LineBus<R, W>,
+    frame: Frame,
+) -> Result<Reply, Fault>
+    requires spare { 0 < bus.old.log.spare }
+    requires text { bus.old.unread ≡ Some (codes "lost\n") }
+    ensures { IfOk result (λ reply. reply ≡ Reply.Lost) }
 {
     bus.send(frame, 3)
 }
