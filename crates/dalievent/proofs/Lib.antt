@@ -1,1 +1,1 @@
-pub mod SourceMessages
+mod SourceMessages

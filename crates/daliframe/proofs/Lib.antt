@@ -1,1 +1,1 @@
-pub mod Selectors
+mod Selectors

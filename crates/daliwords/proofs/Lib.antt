@@ -1,2 +1,2 @@
-pub mod NamedBlocks
-pub mod WrittenCommands
+mod NamedBlocks
+mod WrittenCommands

@@ -1,2 +1,2 @@
-pub mod Spellings
-pub mod Tables
+mod Spellings
+mod Tables

@@ -1,5 +1,5 @@
 pub mod Blocks
 pub mod Inputs
-pub mod Parts
+mod Parts
 pub mod Ports
 pub mod Stores

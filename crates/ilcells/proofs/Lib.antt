@@ -1,8 +1,8 @@
-pub mod BitEnds
-pub mod Bits
+mod BitEnds
+mod Bits
 pub mod Places
-pub mod RowAccess
-pub mod RowEnds
-pub mod RowStarts
+mod RowAccess
+mod RowEnds
+mod RowStarts
 pub mod RowWrites
-pub mod Rows
+mod Rows

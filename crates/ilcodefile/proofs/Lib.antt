@@ -1,9 +1,9 @@
-pub mod BodyOrder
-pub mod FieldLaws
+mod BodyOrder
+mod FieldLaws
 pub mod FirstFaults
-pub mod Lawful
-pub mod Lengths
-pub mod OneCode
-pub mod Parts
-pub mod Sections
-pub mod Starts
+mod Lawful
+mod Lengths
+mod OneCode
+mod Parts
+mod Sections
+mod Starts

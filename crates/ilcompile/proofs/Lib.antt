@@ -1,32 +1,32 @@
 pub mod Beginnings
-pub mod BodyRuns
-pub mod BodyStarts
-pub mod BodyWords
-pub mod CallRuns
-pub mod CodeEnds
+mod BodyRuns
+mod BodyStarts
+mod BodyWords
+mod CallRuns
+mod CodeEnds
 pub mod CodeLemmas
-pub mod Functions
-pub mod Gives
-pub mod Held
-pub mod InvokeRuns
-pub mod Known
-pub mod Labels
-pub mod Lawful
-pub mod LineRuns
-pub mod Meant
-pub mod Named
-pub mod NamedLines
-pub mod OldWords
-pub mod Picked
-pub mod Reaches
-pub mod Runs
-pub mod ScanRuns
-pub mod Seen
-pub mod Shows
-pub mod Sizes
-pub mod Slots
-pub mod Stands
-pub mod Starts
-pub mod TreeRuns
-pub mod TwoPasses
-pub mod UsedFunctions
+mod Functions
+mod Gives
+mod Held
+mod InvokeRuns
+mod Known
+mod Labels
+mod Lawful
+mod LineRuns
+mod Meant
+mod Named
+mod NamedLines
+mod OldWords
+mod Picked
+mod Reaches
+mod Runs
+mod ScanRuns
+mod Seen
+mod Shows
+mod Sizes
+mod Slots
+mod Stands
+mod Starts
+mod TreeRuns
+mod TwoPasses
+mod UsedFunctions

@@ -1,11 +1,11 @@
-pub mod Collected
-pub mod ExternalFaults
+mod Collected
+mod ExternalFaults
 pub mod FoundOrder
-pub mod Kept
+mod Kept
 pub mod Least
 pub mod OneCause
 pub mod Parts
-pub mod Places
+mod Places
 pub mod Subranges
-pub mod TwiceAddresses
+mod TwiceAddresses
 pub mod TwiceLast

@@ -1,15 +1,15 @@
 pub mod Commits
-pub mod Equality
+mod Equality
 pub mod LastingSlots
-pub mod Overrides
+mod Overrides
 pub mod Places
-pub mod RowCommits
-pub mod RowIndex
+mod RowCommits
+mod RowIndex
 pub mod RowKinds
-pub mod RowOpening
-pub mod RowOverrides
-pub mod RowReady
-pub mod RowSlots
-pub mod RowTaking
-pub mod SameStarts
+mod RowOpening
+mod RowOverrides
+mod RowReady
+mod RowSlots
+mod RowTaking
+mod SameStarts
 pub mod StoredSlots

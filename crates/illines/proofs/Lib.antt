@@ -1,10 +1,10 @@
-pub mod CallLaws
-pub mod Contents
+mod CallLaws
+mod Contents
 pub mod Delimiters
 pub mod Ends
 pub mod Extends
 pub mod InstructionLaws
-pub mod InvocationLaws
-pub mod LineEnds
+mod InvocationLaws
+mod LineEnds
 pub mod OperandLaws
 pub mod Shallow

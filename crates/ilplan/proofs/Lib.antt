@@ -1,9 +1,9 @@
 pub mod Beginnings
-pub mod BegunPlans
+mod BegunPlans
 pub mod BegunScans
 pub mod CallsAdded
-pub mod Declared
+mod Declared
 pub mod EachOnce
-pub mod Keys
-pub mod StoredSlots
+mod Keys
+mod StoredSlots
 pub mod Used

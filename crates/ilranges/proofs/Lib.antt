@@ -1,41 +1,41 @@
-pub mod Causes
+mod Causes
 pub mod CausesAtWords
-pub mod ChunkJoins
-pub mod ChunkPlaces
-pub mod Comparisons
-pub mod EntryMeetings
-pub mod FunctionRanges
-pub mod JoinRows
-pub mod JoinValues
-pub mod KnownTypes
+mod ChunkJoins
+mod ChunkPlaces
+mod Comparisons
+mod EntryMeetings
+mod FunctionRanges
+mod JoinRows
+mod JoinValues
+mod KnownTypes
 pub mod Knowns
-pub mod Lists
-pub mod MarkEquality
-pub mod OrderFunctions
+mod Lists
+mod MarkEquality
+mod OrderFunctions
 pub mod OrderMarks
-pub mod OrderOperators
+mod OrderOperators
 pub mod OrderRefusals
 pub mod OrderWays
-pub mod OrderWords
-pub mod ResultCauses
-pub mod ResultRanges
-pub mod RuleLawful
-pub mod RuleNames
-pub mod RuleOperators
-pub mod RuleStores
+mod OrderWords
+mod ResultCauses
+mod ResultRanges
+mod RuleLawful
+mod RuleNames
+mod RuleOperators
+mod RuleStores
 pub mod SafetyCalls
 pub mod SafetyFits
-pub mod SafetyJumps
-pub mod SafetyMarks
+mod SafetyJumps
+mod SafetyMarks
 pub mod SafetySteps
-pub mod SafetyStores
-pub mod SafetyValues
-pub mod SafetyWords
-pub mod SlotResets
-pub mod Undefined
-pub mod UndefinedOperators
-pub mod UndefinedStores
-pub mod UndefinedValues
-pub mod UndefinedWrites
-pub mod WordCauses
+mod SafetyStores
+mod SafetyValues
+mod SafetyWords
+mod SlotResets
+mod Undefined
+mod UndefinedOperators
+mod UndefinedStores
+mod UndefinedValues
+mod UndefinedWrites
+mod WordCauses
 pub mod WordParentheses

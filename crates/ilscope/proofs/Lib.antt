@@ -1,11 +1,11 @@
 pub mod Declared
-pub mod FilledTables
+mod FilledTables
 pub mod LeastOfDeclarations
-pub mod LookedUp
+mod LookedUp
 pub mod Numbered
 pub mod OneFault
-pub mod OneMore
-pub mod SameTypes
+mod OneMore
+mod SameTypes
 pub mod Sound
-pub mod Spelling
+mod Spelling
 pub mod Typed

@@ -1,6 +1,6 @@
 mod Counting
-pub mod Grown
-pub mod KeptFunctions
+mod Grown
+mod KeptFunctions
 pub mod KeptMeaning
 pub mod KeptSizes
-pub mod Spelled
+mod Spelled

@@ -1,51 +1,51 @@
-pub mod CountingPrograms
-pub mod CountingUses
-pub mod DeepFunctions
-pub mod ExcessFaults
-pub mod FaultParts
-pub mod FunctionLines
-pub mod FunctionNames
-pub mod FunctionsUsed
-pub mod GlobalLocations
-pub mod Instances
-pub mod LabelRenaming
-pub mod Lists
-pub mod MarkedFunctions
-pub mod Named
-pub mod NamedLines
-pub mod Names
-pub mod NumberingBodies
-pub mod NumberingGlobals
-pub mod NumberingInstances
-pub mod NumberingLabels
-pub mod NumberingLines
-pub mod NumberingPlaces
-pub mod NumberingPorts
-pub mod Once
-pub mod Pairs
-pub mod PastParts
-pub mod PlacedLists
-pub mod PlacedTasks
-pub mod PlanFunctions
-pub mod PlanLawful
-pub mod PlanLimits
-pub mod PlanTasks
-pub mod PlannedUses
-pub mod PlanningInstances
+mod CountingPrograms
+mod CountingUses
+mod DeepFunctions
+mod ExcessFaults
+mod FaultParts
+mod FunctionLines
+mod FunctionNames
+mod FunctionsUsed
+mod GlobalLocations
+mod Instances
+mod LabelRenaming
+mod Lists
+mod MarkedFunctions
+mod Named
+mod NamedLines
+mod Names
+mod NumberingBodies
+mod NumberingGlobals
+mod NumberingInstances
+mod NumberingLabels
+mod NumberingLines
+mod NumberingPlaces
+mod NumberingPorts
+mod Once
+mod Pairs
+mod PastParts
+mod PlacedLists
+mod PlacedTasks
+mod PlanFunctions
+mod PlanLawful
+mod PlanLimits
+mod PlanTasks
+mod PlannedUses
+mod PlanningInstances
 pub mod SameMeaning
-pub mod Sharing
-pub mod SlotBounds
-pub mod SlotGlobals
-pub mod SlotOrder
-pub mod SlotTypes
-pub mod Standing
-pub mod TaskCases
-pub mod TaskInstances
-pub mod TaskNames
-pub mod TaskPartLists
-pub mod TaskSets
-pub mod TextBodies
-pub mod UsesAlike
-pub mod WordPast
-pub mod WrittenTwiceFaults
-pub mod WrittenTwiceTasks
+mod Sharing
+mod SlotBounds
+mod SlotGlobals
+mod SlotOrder
+mod SlotTypes
+mod Standing
+mod TaskCases
+mod TaskInstances
+mod TaskNames
+mod TaskPartLists
+mod TaskSets
+mod TextBodies
+mod UsesAlike
+mod WordPast
+mod WrittenTwiceFaults
+mod WrittenTwiceTasks

@@ -1,24 +1,24 @@
-pub mod Apart
-pub mod Causes
-pub mod ConfigurationLaws
-pub mod Counts
-pub mod Cut
-pub mod DeclarationLaws
-pub mod Declared
-pub mod Depths
-pub mod Following
-pub mod Free
-pub mod FunctionLaws
-pub mod FunctionParts
-pub mod FunctionTokens
-pub mod GlobalLaws
-pub mod Inner
-pub mod Instructions
-pub mod Laws
-pub mod Operators
-pub mod Sorted
+mod Apart
+mod Causes
+mod ConfigurationLaws
+mod Counts
+mod Cut
+mod DeclarationLaws
+mod Declared
+mod Depths
+mod Following
+mod Free
+mod FunctionLaws
+mod FunctionParts
+mod FunctionTokens
+mod GlobalLaws
+mod Inner
+mod Instructions
+mod Laws
+mod Operators
+mod Sorted
 pub mod Sources
-pub mod Tame
-pub mod TaskLaws
-pub mod Texts
-pub mod Tokens
+mod Tame
+mod TaskLaws
+mod Texts
+mod Tokens

@@ -1,24 +1,24 @@
-pub mod BlanksAgain
+mod BlanksAgain
 pub mod Choices
-pub mod Comments
-pub mod DigitLaws
-pub mod DigitsAgain
+mod Comments
+mod DigitLaws
+mod DigitsAgain
 pub mod Exact
-pub mod Fallen
+mod Fallen
 pub mod Firm
-pub mod FrontsAgain
+mod FrontsAgain
 pub mod Laws
 pub mod Loops
-pub mod NumbersAgain
-pub mod OverBlanks
-pub mod OverDigits
+mod NumbersAgain
+mod OverBlanks
+mod OverDigits
 pub mod Repeats
 pub mod Reporting
 pub mod ReservedWords
 pub mod Selects
-pub mod Spelled
-pub mod TimeLaws
-pub mod TimesAgain
-pub mod TokenLaws
-pub mod WordRows
-pub mod WordsAgain
+mod Spelled
+mod TimeLaws
+mod TimesAgain
+mod TokenLaws
+mod WordRows
+mod WordsAgain

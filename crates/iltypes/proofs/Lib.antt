@@ -3,9 +3,9 @@ pub mod Corners
 pub mod Equality
 pub mod Fitting
 pub mod Limits
-pub mod Magnitudes
-pub mod Numbers
+mod Magnitudes
+mod Numbers
 pub mod OperatorEquality
-pub mod Quotients
-pub mod Remainders
+mod Quotients
+mod Remainders
 pub mod TypeTests

@@ -1,11 +1,11 @@
-pub mod ArgumentPorts
-pub mod Bodies
-pub mod CallsRead
-pub mod FunctionsFound
-pub mod JumpFaults
+mod ArgumentPorts
+mod Bodies
+mod CallsRead
+mod FunctionsFound
+mod JumpFaults
 pub mod LabelNumbers
 pub mod Lists
-pub mod PortNumbers
+mod PortNumbers
 pub mod SameNames
-pub mod StoredExternals
-pub mod StoredGlobals
+mod StoredExternals
+mod StoredGlobals

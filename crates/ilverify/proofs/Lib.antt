@@ -1,5 +1,5 @@
 mod BodyEnds
-pub mod Bounds
+mod Bounds
 mod CalledBodies
 mod Chains
 mod Fills
@@ -14,7 +14,7 @@ mod PassWays
 mod Passings
 mod Placed
 mod Raises
-pub mod Refusals
+mod Refusals
 mod RequestBounds
 mod RequestMoves
 mod RequestPass

@@ -1,2 +1,2 @@
-pub mod Functions
-pub mod Ones
+mod Functions
+mod Ones

@@ -1,2 +1,2 @@
 mod Lineups
-pub mod Lines
+mod Lines

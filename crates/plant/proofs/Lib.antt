@@ -1,25 +1,25 @@
-pub mod Answering
-pub mod BoundOn
-pub mod Choosing
-pub mod Committing
+mod Answering
+mod BoundOn
+mod Choosing
+mod Committing
 pub mod Counting
-pub mod Dropping
-pub mod FirstCounts
-pub mod FirstHandouts
-pub mod FirstImages
-pub mod Found
-pub mod Fullness
-pub mod GivenInputs
-pub mod Growing
-pub mod Handing
-pub mod Indexed
-pub mod Overriding
+mod Dropping
+mod FirstCounts
+mod FirstHandouts
+mod FirstImages
+mod Found
+mod Fullness
+mod GivenInputs
+mod Growing
+mod Handing
+mod Indexed
+mod Overriding
 pub mod Owning
-pub mod Pending
-pub mod Refusing
-pub mod Reporting
-pub mod Reports
-pub mod Starting
-pub mod States
-pub mod Taking
-pub mod Written
+mod Pending
+mod Refusing
+mod Reporting
+mod Reports
+mod Starting
+mod States
+mod Taking
+mod Written

@@ -1,11 +1,11 @@
-pub mod Answering
-pub mod ComingUp
+mod Answering
+mod ComingUp
 pub mod Fitting
-pub mod Handing
+mod Handing
 pub mod LocatedLevels
 pub mod Offered
 pub mod OwedAt
 pub mod OwedBits
 pub mod OwedChanges
-pub mod Starting
+mod Starting
 pub mod StoredLevels

@@ -1,13 +1,13 @@
-pub mod Again
+mod Again
 mod AnyDown
-pub mod BusSteps
+mod BusSteps
 pub mod Counts
 pub mod Handed
-pub mod Hearing
+mod Hearing
 pub mod Linked
-pub mod Order
+mod Order
 pub mod Refused
-pub mod Scanned
+mod Scanned
 pub mod Sent
-pub mod Settled
+mod Settled
 pub mod Turned

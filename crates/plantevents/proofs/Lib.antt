@@ -1,22 +1,22 @@
-pub mod Arriving
+mod Arriving
 pub mod ComingUp
-pub mod Counts
-pub mod Dropped
-pub mod Dropping
-pub mod GivenUp
+mod Counts
+mod Dropped
+mod Dropping
+mod GivenUp
 pub mod Handing
 pub mod Having
-pub mod Legality
-pub mod Linking
-pub mod LegalRows
+mod Legality
+mod Linking
+mod LegalRows
 pub mod Owing
 pub mod Parting
-pub mod Pending
-pub mod Scanning
-pub mod Showing
-pub mod Since
+mod Pending
+mod Scanning
+mod Showing
+mod Since
 pub mod Slots
-pub mod Taking
-pub mod Waiting
-pub mod Writes
-pub mod Writing
+mod Taking
+mod Waiting
+mod Writes
+mod Writing

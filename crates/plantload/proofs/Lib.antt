@@ -1,4 +1,4 @@
-pub mod CodeLemmas
+mod CodeLemmas
 mod KeptSetups
 mod MeantCodes
 mod MeantScans

@@ -1,7 +1,7 @@
-pub mod Answered
-pub mod Ending
-pub mod Filing
-pub mod Fitting
-pub mod Places
+mod Answered
+mod Ending
+mod Filing
+mod Fitting
+mod Places
 pub mod Refusing
-pub mod Since
+mod Since

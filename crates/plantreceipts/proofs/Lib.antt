@@ -1,5 +1,5 @@
 pub use Rattle.buslink.proofs.Eaching
 pub mod Noting
-pub mod Outcomes
+mod Outcomes
 pub mod Roles
-pub mod Seating
+mod Seating

@@ -1,5 +1,5 @@
 mod Accepting
-pub mod Desks
+mod Desks
 mod Empty
 mod Histories
 mod Runs

@@ -1,1 +1,1 @@
-pub mod Changing
+mod Changing

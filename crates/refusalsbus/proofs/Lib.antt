@@ -1,4 +1,4 @@
-pub mod Attempting
-pub mod Logs
-pub mod LostFrames
-pub mod ShortTexts
+mod Attempting
+mod Logs
+mod LostFrames
+mod ShortTexts

@@ -1,11 +1,11 @@
-pub mod FileFaults
-pub mod FirstTasks
-pub mod ImageSlots
-pub mod Joined
-pub mod Onward
-pub mod ReadyWords
-pub mod Results
-pub mod Scans
-pub mod Unsafe
-pub mod UnsafeCodes
-pub mod WorkedBounds
+mod FileFaults
+mod FirstTasks
+mod ImageSlots
+mod Joined
+mod Onward
+mod ReadyWords
+mod Results
+mod Scans
+mod Unsafe
+mod UnsafeCodes
+mod WorkedBounds

@@ -1,7 +1,7 @@
-pub mod KeptVariables
-pub mod Lexed
-pub mod ReadLines
-pub mod Results
-pub mod SmallNumbers
-pub mod Somewhere
-pub mod Words
+mod KeptVariables
+mod Lexed
+mod ReadLines
+mod Results
+mod SmallNumbers
+mod Somewhere
+mod Words

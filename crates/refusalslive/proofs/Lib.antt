@@ -1,4 +1,4 @@
-pub mod Installed
-pub mod Opened
-pub mod Results
-pub mod SilentBuses
+mod Installed
+mod Opened
+mod Results
+mod SilentBuses

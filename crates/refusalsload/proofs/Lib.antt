@@ -1,7 +1,7 @@
-pub mod CommandLines
-pub mod Dotted
-pub mod Expecting
-pub mod Listed
-pub mod Results
-pub mod Spelled
-pub mod Tests
+mod CommandLines
+mod Dotted
+mod Expecting
+mod Listed
+mod Results
+mod Spelled
+mod Tests

@@ -1,11 +1,11 @@
-pub mod ComingUp
-pub mod Driven
-pub mod Filed
-pub mod Handed
-pub mod HeardFirst
-pub mod Played
-pub mod Refusing
-pub mod Results
-pub mod SentInTurn
-pub mod TaskTurns
-pub mod Turned
+mod ComingUp
+mod Driven
+mod Filed
+mod Handed
+mod HeardFirst
+mod Played
+mod Refusing
+mod Results
+mod SentInTurn
+mod TaskTurns
+mod Turned

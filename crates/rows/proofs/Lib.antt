@@ -1,1 +1,1 @@
-pub mod Mending
+mod Mending

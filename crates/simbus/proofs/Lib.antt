@@ -1,7 +1,7 @@
-pub mod Fields
-pub mod Happened
-pub mod Keeping
-pub mod Replies
-pub mod ScenarioSetups
-pub mod Stages
-pub mod Steps
+mod Fields
+mod Happened
+mod Keeping
+mod Replies
+mod ScenarioSetups
+mod Stages
+mod Steps

@@ -1,3 +1,3 @@
-pub mod Choosing
-pub mod Following
-pub mod Listing
+mod Choosing
+mod Following
+mod Listing

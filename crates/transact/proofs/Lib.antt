@@ -1,2 +1,2 @@
-pub mod AttemptLemmas
-pub mod ReadingLemmas
+mod AttemptLemmas
+mod ReadingLemmas

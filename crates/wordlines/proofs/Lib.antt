@@ -1,14 +1,14 @@
-pub mod BindingReading
-pub mod BoundSources
-pub mod CutParts
-pub mod Declarations
-pub mod GearStarts
-pub mod KnownStatements
-pub mod LineFiles
+mod BindingReading
+mod BoundSources
+mod CutParts
+mod Declarations
+mod GearStarts
+mod KnownStatements
+mod LineFiles
 pub mod LineReading
 pub mod Orders
 pub mod SaidTries
-pub mod ScenarioReading
-pub mod Spelled
+mod ScenarioReading
+mod Spelled
 pub mod SpelledNumbers
-pub mod TickRows
+mod TickRows

@@ -4,7 +4,7 @@ mod Following
 pub mod FromFirst
 mod GoneOn
 mod Left
-pub mod Lists
-pub mod Parting
-pub mod Told
+mod Lists
+mod Parting
+mod Told
 mod Whole
