@@ -66,9 +66,9 @@ module _ (b n : ℕ) (origin : Origin) (t : FrameList) (report noted : ReportPar
 pub tries_made : (p : Shown) (b made asked : ℕ) → made ≡ asked → asked ≡ tries_of p.plant b → made ≡ tries_of p.plant b
 tries_made p b made asked is told = is ∙ told
 
-pub tries_before : (p handed : Shown) (e : Event) (b made asked : ℕ) → handed ≡ grown p e → made ≡ asked
-    → asked ≡ tries_of handed.plant b → made ≡ tries_of p.plant b
-tries_before p handed e b made asked grew is told = is ∙ told ∙ ap (λ (x : Shown). tries_of x.plant b) grew
+pub tries_after : (p handed : Shown) (e : Event) (b made asked : ℕ) → handed ≡ grown p e → made ≡ asked
+    → asked ≡ tries_of p.plant b → made ≡ tries_of handed.plant b
+tries_after p handed e b made asked grew is told = is ∙ told ∙ ap (λ (x : Shown). tries_of x.plant b) (sym grew)
 
 pub step_of_sent : (b : ℕ) (p q : Shown) (log after : BusLog) → HasSent p b log q after → IsBusStep b p q log after
 step_of_sent b p q log after is =

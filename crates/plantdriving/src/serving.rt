@@ -86,8 +86,7 @@ pub fn send_next<B: Bus, O: Observer<B>>(
         unreachable!()
     };
     let told = observer.note_handout(handed.number, bus, handed.origin, &handed.transaction);
-    let tries = plant.tries(bus);
-    let report = perform(line, &handed.transaction, tries);
+    let report = perform(line, &handed.transaction, handed.tries);
     let noted = report.clone().unwrap();
     note_report(plant, bus, handed.number, noted);
     tell_report(

@@ -282,6 +282,8 @@ impl<'a, J: LockStart, T: Tally, K: Tallies<T>> Shared<'a, J, T, K> {
             (λ handed p. grown p (event.Hand bus handed.origin handed.transaction)) result }
         ensures noted { IfOk result (λ handed. IsNoted handed.number
             (event.Hand bus handed.origin handed.transaction) share.old share.new) }
+        ensures tries { IfOk result (λ handed. handed.tries ≡ tries_of J.start.plant bus) }
+        ensures range { IfOk result (λ handed. AreTries handed.tries) }
         ensures up { OnOk result (shown_down (whole share.old) ≡ false) }
         ensures err { OnErr result (share.new ≡ share.old) }
     {
@@ -290,16 +292,6 @@ impl<'a, J: LockStart, T: Tally, K: Tallies<T>> Shared<'a, J, T, K> {
         let answer = locked.hand(rt, share, bus);
         locked.meet(share);
         answer
-    }
-
-    /// The attempts that a bus has for a transaction, 1 to 5.
-    pub fn tries<R: Wait>(&self, rt: &R, share: &mut Share<'a, J, T>, bus: u8) -> u8
-        requires role { share.old.role ≡ roles.Bus bus }
-        ensures value { result ≡ tries_of J.start.plant bus }
-        ensures range { AreTries result }
-        ensures same { share.new ≡ share.old }
-    {
-        self.locked.lock(rt).tries(share, bus)
     }
 
     /// Notes the report of a transaction. That of the one that the Share shows open is not refused,

@@ -135,8 +135,7 @@ fn send_once<'a, B: Bus, J: LockStart + Links, T: Tally, K: Tallies<T>, O: Obser
     served.line.room(MOST_SENT)?;
     let handed = shared.hand(rt, &mut served.share, bus)?;
     let told = tell_handed::<B, O>(observer, bus, &handed);
-    let tries = shared.tries(rt, &mut served.share, bus);
-    let report = perform(&mut served.line, &handed.transaction, tries);
+    let report = perform(&mut served.line, &handed.transaction, handed.tries);
     let outcome = report.outcome();
     let noted = report.clone().unwrap();
     let Ok(()) = shared.note_report(rt, &mut served.share, bus, handed.number, noted) else {

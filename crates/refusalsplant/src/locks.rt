@@ -1,6 +1,6 @@
 //! Calls under the lock.
 
-ghost use Rattle.std.specs.Prelude.{◌≡◌, IfSome, OnOk, Some, false, slice_get};
+ghost use Rattle.std.specs.Prelude.{◌≡◌, IfOk, IfSome, OnOk, Some, false, slice_get};
 ghost use Rattle.plantevents.specs.declared.event.Event.TheVariants as event;
 ghost use Rattle.plantevents.specs.declared.role.Role.TheVariants as roles;
 ghost use Rattle.plantevents.specs.Histories.{moment as last_moment};
@@ -9,7 +9,7 @@ ghost use Rattle.plantevents.specs.Parts.{part, placed, shown_down, shown_moment
 ghost use Rattle.plantevents.specs.Plants.{tries_of};
 ghost use Rattle.plantreceipts.specs.Receipts.{whole};
 
-use plant::CallRefusal;
+use plant::{CallRefusal, Handed};
 use plantevents::{each_event_is_in_one_part, what_a_part_shows};
 use plantlock::{Final, LockStart, Share, Shared, Shares};
 use planttallies::{Tallies, Tally};
@@ -87,13 +87,13 @@ pub fn locked_bus_has_its_own_attempts<'a, J: LockStart, T: Tally, K: Tallies<T>
     rt: &R,
     shared: &Shared<'a, J, T, K>,
     share: &mut Share<'a, J, T>,
-) -> u8
+) -> Result<Handed, CallRefusal>
     requires role { share.old.role ≡ roles.Bus 1 }
     requires own { tries_of J.start.plant 1 ≡ 5 }
     requires before { tries_of J.start.plant 0 ≡ 3 }
-    ensures { result ≡ 5 }
+    ensures { IfOk result (λ handed. handed.tries ≡ 5) }
 {
-    shared.tries(rt, share, 1)
+    shared.hand(rt, share, 1)
 }
 
 /// `bus_63_is_not_met_at_the_close`: the receipts of the last bus were not its events.

@@ -74,6 +74,16 @@ pub fn bus_has_its_own_attempts(plant: &Plant) -> u8
     plant.tries(0)
 }
 
+/// `handed_with_the_attempts_of_the_next_bus`: what a bus was handed was to be tried as often as on
+/// the bus behind it.
+pub fn what_is_handed_has_its_bus_attempts(plant: &mut Plant) -> Result<Handed, CallRefusal>
+    requires own { tries_of plant.old.plant 0 ≡ 5 }
+    requires next { tries_of plant.old.plant 1 ≡ 3 }
+    ensures { IfOk result (λ handed. handed.tries ≡ 5) }
+{
+    plant.hand(0)
+}
+
 /// `many_buses_with_a_short_history_opened`: a plant of 17 buses was opened with a history of 100
 /// events.
 pub fn many_buses_want_a_longer_history(alloc: Global, setup: Setup) -> Result<Plant, OpenFault>

@@ -2,11 +2,13 @@
 
 ghost use Rattle.std.specs.Prelude.{◌≡◌, ◌<◌, OnOk, OnErr, IfOk, IfSome, length, slice_get, Some};
 ghost use Rattle.std.specs.Prelude.{None, false, is_some, nat_lt, option_map};
+ghost use Rattle.limits.specs.Limits.{AreTries};
 ghost use Rattle.busqueue.specs.Queues.{class_number};
 ghost use Rattle.plantevents.specs.declared.event.Event.TheVariants as event;
 ghost use Rattle.plantevents.specs.Histories.{hand as open_hand};
 ghost use Rattle.plantevents.specs.Waiting.{waiting, class_handouts, handouts};
 ghost use Rattle.plantevents.specs.Legal.{IsHand, IsUp};
+ghost use Rattle.plantevents.specs.Plants.{tries_of};
 ghost use Rattle.plantbuses.specs.HandingSteps.{IsOfClass, handout_of};
 ghost use Rattle.plant.specs.Refusals.{GivesFirst, hand_cases};
 ghost use Rattle.plant.specs.Shown.{grown, is_full};
@@ -29,6 +31,8 @@ pub struct Handed {
     pub origin: Origin,
     /// What is to be sent, under that number.
     pub transaction: Transaction,
+    /// The attempts that the bus has for it, 1 to 5.
+    pub tries: u8,
 }
 
 impl Plant {
@@ -131,12 +135,15 @@ impl Plant {
         ensures number { IfOk result (λ handed. handed.number ≡ length self.old.history) }
         ensures next { IfOk result (λ handed. IsHand self.old.plant self.old.history bus
             handed.origin handed.transaction) }
+        ensures tries { IfOk result (λ handed. handed.tries ≡ tries_of self.old.plant bus) }
+        ensures range { IfOk result (λ handed. AreTries handed.tries) }
         ensures grown { IfOk result (λ handed. self.new
             ≡ grown self.old (event.Hand bus handed.origin handed.transaction)) }
         ensures err { OnErr result (self.new ≡ self.old) }
     {
         let next = self.handout_for(bus)?;
         let number = self.length;
+        let tries = self.tries(bus);
         other_events_leave_tasks();
         note_hand(&mut self.buses, bus, number, next);
         note_handed(&mut self.owed, bus, next);
@@ -151,6 +158,7 @@ impl Plant {
             number,
             origin: next.origin(),
             transaction: transaction_of(next),
+            tries,
         })
     }
 }

@@ -41,6 +41,8 @@ impl<'a, J: LockStart, T: Tally, K: Tallies<T>> LockedPlant<'a, J, T, K> {
         ensures noted { IfOk result (λ handed. IsNoted handed.number
             (event.Hand bus handed.origin handed.transaction) share.old share.new) }
         ensures number { IfOk result (λ handed. handed.number ≡ length self.old.history) }
+        ensures tries { IfOk result (λ handed. handed.tries ≡ tries_of J.start.plant bus) }
+        ensures range { IfOk result (λ handed. AreTries handed.tries) }
         ensures up { OnOk result (shown_down (whole share.old) ≡ false) }
         ensures refused { GivesFirst (hand_cases self.old bus) result }
         ensures err { OnErr result ((self.new ≡ self.old) × (share.new ≡ share.old)) }
@@ -55,17 +57,6 @@ impl<'a, J: LockStart, T: Tally, K: Tallies<T>> LockedPlant<'a, J, T, K> {
         };
         self.notes.file(rt, share, &self.plant, event);
         Ok(handed)
-    }
-
-    /// The attempts that a bus has for a transaction.
-    pub fn tries(&mut self, share: &mut Share<'a, J, T>, bus: u8) -> u8
-        requires role { share.old.role ≡ roles.Bus bus }
-        ensures value { result ≡ tries_of J.start.plant bus }
-        ensures range { AreTries result }
-        ensures same { (self.new ≡ self.old) × (share.new ≡ share.old) }
-    {
-        self.notes.meet(share);
-        self.plant.tries(bus)
     }
 
     /// Notes the report of a transaction. That of the one that the Share shows open is not refused,

@@ -4,7 +4,7 @@ use Rattle.transact.specs.Attempts.{ReportParts}
 use Rattle.plantevents.specs.declared.event.Event.TheVariants.{Hand}
 use Rattle.plant.specs.Matches.{IsReportOf}
 use Rattle.plantdriving.proofs.Handed.{hand_is_open}
-use Rattle.plantdriving.proofs.Sent.{copied, has_sent, tries_before, tries_made}
+use Rattle.plantdriving.proofs.Sent.{copied, has_sent, tries_after, tries_made}
 use Rattle.plantdriving.proofs.serving.send_next.Goals as goal
 
 pub note_report-requires-clause-open : goal.note_report-requires-clause-open
@@ -15,8 +15,8 @@ note_report-requires-clause-open g c =
       is_open = hand_is_open c.args.plant.now c.hand.new.self c.args.bus handed.number handed.origin
           handed.transaction report.transaction c.in-Ok.ensures.next.up.known c.in-Ok.ensures.grown
           c.in-Ok.ensures.number c.perform-report.ensures.report.0;
-      tries = tries_made c.hand.new.self c.args.bus report.tries c.tries-tries.result c.perform-report.ensures.tries
-          c.tries-tries.ensures.value;
+      tries = tries_after c.args.plant.now c.hand.new.self (Hand c.args.bus handed.origin handed.transaction) c.args.bus
+          report.tries handed.tries c.in-Ok.ensures.grown c.perform-report.ensures.tries c.in-Ok.ensures.tries;
     })
 
 pub returns-in_err-tell_report-clause-sends : goal.returns-in_err-tell_report-clause-sends
@@ -30,8 +30,8 @@ returns-in_err-tell_report-clause-sends g c =
     c.note_report.new.plant (g.B.Bus.log c.args.line.now) (g.B.Bus.log c.room.new.self)
     (g.B.Bus.log c.perform-report.new.bus) c.in-Ok.ensures.grown c.in-Ok.ensures.number c.perform-report.ensures.report.0 same
     c.in_ok-allows_hand.ensures.refused c.in-Ok.ensures.next c.perform-report.ensures.report.1
-    (tries_before c.args.plant.now c.hand.new.self (Hand c.args.bus handed.origin handed.transaction) c.args.bus
-    report.tries c.tries-tries.result c.in-Ok.ensures.grown c.perform-report.ensures.tries c.tries-tries.ensures.value)
+    (tries_made c.args.plant.now c.args.bus report.tries handed.tries c.perform-report.ensures.tries
+    c.in-Ok.ensures.tries)
     c.note_report.ensures.fine c.note_report.ensures.failed c.in_ok-room.ensures.same c.perform-report.ensures.bus)
 
 pub returns-clause-sends : goal.returns-clause-sends
@@ -42,6 +42,6 @@ returns-clause-sends g c =
     c.note_report.new.plant (g.B.Bus.log c.args.line.now) (g.B.Bus.log c.room.new.self)
     (g.B.Bus.log c.perform-report.new.bus) c.in-Ok.ensures.grown c.in-Ok.ensures.number c.perform-report.ensures.report.0 same
     c.in_ok-allows_hand.ensures.refused c.in-Ok.ensures.next c.perform-report.ensures.report.1
-    (tries_before c.args.plant.now c.hand.new.self (Hand c.args.bus handed.origin handed.transaction) c.args.bus
-    report.tries c.tries-tries.result c.in-Ok.ensures.grown c.perform-report.ensures.tries c.tries-tries.ensures.value)
+    (tries_made c.args.plant.now c.args.bus report.tries handed.tries c.perform-report.ensures.tries
+    c.in-Ok.ensures.tries)
     c.note_report.ensures.fine c.note_report.ensures.failed c.in_ok-room.ensures.same c.perform-report.ensures.bus

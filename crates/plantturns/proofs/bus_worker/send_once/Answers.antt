@@ -23,10 +23,8 @@ unreachable-requires g c =
     let shows = shows_handed handed.number c.args.bus handed.origin handed.transaction noted.transaction
     c.args.served.now.share c.hand.new.share c.in_ok-handed.ensures.noted
     (ap (λ (r : ReportParts). r.transaction) same ∙ c.perform-report.ensures.report.0) in
-    true≢false (sym (c.in_default.ensures.open
-    (subst (λ (s : ShareParts). ShowsTransaction (whole s) handed.number noted.transaction)
-    (sym c.tries-tries.ensures.same) shows)
-    (ap (λ (r : ReportParts). r.tries) same ∙ c.perform-report.ensures.tries ∙ c.tries-tries.ensures.value)))
+    true≢false (sym (c.in_default.ensures.open shows
+    (ap (λ (r : ReportParts). r.tries) same ∙ c.perform-report.ensures.tries ∙ c.in_ok-handed.ensures.tries)))
 
 pub returns-in_err-handed-clause-sends : goal.returns-in_err-handed-clause-sends
 unfolding IsAnswered
@@ -46,10 +44,8 @@ returns-clause-sends g c =
     let line = c.down_where_failed-down.new.served.line in
     let copy = copied c.clone.result c.unwrap-noted.result report c.unwrap-noted.ensures c.clone.ensures.cases in
     let noted : IsNoted c.in-Ok.ensures.noted.0 (Done c.args.bus handed.number report) c.hand.new.share before =
-    subst (λ (s : ShareParts). IsNoted c.in-Ok.ensures.noted.0 (Done c.args.bus handed.number report) s before)
-    c.tries-tries.ensures.same
-    (subst (λ (r : ReportParts). IsNoted c.in-Ok.ensures.noted.0 (Done c.args.bus handed.number r)
-    c.tries-tries.new.share before) copy c.in-Ok.ensures.noted.1) in
+    subst (λ (r : ReportParts). IsNoted c.in-Ok.ensures.noted.0 (Done c.args.bus handed.number r)
+    c.hand.new.share before) copy c.in-Ok.ensures.noted.1 in
     let down : IsDownWhereFailed c.args.bus report.outcome c.down_where_failed-down.result before
     c.down_where_failed-down.new.served.share =
     subst (λ (o : Outcome). IsDownWhereFailed c.args.bus o c.down_where_failed-down.result before

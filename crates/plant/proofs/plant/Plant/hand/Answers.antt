@@ -9,6 +9,9 @@ use Rattle.plant.specs.Shown.{Shown, is_full, plant_of}
 use Rattle.plant.proofs.Handing.{hand_says}
 use Rattle.plant.proofs.plant.Plant.hand.Goals as goal
 
+pub tries-tries-requires : goal.tries-tries-requires
+tries-tries-requires c = c.in_ok-next.ensures.up.known
+
 pub invariant_of-self : goal.invariant_of-self
 invariant_of-self c =
     let p = c.self.inside in let says = c.self.invariant in let plant = plant_of p.setup p.workers in

@@ -1,4 +1,5 @@
-use Rattle.std.proofs.Common.{sym}
+use Rattle.std.proofs.Common.{◌∙◌, ap, sym}
+use Rattle.plantevents.specs.Plants.{Plant, tries_of}
 use Rattle.plantlock.proofs.Refusing.{error_as, hand_up}
 use Rattle.plantlock.proofs.locked_plant.LockedPlant.hand.Goals as goal
 
@@ -15,6 +16,8 @@ returns-in_err-handed g c =
       event = tt;
       noted = tt;
       number = tt;
+      tries = tt;
+      range = tt;
       up = tt;
       refused = c.in_err-handed.ensures.refused;
       err = (c.in_err-handed.ensures.err, c.meet.ensures.same.1);
@@ -43,6 +46,8 @@ returns g c =
       noted = rw (given.number)
           (rw (c.meet.ensures.same.1, c.copy_of.ensures) at (c.file.ensures.noted p (rw c.copy_of.ensures given.grown)));
       number = given.number;
+      tries = given.tries ∙ ap (λ (x : Plant). tries_of x c.args.bus) c.self.invariant.1.same_plant;
+      range = given.range;
       up = hand_up p c.args.share.now c.args.bus c.requires.role (c.meet.ensures.agree p c.self.invariant.1).0
           (c.what_a_part_shows.ensures.down c.args.bus p.history) given.refused;
       refused = given.refused;
