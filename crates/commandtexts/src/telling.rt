@@ -4,14 +4,13 @@ use crate::objects::{write_explanation, write_noted, write_sizes, write_stop, wr
 use commandfiles::{Disk, Unserved, add_texts, bytes_at, named_at};
 use commandline::Question;
 use exitstatus::{ExitStatus, PlayStop};
-use explaining::{AskedText, explain_binding, explain_load, explain_scenario};
+use explaining::{AskedText, explain_binding, explain_load, explain_scenario, load_with_source};
 use ilcompile::Setup;
 use illisting::{NOTE_NAMES, NotedFiles, NotesAsked, Played, is_note_name, write_load, write_task};
 use ilsource::Source;
 use inquiries::{Stop, UnknownTask, binding_of, check};
 use options::Files;
 use page::Page;
-use plantload::{LoadFault, source_and_plan};
 use simbus::Scenario;
 use std::alloc::Global;
 use std::io;
@@ -192,23 +191,10 @@ fn setup_of(alloc: Global, sheets: &Sheets) -> Result<Setup, Stop> {
 /// The binding's fault, else what stands against the text.
 fn noted_of(alloc: Global, sheets: &Sheets) -> Result<(Setup, Source), Stop> {
     let binding = binding_of(alloc, sheets.binding.as_deref())?;
-    Ok(load_with_source(alloc, &sheets.text, &binding)?)
-}
-
-/// The setup of a text and its source program: the text is read once for both. The source program
-/// takes memory while codes are verified, so who asks for no notes takes [`check`].
-///
-/// # Errors
-///
-/// What stands against the text, or that the allocator is out of memory.
-fn load_with_source(
-    alloc: Global,
-    text: &[u8],
-    binding: &Binding,
-) -> Result<(Setup, Source), LoadFault> {
-    let (source, plan) = source_and_plan(alloc, text, binding)?;
-    let setup = plantload::setup_of(alloc, plan)?;
-    Ok((setup, source))
+    match load_with_source(alloc, &sheets.text, &binding) {
+        Ok(loaded) => Ok(loaded),
+        Err(stop) => Err(Stop::from(stop.fault)),
+    }
 }
 
 /// How the program ends by whether a note is denied.
@@ -369,15 +355,16 @@ fn explained_text(
 ) -> io::Result<Explained> {
     match load_with_source(alloc, &sheets.text, binding) {
         Ok((setup, source)) => explained_scenario(alloc, out, asked, sheets, setup, source),
-        Err(fault) => {
+        Err(stop) => {
             let text = AskedText {
                 path: asked.files.text,
                 text: &sheets.text,
                 binding,
                 is_bound,
             };
-            explain_load(alloc, out, &text, &fault)?;
-            Ok(Explained::Refused(ExitStatus::of_stop(&Stop::from(fault))))
+            explain_load(alloc, out, &text, &stop)?;
+            let status = ExitStatus::of_stop(&Stop::from(stop.fault));
+            Ok(Explained::Refused(status))
         }
     }
 }

@@ -2,6 +2,7 @@
 
 use crate::code_answers::{Refused, answer_code};
 use crate::further::Further;
+use crate::loading::NotLoaded;
 use crate::requests::print_requests;
 use crate::ways::print_way;
 use explaincures::{
@@ -32,10 +33,10 @@ pub fn explain_load<W: Write>(
     alloc: Global,
     out: &mut W,
     asked: &AskedText,
-    fault: &LoadFault,
+    stop: &NotLoaded,
 ) -> io::Result<()> {
-    match fault {
-        LoadFault::Text(TextFault::At { line, col, cause }) => {
+    match (&stop.fault, &stop.source) {
+        (LoadFault::Text(TextFault::At { line, col, cause }), _) => {
             let at = place_of(asked.text, *line, *col);
             let answer = answer_text(alloc, asked, at, *cause)?;
             let (number, what) = (cause.number(), answer.what.as_str());
@@ -43,16 +44,16 @@ pub fn explain_load<W: Write>(
             write_at(out, asked, (*line, *col), &title, &answer)?;
             write_behind(alloc, out, asked, &answer)
         }
-        LoadFault::Name(NameFault::At { line, col, cause }) => {
+        (LoadFault::Name(NameFault::At { line, col, cause }), Some(source)) => {
             let at = place_of(asked.text, *line, *col);
-            let answer = answer_name(alloc, asked, at, *cause)?;
+            let answer = answer_name(alloc, asked, source, at, *cause)?;
             let (number, what) = (cause.number(), answer.what.as_str());
             let title = format!(in alloc; "name fault {number}: {what}")?;
             write_at(out, asked, (*line, *col), &title, &answer)?;
-            let others = OtherFaults::of(alloc, asked, *line, *col, *cause)?;
+            let others = OtherFaults::of(alloc, asked, source, at, *cause)?;
             write_others(out, asked, &others)
         }
-        LoadFault::Code(refused) => explain_code(alloc, out, asked, refused),
+        (LoadFault::Code(refused), _) => explain_code(alloc, out, asked, refused),
         _ => write_memory(out),
     }
 }

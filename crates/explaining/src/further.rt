@@ -4,6 +4,7 @@ ghost use Rattle.std.specs.Prelude.{◌<◌, length};
 
 use crate::code_answers::{Refused, answer_code};
 use crate::cured::CuredText;
+use crate::loading::{NotLoaded, load_with_source};
 use explaincures::{AskedText, Example, FaultAnswer, TriedLines, first_column, place_of};
 use explainnames::{OtherFaults, answer_name};
 use explaintexts::answer_text;
@@ -11,10 +12,11 @@ use ilcompile::compile;
 use illisting::{TaskNames, functions_in};
 use ilplan::Plan;
 use ilscope::{NameCause, NameFault};
+use ilsource::Source;
 use iltext::{TextCause, TextFault};
 use ilverify::{Refusal, VerifyError, verify};
 use page::Page;
-use plantload::{LoadFault, load};
+use plantload::LoadFault;
 use std::alloc::{AllocError, Global};
 use std::io;
 use std::io::Write;
@@ -91,13 +93,25 @@ impl<'a> Further<'a> {
     /// whole its faults of names.
     fn add_next(&mut self, cured: &CuredText) -> Result<Option<TriedLines>, AllocError> {
         let text = cured.asked(self.asked);
-        match load(self.alloc, text.text, text.binding) {
-            Err(LoadFault::Memory) => Err(AllocError),
-            Err(LoadFault::Text(TextFault::At { line, col, cause })) => {
-                self.add_text(cured, (line, col), cause)
+        let Err(stop) = load_with_source(self.alloc, text.text, text.binding) else {
+            return Ok(None);
+        };
+        self.add_stop(cured, &stop)
+    }
+
+    /// Adds why a cured text is not loaded, and gives the lines that cure it.
+    fn add_stop(
+        &mut self,
+        cured: &CuredText,
+        stop: &NotLoaded,
+    ) -> Result<Option<TriedLines>, AllocError> {
+        match (&stop.fault, &stop.source) {
+            (LoadFault::Memory, _) => Err(AllocError),
+            (LoadFault::Text(TextFault::At { line, col, cause }), _) => {
+                self.add_text(cured, (*line, *col), *cause)
             }
-            Err(LoadFault::Name(NameFault::At { line, col, cause })) => {
-                self.add_names(cured, (line, col), cause)?;
+            (LoadFault::Name(NameFault::At { line, col, cause }), Some(source)) => {
+                self.add_names(cured, source, (*line, *col), *cause)?;
                 Ok(None)
             }
             _ => Ok(None),
@@ -136,14 +150,15 @@ impl<'a> Further<'a> {
     fn add_names(
         &mut self,
         cured: &CuredText,
+        source: &Source,
         (line, col): (usize, usize),
         cause: NameCause,
     ) -> Result<(), AllocError> {
         let text = cured.asked(self.asked);
         let at = place_of(text.text, line, col);
-        let FaultAnswer { what, .. } = answer_name(self.alloc, &text, at, cause)?;
+        let FaultAnswer { what, .. } = answer_name(self.alloc, &text, source, at, cause)?;
         self.add_name(cured, (line, col), cause, &what)?;
-        let others = OtherFaults::of(self.alloc, &text, line, col, cause)?;
+        let others = OtherFaults::of(self.alloc, &text, source, at, cause)?;
         for other in &others.named {
             self.add_name(cured, (other.line, other.col), other.cause, &other.what)?;
         }

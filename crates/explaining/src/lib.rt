@@ -2,13 +2,14 @@
 //! could stand there, and the cure; of a refused word also what is known there, and a way that
 //! leads there.
 //!
-//! What crosses the boundary: the bytes of a file with its fault ([`AskedText`] for a text), and
-//! lines on a writer. Lines that are proposed as they could read were tried: with them the text is
+//! What crosses the boundary: the bytes of a file with its fault ([`AskedText`] for a text, which
+//! [`load_with_source`] loads or says why not), and lines on a writer. Lines that are proposed as they could read were tried: with them the text is
 //! accepted, or its fault is gone. What is printed is fixed by worked rows (crates/rows); of the
 //! code it is proved that it is safe and ends.
 //!
 //! ```text
-//! explain_load(alloc, &mut out, &asked, &fault)?;
+//! let Err(stop) = load_with_source(alloc, &text, &binding) else { .. };
+//! explain_load(alloc, &mut out, &asked, &stop)?;
 //! ```
 #![tactic(auto)]
 
@@ -19,6 +20,7 @@ mod cured;
 mod files;
 mod further;
 mod guards;
+mod loading;
 mod mismatch;
 mod requests;
 mod taken;
@@ -26,3 +28,4 @@ mod ways;
 
 pub use explaincures::AskedText;
 pub use files::{explain_binding, explain_load, explain_scenario};
+pub use loading::{NotLoaded, load_with_source};

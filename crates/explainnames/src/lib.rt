@@ -6,8 +6,8 @@
 //! by worked rows (crates/rows); of the code it is proved that it is safe and ends.
 //!
 //! ```text
-//! let answer = answer_name(alloc, &asked, at, NameCause::Unknown)?;
-//! let others = OtherFaults::of(alloc, &asked, line, col, NameCause::Unknown)?;
+//! let answer = answer_name(alloc, &asked, &source, at, NameCause::Unknown)?;
+//! let others = OtherFaults::of(alloc, &asked, &source, at, NameCause::Unknown)?;
 //! ```
 #![tactic(auto)]
 

@@ -12,10 +12,10 @@ use crate::tokens::{Role, same_before};
 use crate::unknown_names::said_of_unknown;
 use explaincures::{AskedText, FaultAnswer, Surroundings};
 use ilscope::{NameCause, Scope};
-use iltext::parse;
+use ilsource::Source;
 use std::alloc::{AllocError, Global};
 
-/// What is said of a cause at a place of a text.
+/// What is said of a cause at a place of a text with this source program.
 ///
 /// # Errors
 ///
@@ -23,14 +23,11 @@ use std::alloc::{AllocError, Global};
 pub fn answer_name(
     alloc: Global,
     asked: &AskedText,
+    source: &Source,
     at: usize,
     cause: NameCause,
 ) -> Result<FaultAnswer, AllocError> {
-    // The text was parsed before, so that memory alone is refused here.
-    let Ok(source) = parse(alloc, asked.text) else {
-        return Err(AllocError);
-    };
-    let scope = Scope::of(alloc, &source, asked.binding)?;
+    let scope = Scope::of(alloc, source, asked.binding)?;
     let place = FaultPlace::of(alloc, asked, &scope, at)?;
     place.answer(&said_of(&place, cause)?)
 }

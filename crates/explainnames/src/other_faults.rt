@@ -3,10 +3,10 @@
 use crate::name_answers::what_of;
 use crate::standing::FaultPlace;
 use crate::told::Told;
-use explaincures::{AskedText, place_of};
+use explaincures::AskedText;
 use ilscope::{Found, NameCause, NameFault, Scope, report_of};
+use ilsource::Source;
 use ilsyms::next_fault;
-use iltext::parse;
 use std::alloc::{AllocError, Global};
 
 /// How many faults are named at most.
@@ -38,7 +38,7 @@ pub struct NamedFault {
 }
 
 impl OtherFaults {
-    /// Those of a text behind the fault at this place.
+    /// Those of a text with this source program, behind the fault at a place.
     ///
     /// # Errors
     ///
@@ -46,16 +46,11 @@ impl OtherFaults {
     pub fn of(
         alloc: Global,
         asked: &AskedText,
-        line: usize,
-        col: usize,
+        source: &Source,
+        at: usize,
         cause: NameCause,
     ) -> Result<OtherFaults, AllocError> {
-        // The text was parsed before, so that memory alone is refused here.
-        let Ok(source) = parse(alloc, asked.text) else {
-            return Err(AllocError);
-        };
-        let scope = Scope::of(alloc, &source, asked.binding)?;
-        let at = place_of(asked.text, line, col);
+        let scope = Scope::of(alloc, source, asked.binding)?;
         OtherFaults::behind(alloc, asked, &scope, Found { at, cause })
     }
 
