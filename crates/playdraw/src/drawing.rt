@@ -1,26 +1,32 @@
 //! A picture that is drawn while a scenario is played.
 
-use crate::marking::{mark, mark_levels, mark_values};
-use crate::things::{Happening, Thing};
+use crate::levels::{Lamp, level_of};
 use daliframe::{Frame, Frame24};
 use daliwords::{FrameWords, FramesWords};
+use iltypes::Value;
 use plant::Plant;
 use plantdriving::Observer;
 use plantevents::Origin;
-use playpicture::{Column, Moment, Picture};
+use playpicture::{Column, Kind, Moment, Picture, Row, Sign};
 use playwatch::Watch;
 use simbus::{Scenario, SimBus};
 use std::alloc::{AllocError, Global};
 use std::io;
-use transact::{Report, Transaction};
+use transact::{Outcome, Reply, Report, Transaction};
+use wordlines::BoundSource;
 
 /// A picture that is drawn while a scenario is played. Its columns have the lines of the play.
 #[derive(Drop)]
 pub struct Drawing {
     pub(crate) alloc: Global,
+    /// Its first rows are those of the lamps. Rows of a kind stand in the order of what they show.
     pub(crate) picture: Picture,
-    /// What each row of the picture shows.
-    pub(crate) things: Vec<Thing>,
+    pub(crate) lamps: Vec<Lamp>,
+    /// The sources of the binding.
+    pub(crate) sources: Vec<BoundSource>,
+    /// The buses on which frames were heard of which nobody waits. Their rows stand behind those of
+    /// the sources.
+    strays: Vec<u8>,
     /// The values of the variables that are watched.
     pub(crate) watch: Watch,
 }
@@ -41,7 +47,9 @@ impl Drawing {
         let mut drawing = Drawing {
             alloc,
             picture: Picture::new(alloc),
-            things: Vec::new(alloc),
+            lamps: Vec::new(alloc),
+            sources: Vec::new(alloc),
+            strays: Vec::new(alloc),
             watch: Watch::of(alloc, plant, watched)?,
         };
         let plan = plant.setup().plan();
@@ -70,43 +78,49 @@ impl Drawing {
         Ok(picture)
     }
 
-    /// What a task is called.
-    fn task_name(&self, task: usize) -> &str {
-        for (row, thing) in self.picture.rows.iter().zip(self.things.iter()) {
-            if matches!(thing, Thing::Task { task: of, .. } if *of == task) {
-                return &row.name;
-            }
-        }
-        ""
-    }
-
-    /// Adds the line of what happened, and marks each row that shows it. What a report comes to is
-    /// marked apart, as are the values after a commit.
-    fn note(&mut self, happening: Happening, line: String) -> io::Result<()> {
-        self.add_line(&happening, line)?;
-        let is_marked = self.mark(&happening)?;
-        if let Happening::Heard(bus, _) = happening {
-            if !is_marked {
-                self.mark_stray(bus)?;
-            }
-        }
+    /// Adds a row.
+    pub(crate) fn add(
+        &mut self,
+        kind: Kind,
+        name: String,
+        place: String,
+        bus: Option<u8>,
+        first: Option<Sign>,
+    ) -> Result<(), AllocError> {
+        self.picture.rows.push(Row {
+            kind,
+            name,
+            place,
+            bus,
+            first,
+            marks: Vec::new(self.alloc),
+        })?;
         Ok(())
     }
 
-    /// Adds the line of what happened to the last column, or begins one with it.
-    fn add_line(&mut self, happening: &Happening, line: String) -> Result<(), AllocError> {
-        let (moment, bus, follows) = match *happening {
-            Happening::Ticked(milliseconds) => (Some(Moment { milliseconds }), None, false),
-            Happening::Heard(bus, _) => (None, Some(bus), false),
-            Happening::Handed(bus) | Happening::WentDown(bus) => (None, Some(bus), true),
-            _ => return add_below(&mut self.picture.columns, &line),
-        };
+    /// Begins a column with a line of what happened.
+    fn begin(
+        &mut self,
+        moment: Option<Moment>,
+        bus: Option<u8>,
+        follows: bool,
+        title: String,
+    ) -> Result<(), AllocError> {
         self.picture.columns.push(Column {
             moment,
             bus,
             follows,
-            title: line,
+            title,
         })?;
+        Ok(())
+    }
+
+    /// Adds a line to the last column.
+    fn go_on(&mut self, line: &str) -> Result<(), AllocError> {
+        if let Some(column) = self.picture.columns.last_mut() {
+            column.title.push_str("\n")?;
+            column.title.push_str(line)?;
+        }
         Ok(())
     }
 
@@ -115,48 +129,77 @@ impl Drawing {
         self.picture.columns.len().saturating_sub(1)
     }
 
-    /// Marks what happened in the last column. Whether a row shows it.
-    fn mark(&mut self, happening: &Happening) -> Result<bool, AllocError> {
+    /// Marks the row of this number among those of a kind, in the last column.
+    fn mark(&mut self, kind: Kind, number: usize, sign: Sign) -> Result<(), AllocError> {
         let column = self.column();
-        mark(&mut self.picture.rows, &self.things, column, happening)
-    }
-
-    /// Marks that a frame was heard of which nobody waits, in the row of its bus for such, which is
-    /// made where it is not there.
-    fn mark_stray(&mut self, bus: u8) -> Result<(), AllocError> {
-        if !self.mark(&Happening::Strayed(bus))? {
-            let name = String::from_str(self.alloc, "no source")?;
-            self.add(Thing::Stray(bus), name, None)?;
-            self.mark(&Happening::Strayed(bus))?;
+        let mut rows = self.picture.rows.iter_mut().filter(|row| row.kind == kind);
+        match rows.nth(number) {
+            Some(row) => row.set(column, sign),
+            None => Ok(()),
         }
-        Ok(())
     }
-}
 
-/// Adds a line to the last column.
-fn add_below(columns: &mut Vec<Column>, line: &str) -> Result<(), AllocError> {
-    if let Some(column) = columns.last_mut() {
-        column.title.push_str("\n")?;
-        column.title.push_str(line)?;
+    /// Marks an event at each source of which it is; where there is none, in the row of its bus for
+    /// such, which is made where it is not there.
+    fn mark_event(&mut self, bus: u8, frame: Frame24) -> Result<(), AllocError> {
+        let column = self.column();
+        let mut is_known = false;
+        let rows = self.picture.rows.iter_mut();
+        let rows = rows.filter(|row| row.kind == Kind::Source);
+        for (row, bound) in rows.zip(self.sources.iter()) {
+            match bound.source.information(frame) {
+                Some(information) if bound.bus == bus => {
+                    row.set(column, Sign::Event(information))?;
+                    is_known = true;
+                }
+                _ => {}
+            }
+        }
+        if is_known {
+            return Ok(());
+        }
+        if !self.strays.contains(&bus) {
+            let name = String::from_str(self.alloc, "no source")?;
+            let place = format!(in self.alloc; "bus {bus}")?;
+            self.add(Kind::Source, name, place, Some(bus), None)?;
+            self.strays.push(bus)?;
+        }
+        let stray = self.strays.iter().position(|of| *of == bus);
+        let number = self.sources.len().saturating_add(stray.unwrap_or(0));
+        self.mark(Kind::Source, number, Sign::Stray)
     }
-    Ok(())
+
+    /// What a task is called.
+    fn task_name(&self, task: usize) -> &str {
+        let mut tasks = self
+            .picture
+            .rows
+            .iter()
+            .filter(|row| row.kind == Kind::Task);
+        match tasks.nth(task) {
+            Some(row) => &row.name,
+            None => "",
+        }
+    }
 }
 
 impl Observer<SimBus> for Drawing {
-    fn note_tick(&mut self, _place: u64, moment: u64) -> io::Result<()> {
-        let line = format!(in self.alloc; "tick {moment}")?;
-        self.note(Happening::Ticked(moment), line)
+    fn note_tick(&mut self, _place: u64, milliseconds: u64) -> io::Result<()> {
+        let line = format!(in self.alloc; "tick {milliseconds}")?;
+        Ok(self.begin(Some(Moment { milliseconds }), None, false, line)?)
     }
 
     fn note_frame(&mut self, _place: u64, bus: u8, frame: Frame24) -> io::Result<()> {
         let words = FrameWords(Frame::Forward24(frame));
         let line = format!(in self.alloc; "heard {bus} {frame}  {words}")?;
-        self.note(Happening::Heard(bus, frame), line)
+        self.begin(None, Some(bus), false, line)?;
+        Ok(self.mark_event(bus, frame)?)
     }
 
     fn note_take(&mut self, _place: u64, _worker: usize, task: usize) -> io::Result<()> {
         let line = format!(in self.alloc; "take {}", self.task_name(task))?;
-        self.note(Happening::Taken(task), line)
+        self.go_on(&line)?;
+        Ok(self.mark(Kind::Task, task, Sign::Scan)?)
     }
 
     fn note_commit(
@@ -167,16 +210,22 @@ impl Observer<SimBus> for Drawing {
         steps: u32,
     ) -> io::Result<()> {
         let line = format!(in self.alloc; "commit {} steps {steps}", self.task_name(task))?;
-        self.note(Happening::Committed, line)
+        Ok(self.go_on(&line)?)
     }
 
+    /// Marks the values that are new.
     fn note_values(&mut self, plant: &Plant, task: usize) -> io::Result<()> {
         self.watch.note_values(plant, task)?;
         let column = self.column();
-        mark_values(&mut self.picture.rows, &self.things, column, &self.watch)?;
+        let rows = self.picture.rows.iter_mut();
+        let rows = rows.filter(|row| row.kind == Kind::Variable);
+        for (row, watched) in rows.zip(self.watch.variables()) {
+            row.set(column, sign_of_value(watched.value()))?;
+        }
         Ok(())
     }
 
+    /// Adds the transaction with its class and its frames, and behind two blanks these in words.
     fn note_handout(
         &mut self,
         _place: u64,
@@ -184,10 +233,16 @@ impl Observer<SimBus> for Drawing {
         _origin: Origin,
         transaction: &Transaction,
     ) -> io::Result<()> {
-        let line = handed_line(self.alloc, bus, transaction)?;
-        self.note(Happening::Handed(bus), line)
+        let alloc = self.alloc;
+        let mut line = format!(in alloc; "hand {bus} {}", transaction.first_priority())?;
+        for frame in transaction.frames() {
+            line.push_str(&format!(in alloc; " {frame}")?)?;
+        }
+        line.push_str(&format!(in alloc; "  {}", FramesWords(transaction.frames()))?)?;
+        Ok(self.begin(None, Some(bus), true, line)?)
     }
 
+    /// Marks what the report comes to, and the levels that are new after it.
     fn note_report(
         &mut self,
         _place: u64,
@@ -197,26 +252,40 @@ impl Observer<SimBus> for Drawing {
     ) -> io::Result<()> {
         let outcome = report.outcome();
         let done = format!(in self.alloc; "done {bus} {outcome}")?;
-        self.note(Happening::Reported(bus, outcome), done)?;
+        self.go_on(&done)?;
+        self.mark(Kind::Bus, usize::from(bus), sign_of_outcome(outcome))?;
         let column = self.column();
-        let rows = &mut self.picture.rows;
-        mark_levels(rows, &self.things, column, bus, report, line)?;
+        for (lamp, row) in self.lamps.iter().zip(&mut self.picture.rows) {
+            match level_of(line, report, lamp.address) {
+                Some(level) if lamp.bus == bus => row.set(column, Sign::Level(level))?,
+                _ => {}
+            }
+        }
         Ok(())
     }
 
     fn note_down(&mut self, _place: u64, bus: u8) -> io::Result<()> {
         let line = format!(in self.alloc; "down {bus}")?;
-        self.note(Happening::WentDown(bus), line)
+        self.begin(None, Some(bus), true, line)?;
+        Ok(self.mark(Kind::Bus, usize::from(bus), Sign::Down)?)
     }
 }
 
-/// A transaction that a bus was handed, with its class and its frames, and behind two blanks these
-/// in words.
-fn handed_line(alloc: Global, bus: u8, transaction: &Transaction) -> Result<String, AllocError> {
-    let mut line = format!(in alloc; "hand {bus} {}", transaction.first_priority())?;
-    for frame in transaction.frames() {
-        line.push_str(&format!(in alloc; " {frame}")?)?;
+/// The mark of a value.
+pub(crate) fn sign_of_value(value: Value) -> Sign {
+    match value {
+        Value::Bool(truth) => Sign::Truth(truth),
+        Value::Int(number) => Sign::Number(number),
     }
-    line.push_str(&format!(in alloc; "  {}", FramesWords(transaction.frames()))?)?;
-    Ok(line)
+}
+
+/// The mark of a transaction that ended so.
+fn sign_of_outcome(outcome: Outcome) -> Sign {
+    match outcome {
+        Outcome::Done(Reply::Quiet) => Sign::Sent,
+        Outcome::Done(Reply::Answer(value)) => Sign::Answered(value),
+        Outcome::Done(Reply::Damaged) => Sign::Damaged,
+        Outcome::Done(Reply::Lost) | Outcome::GaveUp => Sign::GaveUp,
+        Outcome::Failed => Sign::Failed,
+    }
 }

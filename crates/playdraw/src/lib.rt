@@ -7,15 +7,14 @@
 //! safe and ends.
 //!
 //! ```text
-//! let mut drawing = Drawing::new(alloc, setup.plan(), &scenario, None)?;
+//! let mut drawing = Drawing::new(alloc, &plant, &scenario, names)?;
 //! let ending = play_on(alloc, &mut installation, &scenario, &mut drawing)?;
 //! let picture = drawing.into_picture(&notes)?;
 //! ```
 #![tactic(auto)]
 
 mod drawing;
-mod marking;
+mod levels;
 mod rows;
-mod things;
 
 pub use drawing::Drawing;

@@ -2,19 +2,22 @@
 
 use page::Page;
 
-/// Writes a text with these numbers in place of its `{}`, one after the other.
-pub(crate) fn fill(page: &mut Page, text: &str, numbers: &[usize]) {
+/// Writes a form with these numbers, and then a text, in place of its `{}`, one after the other.
+pub(crate) fn fill(page: &mut Page, form: &str, numbers: &[usize], text: &str) {
     let mut next = numbers.iter();
-    for (number, piece) in text.split("{}").enumerate() {
-        if number > 0 {
-            page.count(next.next().copied().unwrap_or(0));
+    for (place, piece) in form.split("{}").enumerate() {
+        if place > 0 {
+            match next.next() {
+                Some(number) => page.count(*number),
+                None => write_plain(page, text),
+            }
         }
         page.text(piece);
     }
 }
 
-/// Writes text between the tags of an SVG: marks of tags are written as what stands for them.
-pub(crate) fn write_plain(page: &mut Page, text: &str) {
+/// Writes a text: marks of tags are written as what stands for them.
+fn write_plain(page: &mut Page, text: &str) {
     for letter in text.chars() {
         match letter {
             '&' => page.text("&amp;"),
@@ -29,13 +32,11 @@ pub(crate) fn write_plain(page: &mut Page, text: &str) {
 pub(crate) fn begin_words(page: &mut Page, class: &str, x: usize, y: usize) {
     page.text("<text class=\"");
     page.text(class);
-    fill(page, "\" x=\"{}\" y=\"{}\"", &[x, y]);
+    fill(page, "\" x=\"{}\" y=\"{}\">", &[x, y], "");
 }
 
 /// Writes a text with the looks of a class that begins at a place.
 pub(crate) fn write_words(page: &mut Page, class: &str, x: usize, y: usize, text: &str) {
     begin_words(page, class, x, y);
-    page.text(">");
-    write_plain(page, text);
-    page.text("</text>\n");
+    fill(page, "{}</text>\n", &[], text);
 }

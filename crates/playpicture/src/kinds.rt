@@ -3,41 +3,40 @@
 use crate::{Kind, Row};
 use std::alloc::{AllocError, Global};
 
-/// The kinds, in the order in which they are drawn.
-const KINDS: [Kind; 5] = [
-    Kind::Level,
-    Kind::Source,
-    Kind::Task,
-    Kind::Variable,
-    Kind::Bus,
+/// The kinds, in the order in which they are drawn, with what stands above their rows, and what is
+/// said of those without a mark.
+const KINDS: [(Kind, &str, &str); 5] = [
+    (Kind::Level, "LEVELS", "levels that never change"),
+    (
+        Kind::Source,
+        "BUTTONS AND SENSORS",
+        "sources without an event",
+    ),
+    (Kind::Task, "TASKS", "tasks that never ran"),
+    (Kind::Variable, "VARIABLES", "variables that never change"),
+    (Kind::Bus, "FRAMES", "buses without a frame"),
 ];
-
-/// The fewest rows without a mark that are folded: a line names them, and they are not drawn.
-const FEWEST: usize = 2;
-
-/// What stands above the rows of a kind, and what is said of those without a mark.
-pub(crate) fn words_of(kind: Kind) -> (&'static str, &'static str) {
-    match kind {
-        Kind::Level => ("LEVELS", "levels that never change"),
-        Kind::Source => ("BUTTONS AND SENSORS", "sources without an event"),
-        Kind::Task => ("TASKS", "tasks that never ran"),
-        Kind::Variable => ("VARIABLES", "variables that never change"),
-        Kind::Bus => ("FRAMES", "buses without a frame"),
-    }
-}
 
 /// The rows of a kind.
 #[derive(Drop)]
 pub(crate) struct Block {
     pub kind: Kind,
+    /// What stands above them.
+    pub heading: &'static str,
+    /// What is said of those without a mark.
+    silence: &'static str,
     /// How many are drawn.
     pub drawn: usize,
-    /// How many are folded.
+    /// How many are folded: they have no mark, a line names them, and they are not drawn.
     silent: usize,
     /// What is said of those that are folded, a line each.
     pub folded: Vec<String>,
-    /// Where they begin on a sheet, in pixels.
+    /// Where the first one begins on a sheet, in pixels.
     pub top: usize,
+    /// Where the last one that is drawn ends there.
+    pub end: usize,
+    /// Whether they are low there, since rows are many.
+    pub is_low: bool,
 }
 
 impl Block {
@@ -48,10 +47,12 @@ impl Block {
 
     /// Says of the rows that are folded what they are, in lines of this width at most, where a name
     /// is not wider.
-    fn fold(&mut self, alloc: Global, rows: &[Row], width: usize) -> Result<(), AllocError> {
-        let (_, silence) = words_of(self.kind);
-        let mut line = format!(in alloc; "{} {silence}:", self.silent)?;
+    pub fn fold(&mut self, alloc: Global, rows: &[Row], width: usize) -> Result<(), AllocError> {
         let mut left = self.silent;
+        if left == 0 {
+            return Ok(());
+        }
+        let mut line = format!(in alloc; "{left} {}:", self.silence)?;
         for row in rows {
             if row.kind == self.kind && row.marks.is_empty() {
                 left = left.saturating_sub(1);
@@ -68,51 +69,50 @@ impl Block {
     }
 }
 
-/// The rows of a picture, kind by kind, where there are any.
+/// The rows of a picture, kind by kind, where there are any. Those without a mark are folded where
+/// they are more than one.
 pub(crate) fn blocks_of(alloc: Global, rows: &[Row]) -> Result<Vec<Block>, AllocError> {
     let mut blocks = Vec::new(alloc);
-    for kind in KINDS {
-        let (all, silent) = count(rows, kind);
+    for (kind, heading, silence) in KINDS {
+        let mut all: usize = 0;
+        let mut silent: usize = 0;
+        for row in rows {
+            if row.kind == kind {
+                all = all.saturating_add(1);
+                silent = silent.saturating_add(usize::from(row.marks.is_empty()));
+            }
+        }
+        if silent < 2 {
+            silent = 0;
+        }
         if all > 0 {
-            let silent = if silent < FEWEST { 0 } else { silent };
             blocks.push(Block {
                 kind,
+                heading,
+                silence,
                 drawn: all.saturating_sub(silent),
                 silent,
                 folded: Vec::new(alloc),
                 top: 0,
+                end: 0,
+                is_low: false,
             })?;
         }
     }
     Ok(blocks)
 }
 
-/// How many rows of a kind there are, and how many of them have no mark.
-fn count(rows: &[Row], kind: Kind) -> (usize, usize) {
-    let mut all: usize = 0;
-    let mut silent: usize = 0;
-    for row in rows {
-        if row.kind == kind {
-            all = all.saturating_add(1);
-            silent = silent.saturating_add(usize::from(row.marks.is_empty()));
-        }
+/// A row without a mark in words, with its level or value where it has one, up to an end: by its
+/// place where it has no name.
+fn word_of(alloc: Global, row: &Row, end: &str) -> Result<String, AllocError> {
+    let name = match row.name.as_str() {
+        "-" => row.place.as_str(),
+        name => name,
+    };
+    match row.first {
+        Some(first) => format!(in alloc; " {name} {first}{end}"),
+        None => format!(in alloc; " {name}{end}"),
     }
-    (all, silent)
-}
-
-/// Says in lines of this width what the rows are that are folded.
-pub(crate) fn fold(
-    alloc: Global,
-    blocks: &mut [Block],
-    rows: &[Row],
-    width: usize,
-) -> Result<(), AllocError> {
-    for block in blocks {
-        if block.silent > 0 {
-            block.fold(alloc, rows, width)?;
-        }
-    }
-    Ok(())
 }
 
 /// The width of the widest names and places that are drawn, where letters of names and of places
@@ -129,17 +129,4 @@ pub(crate) fn widest_of(rows: &[Row], blocks: &[Block], name: usize, place: usiz
         }
     }
     widest
-}
-
-/// A row without a mark in words, with its level or value where it has one, up to an end: by its
-/// place where it has no name.
-fn word_of(alloc: Global, row: &Row, end: &str) -> Result<String, AllocError> {
-    let name = match row.name.as_str() {
-        "-" => row.place.as_str(),
-        name => name,
-    };
-    match row.first {
-        Some(first) => format!(in alloc; " {name} {first}{end}"),
-        None => format!(in alloc; " {name}{end}"),
-    }
 }

@@ -14,18 +14,15 @@
 mod axis;
 mod elements;
 mod kinds;
-mod labels;
 mod marks;
 mod moment;
 mod parts;
 mod regrouping;
-mod rows;
 mod sheet;
 mod signs;
 mod svg;
 mod svg_rows;
 mod text;
-mod text_rows;
 mod timeline;
 
 pub use moment::Moment;

@@ -2,7 +2,7 @@
 
 use crate::axis::Axis;
 use crate::signs::lasting;
-use crate::{Row, Sign};
+use crate::{Row, RowMark, Sign};
 use std::alloc::{AllocError, Global};
 
 /// What is marked of a row from one place to another.
@@ -18,29 +18,31 @@ pub(crate) struct Mark {
     pub is_new: bool,
 }
 
-/// The marks of a row on an axis, and before them what lasts when the axis begins.
+/// The marks of a row on an axis, and before them what lasts when the axis begins. Where there is no
+/// column, those of a first one stand at the end.
 pub(crate) fn marks_of(alloc: Global, row: &Row, axis: &Axis) -> Result<Vec<Mark>, AllocError> {
-    let mut marks: Vec<Mark> = Vec::new(alloc);
-    marks.push(Mark {
-        sign: lasting(row.before(axis.first)),
+    let (before, since) = row.split(axis.first);
+    let end = axis.first.saturating_add(axis.places.len().max(1));
+    let mut marks = Vec::new(alloc);
+    let mut last = Mark {
+        sign: lasting(before),
         x: axis.left,
         next: axis.right,
         is_new: false,
-    })?;
-    for mark in row.since(axis.first) {
-        if mark.column >= axis.end() {
+    };
+    for RowMark { column, sign } in since {
+        if *column >= end {
             break;
         }
-        let x = axis.place(mark.column).middle;
-        if let Some(last) = marks.last_mut() {
-            last.next = x;
-        }
-        marks.push(Mark {
-            sign: Some(mark.sign),
+        let (_, x) = axis.place(*column);
+        marks.push(Mark { next: x, ..last })?;
+        last = Mark {
+            sign: Some(*sign),
             x,
             next: axis.right,
             is_new: true,
-        })?;
+        };
     }
+    marks.push(last)?;
     Ok(marks)
 }

@@ -11,37 +11,30 @@ pub struct Moment {
 
 impl fmt::Display for Moment {
     fn fmt<W: fmt::Write>(&self, f: &mut fmt::Formatter<W>) -> fmt::Result {
-        if self.milliseconds == 0 {
-            return f.write_str("0s");
+        let (hours, minutes) = (
+            self.milliseconds / 3_600_000,
+            self.milliseconds / 60_000 % 60,
+        );
+        let (seconds, rest) = (self.milliseconds / 1000 % 60, self.milliseconds % 1000);
+        let (fraction, digits) = match (rest % 10, rest % 100) {
+            (0, 0) => (rest / 100, 1),
+            (0, _) => (rest / 10, 2),
+            _ => (rest, 3),
+        };
+        if hours > 0 {
+            write!(f, "{hours}h")?;
         }
-        write_part(f, self.milliseconds / 3_600_000, "h")?;
-        write_part(f, self.milliseconds / 60_000 % 60, "m")?;
-        write_seconds(f, self.milliseconds % 60_000)
+        if minutes > 0 {
+            write!(f, "{minutes}m")?;
+        }
+        if rest > 0 {
+            write!(f, "{seconds}.{fraction:0digits$}s")
+        } else if seconds > 0 || self.milliseconds == 0 {
+            write!(f, "{seconds}s")
+        } else {
+            Ok(())
+        }
     }
-}
-
-/// Writes how many of a unit a moment has, where it has any.
-fn write_part<W: fmt::Write>(f: &mut fmt::Formatter<W>, many: u64, unit: &str) -> fmt::Result {
-    if many == 0 {
-        return Ok(());
-    }
-    write!(f, "{many}{unit}")
-}
-
-/// Writes less than a minute, in milliseconds, where it is more than none, without zeros at the end
-/// of its fraction.
-fn write_seconds<W: fmt::Write>(f: &mut fmt::Formatter<W>, milliseconds: u64) -> fmt::Result {
-    let whole = milliseconds / 1000;
-    let rest = milliseconds % 1000;
-    let (fraction, digits) = match (rest % 10, rest % 100) {
-        (0, 0) => (rest / 100, 1),
-        (0, _) => (rest / 10, 2),
-        _ => (rest, 3),
-    };
-    if rest == 0 {
-        return write_part(f, whole, "s");
-    }
-    write!(f, "{whole}.{fraction:0digits$}s")
 }
 
 /// How many characters it takes to print this.

@@ -118,7 +118,8 @@ impl Row {
     ///
     /// The allocator is out of memory.
     pub fn set(&mut self, column: usize, sign: Sign) -> Result<(), AllocError> {
-        if lasting(self.before(usize::MAX)) == Some(sign) {
+        let (before, _) = self.split(usize::MAX);
+        if lasting(before) == Some(sign) {
             return Ok(());
         }
         match self.marks.last_mut() {
@@ -128,27 +129,13 @@ impl Row {
         Ok(())
     }
 
-    /// The last mark before a column; before the first one, what it was then.
-    pub(crate) fn before(&self, column: usize) -> Option<Sign> {
-        let Some(last) = self.marks_before(column).checked_sub(1) else {
-            return self.first;
-        };
-        match self.marks.get(last) {
-            Some(mark) => Some(mark.sign),
-            None => None,
+    /// What it was before a column, and its marks from there on.
+    pub(crate) fn split(&self, column: usize) -> (Option<Sign>, &[RowMark]) {
+        let past = self.marks.partition_point(|mark| mark.column < column);
+        let (past, marks) = self.marks.split_at(past);
+        match past.last() {
+            Some(mark) => (Some(mark.sign), marks),
+            None => (self.first, marks),
         }
-    }
-
-    /// The marks from a column on.
-    pub(crate) fn since(&self, column: usize) -> &[RowMark] {
-        match self.marks.get(self.marks_before(column)..) {
-            Some(marks) => marks,
-            None => &[],
-        }
-    }
-
-    /// How many marks stand before a column.
-    fn marks_before(&self, column: usize) -> usize {
-        self.marks.partition_point(|mark| mark.column < column)
     }
 }

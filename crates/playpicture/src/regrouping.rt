@@ -13,13 +13,21 @@ impl Picture {
     ///
     /// The allocator is out of memory.
     pub fn of_bus(mut self, alloc: Global, bus: u8) -> Result<Picture, AllocError> {
-        self.rows.retain(|row| is_of(row.bus, bus));
-        let mut is_kept = Vec::new(alloc);
+        self.rows.retain(|row| row.bus.unwrap_or(bus) == bus);
+        let mut begins = Vec::new(alloc);
         for column in self.columns.iter() {
-            is_kept.push(is_of(column.bus, bus))?;
+            let is_kept = column.bus.unwrap_or(bus) == bus;
+            begins.push(is_kept.then_some(true))?;
         }
-        keep_marked(&mut is_kept, &self.rows);
-        self.keep(alloc, &is_kept)
+        for row in self.rows.iter() {
+            for mark in row.marks.iter() {
+                if let Some(begins) = begins.get_mut(mark.column) {
+                    *begins = Some(true);
+                }
+            }
+        }
+        self.regroup(alloc, &begins)?;
+        Ok(self)
     }
 
     /// What of it happened from a moment to another, in milliseconds, with both. Before the first
@@ -28,109 +36,73 @@ impl Picture {
     /// # Errors
     ///
     /// The allocator is out of memory.
-    pub fn between(self, alloc: Global, from: u64, until: u64) -> Result<Picture, AllocError> {
-        let mut is_kept = Vec::new(alloc);
+    pub fn between(mut self, alloc: Global, from: u64, until: u64) -> Result<Picture, AllocError> {
+        let mut begins = Vec::new(alloc);
         let mut now = 0;
         for column in self.columns.iter() {
             if let Some(moment) = column.moment {
                 now = moment.milliseconds;
             }
-            is_kept.push(from <= now && now <= until)?;
+            let is_kept = from <= now && now <= until;
+            begins.push(is_kept.then_some(true))?;
         }
-        self.keep(alloc, &is_kept)
-    }
-
-    /// The picture with some of its columns.
-    fn keep(mut self, alloc: Global, is_kept: &[bool]) -> Result<Picture, AllocError> {
-        let mut numbers = Vec::new(alloc);
-        let mut next: usize = 0;
-        for is_kept in is_kept {
-            numbers.push(is_kept.then_some(next))?;
-            next = next.saturating_add(usize::from(*is_kept));
-        }
-        self.regroup(alloc, &numbers)?;
+        self.regroup(alloc, &begins)?;
         Ok(self)
     }
 
-    /// Gives columns other numbers, which rise from 0 on without a gap: those of one number become
-    /// one column, and those of none are left out.
+    /// Makes other columns of these, of each of which it is said whether it begins one or is one
+    /// with those before it; those of which nothing is said are left out.
     pub(crate) fn regroup(
         &mut self,
         alloc: Global,
-        numbers: &[Option<usize>],
+        begins: &[Option<bool>],
     ) -> Result<(), AllocError> {
-        let first = first_kept(numbers);
-        for row in &mut self.rows {
-            regroup_row(alloc, row, numbers, first)?;
-        }
+        let mut numbers = Vec::new(alloc);
         let columns = mem::replace(&mut self.columns, Vec::new(alloc));
-        for (column, number) in columns.into_iter().zip(numbers) {
-            if let Some(number) = number {
-                add_column(&mut self.columns, column, *number)?;
+        for (column, begins) in columns.into_iter().zip(begins) {
+            if let Some(begins) = *begins {
+                add_column(&mut self.columns, column, begins)?;
             }
+            numbers.push(begins.and(self.columns.len().checked_sub(1)))?;
+        }
+        let first = numbers.iter().position(|number| number.is_some());
+        let first = first.unwrap_or(numbers.len());
+        for row in &mut self.rows {
+            regroup_row(alloc, row, &numbers, first)?;
         }
         Ok(())
     }
 }
 
-/// Whether what belongs here is of a bus, or of none.
-fn is_of(belongs: Option<u8>, bus: u8) -> bool {
-    belongs.unwrap_or(bus) == bus
-}
-
-/// Keeps the columns in which something happened to these rows.
-fn keep_marked(is_kept: &mut [bool], rows: &[Row]) {
-    for row in rows {
-        for mark in row.marks.iter() {
-            if let Some(kept) = is_kept.get_mut(mark.column) {
-                *kept = true;
-            }
+/// Adds a column, as one with the last one unless it begins one.
+fn add_column(columns: &mut Vec<Column>, column: Column, begins: bool) -> Result<(), AllocError> {
+    match columns.last_mut() {
+        Some(last) if !begins => {
+            last.title.push_str("\n")?;
+            last.title.push_str(&column.title)?;
         }
-    }
-}
-
-/// Adds a column at a number, where one stands already to that one.
-fn add_column(columns: &mut Vec<Column>, column: Column, number: usize) -> Result<(), AllocError> {
-    match columns.get_mut(number) {
-        Some(before) => {
-            before.title.push_str("\n")?;
-            before.title.push_str(&column.title)?;
-        }
-        None => columns.push(column)?,
+        _ => columns.push(column)?,
     }
     Ok(())
 }
 
-/// The first column that has a number, where one has.
-fn first_kept(numbers: &[Option<usize>]) -> usize {
-    let mut first: usize = 0;
-    for number in numbers {
-        if number.is_some() {
-            break;
-        }
-        first = first.saturating_add(1);
-    }
-    first
-}
-
-/// Gives the marks of a row the numbers of their columns. Before them it is as the marks left it
-/// that stood before the first column with a number.
+/// Gives the marks of a row the numbers of their columns, where they have one. Before them it is as
+/// the marks left it that stood before the first column with a number.
 fn regroup_row(
     alloc: Global,
     row: &mut Row,
     numbers: &[Option<usize>],
     first: usize,
 ) -> Result<(), AllocError> {
-    let before = row.before(first);
+    let (before, _) = row.split(first);
     row.first = lasting(before);
-    let marks = mem::replace(&mut row.marks, Vec::new(alloc));
-    for mark in marks {
+    for mark in mem::replace(&mut row.marks, Vec::new(alloc)) {
         if let Some(Some(number)) = numbers.get(mark.column) {
             add_mark(&mut row.marks, *number, mark.sign)?;
         }
     }
     if row.marks.is_empty() && before == Some(Sign::Down) {
-        row.set(0, Sign::Down)?;
+        add_mark(&mut row.marks, 0, Sign::Down)?;
     }
     Ok(())
 }

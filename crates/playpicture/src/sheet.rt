@@ -13,115 +13,68 @@ pub(crate) const HEADING: usize = 26;
 pub(crate) const MOMENTS: usize = 34;
 /// The height of the signs that are explained, and of a note.
 pub(crate) const NOTE: usize = 20;
-/// The width of a letter of a name, at most.
-pub(crate) const NAME_LETTER: usize = 8;
 /// The width of a letter of a place, and of a note, at most.
 pub(crate) const LETTER: usize = 6;
-/// The least width: that of the signs that are explained.
-pub(crate) const LEAST_WIDTH: usize = 800;
-/// The greatest width, where names leave so much room.
-const MOST_WIDTH: usize = 1200;
-/// The least room of columns that have none beside each other.
-const LEAST_ROOM: usize = 600;
-/// The most rows that are drawn high.
-const MOST_HIGH: usize = 24;
-/// The greatest level.
-const GREATEST: usize = 254;
-/// How high TRUE is drawn over FALSE.
-const TRUE_HEIGHT: usize = 13;
 
-/// Where columns end at most that begin at `left`.
-pub(crate) fn end_of(left: usize) -> usize {
-    left.saturating_add(LEAST_ROOM).max(MOST_WIDTH - EDGE)
-}
-
-/// How large a sheet is.
-#[derive(Clone, Copy)]
-pub(crate) struct Size {
-    pub width: usize,
-    pub height: usize,
-    /// Where the rows end.
-    pub bottom: usize,
-    /// Whether rows are low, since they are many.
-    pub is_low: bool,
-}
-
-/// Places the rows of each kind on a sheet of this width with the given number of notes. How large
-/// it is.
-pub(crate) fn place_blocks(blocks: &mut [Block], width: usize, notes: usize) -> Size {
-    let mut rows: usize = 0;
-    for block in blocks.iter() {
-        rows = rows.saturating_add(block.drawn);
-    }
-    let is_low = rows > MOST_HIGH;
-    let mut bottom = TOP;
-    for block in blocks.iter_mut() {
-        block.top = bottom;
-        let folded = block.folded.len().saturating_mul(NOTE);
-        bottom = end_of_rows(block, is_low).saturating_add(folded);
-    }
-    let notes = notes.saturating_add(1).saturating_mul(NOTE);
-    Size {
-        width,
-        height: bottom.saturating_add(MOMENTS + EDGE).saturating_add(notes),
-        bottom,
-        is_low,
-    }
-}
-
-/// Where the rows of a kind end that are drawn.
-pub(crate) fn end_of_rows(block: &Block, is_low: bool) -> usize {
-    let rows = block.drawn.saturating_mul(height_of(block.kind, is_low));
-    block.top.saturating_add(HEADING).saturating_add(rows)
-}
-
-/// The height of a row of this kind.
-fn height_of(kind: Kind, is_low: bool) -> usize {
-    match (kind, is_low) {
-        (Kind::Level, false) => 56,
-        (Kind::Level, true) => 34,
-        (Kind::Task, false) => 20,
-        (Kind::Task, true) => 16,
-        (Kind::Source | Kind::Variable | Kind::Bus, false) => 28,
-        (Kind::Source | Kind::Variable | Kind::Bus, true) => 22,
-    }
-}
-
-/// Where the marks of a row stand.
+/// Where a row stands.
 #[derive(Clone, Copy)]
 pub(crate) struct Base {
+    /// How high it is.
+    pub height: usize,
+    /// Where its marks stand.
     pub y: usize,
     /// Where its name stands.
     pub name: usize,
-    /// How high the greatest level is drawn over it.
+    /// How high the greatest level is drawn over its marks.
     light: usize,
 }
 
 impl Base {
-    /// Where the marks stand of the row of this number among those of its kind that are drawn.
-    pub fn of(block: &Block, number: usize, is_low: bool) -> Base {
-        let height = height_of(block.kind, is_low);
-        let (inset, below) = match block.kind {
-            Kind::Source | Kind::Task => (height / 2, 4),
-            Kind::Level | Kind::Variable | Kind::Bus => (height.saturating_sub(6), 0),
+    /// Where a row of a kind stands that begins at `top`, low where rows are many.
+    pub fn of(kind: Kind, is_low: bool, top: usize) -> Base {
+        let (height, below, name, light) = match (kind, is_low) {
+            (Kind::Level, false) => (56, 50, 0, 34),
+            (Kind::Level, true) => (34, 28, 0, 20),
+            (Kind::Source, false) => (28, 14, 4, 34),
+            (Kind::Source, true) => (22, 11, 4, 20),
+            (Kind::Task, false) => (20, 10, 4, 34),
+            (Kind::Task, true) => (16, 8, 4, 20),
+            (Kind::Variable, false) => (28, 22, 0, 13),
+            (Kind::Variable, true) => (22, 16, 0, 13),
+            (Kind::Bus, false) => (28, 22, 0, 34),
+            (Kind::Bus, true) => (22, 16, 0, 20),
         };
-        let light = match (block.kind, is_low) {
-            (Kind::Variable, _) => TRUE_HEIGHT,
-            (_, true) => 20,
-            (_, false) => 34,
-        };
-        let top = block.top.saturating_add(number.saturating_mul(height));
-        let y = top.saturating_add(HEADING).saturating_add(inset);
+        let y = top.saturating_add(below);
         Base {
+            height,
             y,
-            name: y.saturating_add(below),
+            name: y.saturating_add(name),
             light,
         }
     }
 
-    /// Where a level is drawn over it.
-    pub fn height(self, level: u8) -> usize {
-        let up = usize::from(level).saturating_mul(self.light) / GREATEST;
+    /// Where a level is drawn over its marks.
+    pub fn height_of(self, level: u8) -> usize {
+        let up = usize::from(level).saturating_mul(self.light) / 254;
         self.y.saturating_sub(up)
     }
+}
+
+/// Places the rows of each kind on a sheet: low ones where more than 24 are drawn. Where they end.
+pub(crate) fn place_blocks(blocks: &mut [Block]) -> usize {
+    let mut rows: usize = 0;
+    for block in blocks.iter() {
+        rows = rows.saturating_add(block.drawn);
+    }
+    let mut bottom = TOP;
+    for block in blocks.iter_mut() {
+        block.top = bottom.saturating_add(HEADING);
+        block.is_low = rows > 24;
+        let Base { height, .. } = Base::of(block.kind, block.is_low, block.top);
+        let drawn = block.drawn.saturating_mul(height);
+        block.end = block.top.saturating_add(drawn);
+        let folded = block.folded.len().saturating_mul(NOTE);
+        bottom = block.end.saturating_add(folded);
+    }
+    bottom
 }

@@ -2,7 +2,6 @@
 
 use crate::Sign;
 use std::fmt;
-use std::fmt::Write;
 
 /// A mark that lasts until the next one.
 pub(crate) fn lasting(sign: Option<Sign>) -> Option<Sign> {
@@ -15,13 +14,12 @@ pub(crate) fn lasting(sign: Option<Sign>) -> Option<Sign> {
 /// How much a mark matters among those of its row: from 2 on something went wrong.
 pub(crate) fn gravity(sign: Sign) -> u8 {
     match sign {
-        Sign::Level(_) | Sign::Truth(_) | Sign::Number(_) => 0,
-        Sign::Scan | Sign::Stray | Sign::Sent => 0,
         Sign::Event(_) | Sign::Answered(_) => 1,
         Sign::Damaged => 2,
         Sign::GaveUp => 3,
         Sign::Failed => 4,
         Sign::Down => 5,
+        _ => 0,
     }
 }
 
@@ -35,48 +33,32 @@ pub(crate) fn level_of(sign: Option<Sign>) -> Option<u8> {
     }
 }
 
-/// The number that is written of a mark.
-pub(crate) fn number_of(sign: Sign) -> Option<i64> {
+/// What stands for a mark on a terminal, and the word and the number that are written of it.
+pub(crate) fn words_of(sign: Sign) -> (&'static str, &'static str, Option<i64>) {
     match sign {
-        Sign::Level(level) => Some(i64::from(level)),
-        Sign::Number(number) => Some(number),
-        Sign::Event(information) => Some(i64::from(information)),
-        Sign::Answered(value) => Some(i64::from(value)),
-        _ => None,
-    }
-}
-
-/// The word that is written of a mark.
-pub(crate) fn word_of(sign: Sign) -> &'static str {
-    match sign {
-        Sign::Damaged => "?",
-        Sign::GaveUp => "×",
-        Sign::Failed => "!",
-        Sign::Down => "down",
-        Sign::Truth(true) => "TRUE",
-        Sign::Truth(false) => "FALSE",
-        _ => "",
-    }
-}
-
-/// What stands for a mark on a terminal, before its word and its number.
-fn letter_of(sign: Sign) -> &'static str {
-    match sign {
-        Sign::Event(_) => "●",
-        Sign::Stray => "○",
-        Sign::Scan => "•",
-        Sign::Sent | Sign::Answered(_) => "│",
-        Sign::Damaged | Sign::GaveUp | Sign::Failed => "│",
-        Sign::Level(_) | Sign::Truth(_) | Sign::Number(_) | Sign::Down => "",
+        Sign::Level(level) => ("", "", Some(i64::from(level))),
+        Sign::Truth(true) => ("", "TRUE", None),
+        Sign::Truth(false) => ("", "FALSE", None),
+        Sign::Number(number) => ("", "", Some(number)),
+        Sign::Event(information) => ("●", "", Some(i64::from(information))),
+        Sign::Stray => ("○", "", None),
+        Sign::Scan => ("•", "", None),
+        Sign::Sent => ("│", "", None),
+        Sign::Answered(value) => ("│", "", Some(i64::from(value))),
+        Sign::Damaged => ("│", "?", None),
+        Sign::GaveUp => ("│", "×", None),
+        Sign::Failed => ("│", "!", None),
+        Sign::Down => ("", "down", None),
     }
 }
 
 impl fmt::Display for Sign {
     /// Writes what stands for a mark on a terminal.
     fn fmt<W: fmt::Write>(&self, f: &mut fmt::Formatter<W>) -> fmt::Result {
-        f.write_str(letter_of(*self))?;
-        f.write_str(word_of(*self))?;
-        match number_of(*self) {
+        let (letter, word, number) = words_of(*self);
+        f.write_str(letter)?;
+        f.write_str(word)?;
+        match number {
             Some(number) => write!(f, "{number}"),
             None => Ok(()),
         }
@@ -102,27 +84,16 @@ pub(crate) fn element_of(sign: Sign, has_room: bool) -> &'static str {
     }
 }
 
-/// What is written beside a mark in an SVG.
-#[derive(Clone, Copy)]
-pub(crate) struct Beside {
-    /// Its looks.
-    pub class: &'static str,
-    /// How far right of the mark it stands, in pixels.
-    pub right: usize,
-    /// How far above the mark it stands, in pixels.
-    pub up: usize,
-}
-
-/// What is written beside a mark in an SVG, where something is.
-pub(crate) fn beside_of(sign: Sign) -> Option<Beside> {
-    let (class, right, up) = match sign {
+/// The looks of what is written beside a mark in an SVG, and how far right of the mark and above it
+/// that stands, in pixels; no looks where nothing is.
+pub(crate) fn beside_of(sign: Sign) -> (&'static str, usize, usize) {
+    match sign {
         Sign::Level(_) => ("v", 2, 4),
         Sign::Number(_) => ("v", 3, 3),
         Sign::Event(_) => ("i", 7, 3),
         Sign::Answered(_) => ("r", 4, 5),
         Sign::Damaged | Sign::GaveUp | Sign::Failed => ("x", 4, 5),
         Sign::Down => ("x", 0, 5),
-        Sign::Truth(_) | Sign::Stray | Sign::Scan | Sign::Sent => return None,
-    };
-    Some(Beside { class, right, up })
+        Sign::Truth(_) | Sign::Stray | Sign::Scan | Sign::Sent => ("", 0, 0),
+    }
 }

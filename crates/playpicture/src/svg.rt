@@ -1,40 +1,24 @@
 //! A picture as SVG.
 
 use crate::Picture;
-use crate::axis::{Axis, Label, place_columns};
-use crate::elements::{begin_words, fill, write_plain, write_words};
-use crate::kinds::{Block, blocks_of, fold, widest_of, words_of};
+use crate::axis::{Axis, place_columns};
+use crate::elements::{fill, write_words};
+use crate::kinds::{Block, blocks_of, widest_of};
+use crate::marks::marks_of;
 use crate::moment::width_of;
-use crate::rows::{Form, draw_rows};
-use crate::sheet::{
-    EDGE, HEADING, LEAST_WIDTH, LETTER, MOMENTS, NAME_LETTER, NOTE, Size, TOP, end_of, end_of_rows,
-    place_blocks,
-};
+use crate::sheet::{Base, EDGE, HEADING, LETTER, MOMENTS, NOTE, TOP, place_blocks};
+use crate::svg_rows::write_svg_row;
 use page::Page;
 use std::alloc::{AllocError, Global};
 use std::io;
 use std::io::Write;
 
-/// What begins an SVG, up to its title, with its width and height two times.
+/// What stands before all that is drawn, with the width and the height two times, the picture's
+/// name, and the looks of what is drawn, by classes.
 const HEAD: &str = "<svg xmlns=\"http://www.w3.org/2000/svg\" viewBox=\"0 0 {} {}\" \
 width=\"{}\" height=\"{}\" font-family=\"system-ui, 'DejaVu Sans', sans-serif\" \
-font-size=\"12\">\n<title>";
-
-/// The line of a moment: its place, and where it ends.
-const MOMENT: &str = "<path class=\"m\" d=\"M{} {}V{}\"/>\n";
-
-/// A time that is left out: the place and the height of its band, and where its strokes begin.
-const BREAK: &str = "<rect class=\"g\" x=\"{}\" y=\"{}\" width=\"20\" height=\"{}\"/>
-<path class=\"z\" d=\"M{} {}l4 -12m4 12l4 -12\"/>\n";
-
-/// What begins the title of a column: its place, its width and its height.
-const TITLE: &str = "<rect class=\"c\" x=\"{}\" y=\"{}\" width=\"{}\" height=\"{}\"><title>";
-
-/// What is said of an axis that is not true to time.
-const EVEN: &str = "columns in their order: the axis is not true to time";
-
-/// The looks of what is drawn, by classes.
-const STYLE: &str = "<style>
+font-size=\"12\">\n<title>{}</title>
+<style>
 .d{fill:#222;font-size:13px}
 .h{fill:#8a8a8a;font-size:10px;letter-spacing:.08em}
 .n{fill:#222;font-weight:600}
@@ -59,10 +43,23 @@ const STYLE: &str = "<style>
 .i,.r,.x{paint-order:stroke;stroke:#fff;stroke-width:3px}
 .c{fill:none;pointer-events:all}
 .c:hover{fill:#2b6cb0;fill-opacity:.08}
-</style>";
+</style>
+<rect width=\"100%\" height=\"100%\" fill=\"#fff\"/>\n";
 
-/// The signs that are explained, from the left edge at the line of their text.
-const SIGNS: &str = "<circle class=\"s\" cx=\"5\" cy=\"-4\" r=\"5\"/>
+/// A time that is left out: the place and the height of its band, and where its strokes begin.
+const BREAK: &str = "<rect class=\"g\" x=\"{}\" y=\"{}\" width=\"20\" height=\"{}\"/>
+<path class=\"z\" d=\"M{} {}l4 -12m4 12l4 -12\"/>\n";
+
+/// The title of a column: its place, its width and its height, and what happened.
+const TITLE: &str = "<rect class=\"c\" x=\"{}\" y=\"{}\" width=\"{}\" height=\"{}\">\
+<title>{}</title></rect>\n";
+
+/// What is said of an axis that is not true to time.
+const EVEN: &str = "columns in their order: the axis is not true to time";
+
+/// The signs that are explained, from a place on the line of their text.
+const SIGNS: &str = "<g transform=\"translate({} {})\">
+<circle class=\"s\" cx=\"5\" cy=\"-4\" r=\"5\"/>
 <text class=\"p\" x=\"15\">event, with its information</text>
 <circle class=\"o\" cx=\"171\" cy=\"-4\" r=\"4.5\"/>
 <text class=\"p\" x=\"181\">event of no source</text>
@@ -81,7 +78,8 @@ const SIGNS: &str = "<circle class=\"s\" cx=\"5\" cy=\"-4\" r=\"5\"/>
 <text class=\"p\" x=\"616\">lost</text>
 <path class=\"l\" d=\"M651 2V-10\"/>
 <text class=\"x\" x=\"655\">!</text>
-<text class=\"p\" x=\"663\">bus interface failed</text>";
+<text class=\"p\" x=\"663\">bus interface failed</text>
+</g>\n";
 
 /// Draws a picture as SVG. Where a viewer shows titles, each column has one, with what happened.
 ///
@@ -95,58 +93,53 @@ pub fn write_svg<W: Write>(alloc: Global, out: &mut W, picture: Picture) -> io::
 /// A picture as SVG.
 fn svg_of(alloc: Global, mut picture: Picture) -> Result<Page, AllocError> {
     let mut blocks = blocks_of(alloc, &picture.rows)?;
-    let names = widest_of(&picture.rows, &blocks, NAME_LETTER, LETTER);
-    let left = names.saturating_add(2 * EDGE);
-    let axis = place_columns(alloc, &mut picture, left, end_of(left))?;
-    let width = axis.right.saturating_add(EDGE).max(LEAST_WIDTH);
+    let left = widest_of(&picture.rows, &blocks, 8, LETTER).saturating_add(2 * EDGE);
+    let end = left.saturating_add(600).max(1200 - EDGE);
+    let axis = place_columns(alloc, &mut picture, left, end)?;
+    let width = axis.right.saturating_add(EDGE).max(800);
     let letters = width.saturating_sub(2 * EDGE) / LETTER;
-    fold(alloc, &mut blocks, &picture.rows, letters)?;
-    let size = place_blocks(&mut blocks, width, picture.notes.len());
-    let mut page = Page::new(alloc);
-    write_head(&mut page, &picture.name, size);
-    write_breaks(&mut page, &axis, size.bottom);
-    write_moments(&mut page, &axis, size.bottom);
-    for block in &blocks {
-        draw_block(alloc, &mut page, &picture, block, &axis, size.is_low)?;
+    for block in &mut blocks {
+        block.fold(alloc, &picture.rows, letters)?;
     }
-    write_foot(&mut page, &picture.notes, size.bottom);
-    write_titles(&mut page, &picture, &axis, size.bottom);
-    page.text("</svg>\n");
+    let bottom = place_blocks(&mut blocks);
+    let mut page = Page::new(alloc);
+    write_head(&mut page, &picture, width, bottom);
+    write_moments(&mut page, &axis, bottom);
+    for block in &blocks {
+        draw_block(alloc, &mut page, &picture, block, &axis)?;
+    }
+    write_foot(&mut page, &picture, &axis, bottom);
     Ok(page)
 }
 
 /// Writes what stands before all that is drawn, and the picture's name.
-fn write_head(page: &mut Page, name: &str, size: Size) {
-    let Size { width, height, .. } = size;
-    fill(page, HEAD, &[width, height, width, height]);
-    write_plain(page, name);
-    page.text("</title>\n");
-    page.text(STYLE);
-    page.text("\n<rect width=\"100%\" height=\"100%\" fill=\"#fff\"/>\n");
-    write_words(page, "d", EDGE, TOP - 8, name);
+fn write_head(page: &mut Page, picture: &Picture, width: usize, bottom: usize) {
+    let notes = picture.notes.len().saturating_add(1).saturating_mul(NOTE);
+    let height = bottom.saturating_add(MOMENTS + EDGE).saturating_add(notes);
+    fill(page, HEAD, &[width, height, width, height], &picture.name);
+    write_words(page, "d", EDGE, TOP - 8, &picture.name);
 }
 
-/// Marks the times that are left out: a band over all rows, and two strokes below.
-fn write_breaks(page: &mut Page, axis: &Axis, bottom: usize) {
-    let height = bottom.saturating_sub(TOP);
-    let y = bottom.saturating_add(6);
-    for left in axis.breaks.iter() {
-        let (x, begins) = (left.saturating_add(8), left.saturating_add(12));
-        fill(page, BREAK, &[x, TOP, height, begins, y]);
-    }
-}
-
-/// Draws a line for each moment, and writes its name below where there is room; and that the axis
-/// is not true to time, where it is not.
+/// Marks the times that are left out: a band over all rows, and two strokes below. Then draws a line
+/// for each moment, and writes its name below where there is room; and that the axis is not true to
+/// time, where it is not.
 fn write_moments(page: &mut Page, axis: &Axis, bottom: usize) {
+    for left in axis.breaks.iter() {
+        let (x, stroke) = (left.saturating_add(8), left.saturating_add(12));
+        let (height, y) = (bottom.saturating_sub(TOP), bottom.saturating_add(6));
+        fill(page, BREAK, &[x, TOP, height, stroke, y], "");
+    }
     let mut free: usize = 0;
-    let end = bottom.saturating_add(4);
-    for label in axis.labels.iter() {
-        let x = label.x;
-        let half = width_of(&label.moment).saturating_mul(7) / 2;
-        fill(page, MOMENT, &[x, TOP, end]);
+    for (x, moment) in axis.labels.iter() {
+        let (x, y) = (*x, bottom.saturating_add(18));
+        let half = width_of(moment).saturating_mul(7) / 2;
+        let line = [x, TOP, bottom.saturating_add(4)];
+        fill(page, "<path class=\"m\" d=\"M{} {}V{}\"/>\n", &line, "");
         if x >= free.saturating_add(half) {
-            write_moment(page, label, bottom);
+            let form = "<text class=\"k\" x=\"{}\" y=\"{}\" text-anchor=\"middle\">";
+            fill(page, form, &[x, y], "");
+            page.shown(moment);
+            page.text("</text>\n");
             free = x.saturating_add(half).saturating_add(6);
         }
     }
@@ -155,30 +148,25 @@ fn write_moments(page: &mut Page, axis: &Axis, bottom: usize) {
     }
 }
 
-/// Writes the name of a moment below the rows.
-fn write_moment(page: &mut Page, label: &Label, bottom: usize) {
-    begin_words(page, "k", label.x, bottom.saturating_add(18));
-    page.text(" text-anchor=\"middle\">");
-    page.shown(&label.moment);
-    page.text("</text>\n");
-}
-
-/// Draws the rows of a kind, below its heading, and what is said of those that are folded.
+/// Draws the rows of a kind with their marks, below its heading, and what is said of those that are
+/// folded.
 fn draw_block(
     alloc: Global,
     page: &mut Page,
     picture: &Picture,
     block: &Block,
     axis: &Axis,
-    is_low: bool,
 ) -> Result<(), AllocError> {
-    let (heading, _) = words_of(block.kind);
-    let y = block.top.saturating_add(HEADING - 8);
-    write_words(page, "h", EDGE, y, heading);
-    let form = Form::Svg { is_low };
-    draw_rows(alloc, page, &picture.rows, block, axis, form)?;
-    let end = end_of_rows(block, is_low);
-    write_lines(page, "p", &block.folded, end.saturating_add(NOTE - 6));
+    let mut top = block.top;
+    write_words(page, "h", EDGE, top.saturating_sub(8), block.heading);
+    for row in picture.rows.iter() {
+        if block.draws(row) {
+            let base = Base::of(block.kind, block.is_low, top);
+            write_svg_row(page, row, &marks_of(alloc, row, axis)?, axis, base);
+            top = top.saturating_add(base.height);
+        }
+    }
+    write_lines(page, "p", &block.folded, block.end.saturating_add(NOTE - 6));
     Ok(())
 }
 
@@ -191,23 +179,17 @@ fn write_lines(page: &mut Page, class: &str, lines: &[String], y: usize) {
     }
 }
 
-/// Writes what the signs mean, and the notes.
-fn write_foot(page: &mut Page, notes: &[String], bottom: usize) {
+/// Writes what the signs mean, the notes, and what happened in each column, over all rows.
+fn write_foot(page: &mut Page, picture: &Picture, axis: &Axis, bottom: usize) {
     let y = bottom.saturating_add(MOMENTS + NOTE - 4);
-    fill(page, "<g transform=\"translate({} {})\">\n", &[EDGE, y]);
-    page.text(SIGNS);
-    page.text("\n</g>\n");
-    write_lines(page, "x", notes, y.saturating_add(NOTE));
-}
-
-/// Writes what happened in each column, over all rows.
-fn write_titles(page: &mut Page, picture: &Picture, axis: &Axis, bottom: usize) {
+    fill(page, SIGNS, &[EDGE, y], "");
+    write_lines(page, "x", &picture.notes, y.saturating_add(NOTE));
     let height = bottom.saturating_sub(TOP);
     for (number, column) in picture.columns.iter().enumerate() {
-        let x = axis.place(number).left;
-        let end = axis.place(number.saturating_add(1)).left;
-        fill(page, TITLE, &[x, TOP, end.saturating_sub(x), height]);
-        write_plain(page, &column.title);
-        page.text("</title></rect>\n");
+        let (x, _) = axis.place(number);
+        let (end, _) = axis.place(number.saturating_add(1));
+        let area = [x, TOP, end.saturating_sub(x), height];
+        fill(page, TITLE, &area, &column.title);
     }
+    page.text("</svg>\n");
 }
