@@ -92,22 +92,15 @@ pub fn write_answer<W: Write>(out: &mut W, answer: &FaultAnswer, line: usize) ->
     };
     match &answer.example {
         Example::Other(_) => writeln!(out, "for example:")?,
-        Example::TriedLines(tried) => write_title(out, tried, line)?,
-        Example::Tried(_) => writeln!(out, "as it could read:")?,
+        Example::TriedLines(TriedLines { first, last, .. }) if first != last => {
+            writeln!(out, "as lines {first} to {last} could read:")?
+        }
+        Example::TriedLines(TriedLines { first, .. }) if *first != line => {
+            writeln!(out, "as line {first} could read:")?
+        }
+        _ => writeln!(out, "as it could read:")?,
     }
     write_lines(out, ["    "; 2], lines)
-}
-
-/// Writes which lines could read as it was tried, unless they are the one at fault alone.
-fn write_title<W: Write>(out: &mut W, tried: &TriedLines, line: usize) -> io::Result<()> {
-    let TriedLines { first, last, .. } = *tried;
-    if first == line && last == line {
-        writeln!(out, "as it could read:")
-    } else if first == last {
-        writeln!(out, "as line {first} could read:")
-    } else {
-        writeln!(out, "as lines {first} to {last} could read:")
-    }
 }
 
 /// Writes the lines of a text: the first with one front, the others with another.

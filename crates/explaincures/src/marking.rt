@@ -19,15 +19,16 @@ pub fn write_line<W: Write>(
     col: Option<usize>,
 ) -> io::Result<()> {
     let found = line_of(bytes, line);
-    writeln!(out)?;
-    write!(out, "{line:>6} | ")?;
+    write!(out, "\n{line:>6} | ")?;
     write_bytes(out, found)?;
-    writeln!(out)?;
     if let Some(col) = col {
-        write!(out, "       | ")?;
-        write_mark(out, found, col)?;
+        write!(out, "\n       | ")?;
+        for _ in 0..col.saturating_sub(1).min(found.len()) {
+            write!(out, " ")?;
+        }
+        write!(out, "^")?;
     }
-    writeln!(out)
+    writeln!(out, "\n")
 }
 
 /// The line of this number, without its end.
@@ -62,8 +63,7 @@ pub fn first_column(bytes: &[u8], line: usize) -> usize {
 fn letter(byte: u8) -> char {
     match byte {
         b' '..=b'~' | b'\n' => char::from(byte),
-        b'\t' => ' ',
-        b'\r' => ' ',
+        b'\t' | b'\r' => ' ',
         _ => '?',
     }
 }
@@ -80,7 +80,7 @@ pub fn shown_text(alloc: Global, bytes: &[u8]) -> Result<String, AllocError> {
 }
 
 /// Writes bytes, of which those that are not printed ASCII are question marks.
-pub fn write_bytes<W: Write>(out: &mut W, bytes: &[u8]) -> io::Result<()> {
+fn write_bytes<W: Write>(out: &mut W, bytes: &[u8]) -> io::Result<()> {
     for byte in bytes {
         let letter = letter(*byte);
         write!(out, "{letter}")?;
@@ -88,26 +88,18 @@ pub fn write_bytes<W: Write>(out: &mut W, bytes: &[u8]) -> io::Result<()> {
     Ok(())
 }
 
-/// Writes a mark below a column.
-fn write_mark<W: Write>(out: &mut W, line: &[u8], col: usize) -> io::Result<()> {
-    let before = col.saturating_sub(1).min(line.len());
-    for _ in 0..before {
-        write!(out, " ")?;
-    }
-    writeln!(out, "^")
-}
-
 /// Writes what stands at a column of a line: a word, a number, a sign, or an end.
 pub fn write_found<W: Write>(out: &mut W, bytes: &[u8], line: usize, col: usize) -> io::Result<()> {
     let spot = Spot::of(bytes, place_of(bytes, line, col));
     let found = spot.token();
-    if spot.at >= bytes.len() {
-        return writeln!(out, "found: the end of the text");
-    }
-    if found.is_empty() {
-        return writeln!(out, "found: the end of the line");
-    }
-    write!(out, "found: ")?;
+    let end = if spot.at >= bytes.len() {
+        "the end of the text"
+    } else if found.is_empty() {
+        "the end of the line"
+    } else {
+        ""
+    };
+    write!(out, "found: {end}")?;
     write_bytes(out, found)?;
     writeln!(out)
 }

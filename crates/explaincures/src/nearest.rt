@@ -1,5 +1,6 @@
 //! Words that differ from another one by a letter.
 
+use crate::spots::part;
 use crate::words::{INSTRUCTIONS, SPELLED};
 use iltokens::keyword_of;
 
@@ -10,45 +11,27 @@ pub fn is_near(one: &[u8], other: &[u8]) -> bool {
         return false;
     }
     let same = common(one, other);
-    let (_, rest) = one.split_at(same.min(one.len()));
-    let (_, others) = other.split_at(same.min(other.len()));
-    match (rest, others) {
-        ([_], []) | ([], [_]) => true,
-        ([a, more @ ..], [b, others_more @ ..]) => {
-            is_same(more, others_more)
-                || is_same(more, others)
-                || is_same(rest, others_more)
-                || is_exchanged(*a, *b, more, others_more)
+    let rest = part(one, same, one.len());
+    let others = part(other, same, other.len());
+    let (more, others_more) = (part(rest, 1, rest.len()), part(others, 1, others.len()));
+    let is_exchanged = match (rest, others) {
+        ([a, b, rest @ ..], [c, d, others @ ..]) => {
+            [*a, *b].eq_ignore_ascii_case(&[*d, *c]) && rest.eq_ignore_ascii_case(others)
         }
         _ => false,
-    }
-}
-
-/// Whether the next letters are these two exchanged, and all others are the same.
-fn is_exchanged(a: u8, b: u8, more: &[u8], others: &[u8]) -> bool {
-    match (more, others) {
-        ([c, rest @ ..], [d, others_rest @ ..]) => {
-            a.eq_ignore_ascii_case(d) && b.eq_ignore_ascii_case(c) && is_same(rest, others_rest)
-        }
-        _ => false,
-    }
-}
-
-/// Whether two words are the same, letter case aside.
-fn is_same(one: &[u8], other: &[u8]) -> bool {
-    one.eq_ignore_ascii_case(other)
+    };
+    more.eq_ignore_ascii_case(others_more)
+        || more.eq_ignore_ascii_case(others)
+        || rest.eq_ignore_ascii_case(others_more)
+        || is_exchanged
 }
 
 /// With how many letters in common two words begin.
 fn common(one: &[u8], other: &[u8]) -> usize {
-    let mut same: usize = 0;
-    for (index, letter) in one.iter().enumerate() {
-        match other.get(index) {
-            Some(found) if found.eq_ignore_ascii_case(letter) => same = same.saturating_add(1),
-            _ => return same,
-        }
-    }
-    same
+    let pairs = one.iter().zip(other);
+    pairs
+        .take_while(|(letter, found)| letter.eq_ignore_ascii_case(found))
+        .count()
 }
 
 /// The first reserved word that is near to another word, which is none. An instruction begins as
@@ -81,12 +64,12 @@ fn near_among(
 /// Whether an instruction and another word begin with the same letter, and both have an N at the
 /// end, or as many letters C and N. In a conversion, which has a `_`, these change nothing.
 fn is_alike(instruction: &[u8], other: &[u8]) -> bool {
-    let is_begun = common(instruction, other) > 0;
     let is_turned = |word: &[u8]| matches!(word, [.., b'n' | b'N']);
     let is_counted = |letter: u8| count(instruction, letter) == count(other, letter);
     let is_kept = is_turned(instruction) && is_turned(other)
-        || is_counted(b'C') && is_counted(b'N');
-    is_begun && (instruction.contains(&b'_') || is_kept)
+        || is_counted(b'C') && is_counted(b'N')
+        || instruction.contains(&b'_');
+    is_kept && common(instruction, other) > 0
 }
 
 /// How often a word has a letter, letter case aside.

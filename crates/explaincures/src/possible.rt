@@ -38,8 +38,12 @@ impl Possible {
         let mut bytes = Vec::from_slice(alloc, front)?;
         bytes.push(b' ')?;
         let mut found = Vec::new(alloc);
-        for (group, words) in ASKED {
-            push_possible(alloc, &mut bytes, (*group, words), &mut found)?;
+        for (group, _, words) in ASKED {
+            for spelled in *words {
+                if can_stand(alloc, &mut bytes, spelled.as_bytes())? {
+                    found.push((*group, *spelled))?;
+                }
+            }
         }
         Ok(Some(Possible {
             found,
@@ -70,8 +74,8 @@ impl Possible {
     /// What could stand there, in words; the end of the line where that says something.
     pub fn words(&self, alloc: Global, with_end: bool) -> Result<Vec<&'static str>, AllocError> {
         let mut told: Vec<&'static str> = Vec::new(alloc);
-        for (group, words) in ASKED {
-            self.push_told(&mut told, *group, words.len())?;
+        for (group, name, words) in ASKED {
+            self.push_told(&mut told, *group, (*name, words.len()))?;
         }
         if self.is_line_end && with_end {
             told.push("the end of the line")?;
@@ -82,20 +86,19 @@ impl Possible {
         Ok(told)
     }
 
-    /// Adds what is told of a group of the given number of words; instructions in parentheses are
-    /// told by all instructions.
+    /// Adds what is told of a group: its name, where all of so many words could stand there, or each
+    /// of those that could; instructions in parentheses are told by all instructions.
     fn push_told(
         &self,
         told: &mut Vec<&'static str>,
         group: Group,
-        len: usize,
+        (name, len): (&'static str, usize),
     ) -> Result<(), AllocError> {
-        let has_outer = self.has(Group::Outer);
         let count = self.found.iter().filter(|(one, _)| *one == group).count();
-        if count == 0 || group == Group::Operator && has_outer {
+        if group == Group::Operator && self.has(Group::Outer) {
             return Ok(());
         }
-        if let Some(name) = group_name(group, count == len) {
+        if count == len && !name.is_empty() {
             told.push(name)?;
             return Ok(());
         }
@@ -106,36 +109,6 @@ impl Possible {
         }
         Ok(())
     }
-}
-
-/// How words of a group are told in one, where all could stand there, or where some do.
-fn group_name(group: Group, is_all: bool) -> Option<&'static str> {
-    match group {
-        Group::Name => Some("a name"),
-        Group::Number => Some("a number"),
-        Group::Time => Some("a time"),
-        Group::Address => Some("an address"),
-        Group::Outer if is_all => Some("an instruction"),
-        Group::Operator if is_all => Some("an operator"),
-        Group::Integer if is_all => Some("a type of whole numbers"),
-        Group::Block if is_all => Some("a function block"),
-        _ => None,
-    }
-}
-
-/// Adds those of the words of a group that can stand behind a text.
-fn push_possible(
-    alloc: Global,
-    bytes: &mut Vec<u8>,
-    (group, words): (Group, &[&'static str]),
-    found: &mut Vec<(Group, &'static str)>,
-) -> Result<(), AllocError> {
-    for spelled in words {
-        if can_stand(alloc, bytes, spelled.as_bytes())? {
-            found.push((group, *spelled))?;
-        }
-    }
-    Ok(())
 }
 
 /// Whether a word can stand behind a text: the first fault is not there, but at the end.

@@ -99,7 +99,7 @@ impl<'a> Spot<'a> {
 
     /// Whether nothing but blanks stands before the place on its line.
     pub fn is_first(&self) -> bool {
-        self.front().iter().all(|byte| is_blank(*byte))
+        content_len(self.front()) == 0
     }
 }
 
@@ -154,25 +154,19 @@ fn sign_len(bytes: &[u8]) -> usize {
 }
 
 /// How many bytes a word, a number or an address has that stands first.
-pub fn token_len(bytes: &[u8]) -> usize {
-    let is_number = match bytes {
-        [b'+' | b'-', b'0'..=b'9', ..] => true,
-        [first, ..] => first.is_ascii_digit() || *first == b'%',
-        [] => false,
-    };
-    let is_signed = matches!(bytes, [b'+' | b'-', ..]);
-    let mut is_based = false;
-    let mut len: usize = 0;
-    for byte in bytes {
-        let is_head = len == 0 && (*byte == b'%' || is_signed && is_number);
-        let is_dot = *byte == b'.' && (is_number || is_based) && !is_dot_at(bytes, len);
-        if !is_head && !is_word(*byte) && !is_dot && !(*byte == b'#' && len > 0) {
-            return len;
+fn token_len(bytes: &[u8]) -> usize {
+    let has_head = matches!(bytes, [b'%', ..] | [b'+' | b'-', b'0'..=b'9', ..]);
+    let mut is_dotted = has_head || matches!(bytes, [b'0'..=b'9', ..]);
+    for (index, byte) in bytes.iter().enumerate() {
+        let is_head = index == 0 && has_head;
+        let is_base = *byte == b'#' && index > 0;
+        let is_dot = *byte == b'.' && is_dotted && !is_dot_at(bytes, index);
+        if !is_head && !is_word(*byte) && !is_dot && !is_base {
+            return index;
         }
-        is_based = is_based || *byte == b'#';
-        len = len.saturating_add(1);
+        is_dotted = is_dotted || is_base;
     }
-    len
+    bytes.len()
 }
 
 /// Whether two dots stand around a place.
@@ -183,7 +177,7 @@ fn is_dot_at(bytes: &[u8], place: usize) -> bool {
 }
 
 /// Whether a byte may stand in a name.
-pub fn is_word(byte: u8) -> bool {
+fn is_word(byte: u8) -> bool {
     byte.is_ascii_alphanumeric() || byte == b'_'
 }
 

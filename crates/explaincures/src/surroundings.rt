@@ -85,7 +85,14 @@ impl Surroundings {
         }
         match what {
             What::Keyword(word) => self.read_word(word, place),
-            What::Name if is_named => self.call(place),
+            What::Name if is_named => {
+                // The name of what was begun last.
+                if let Some(resource) = &mut self.resource {
+                    resource.name = Some(place);
+                } else if let Some(unit) = &mut self.unit {
+                    unit.name = Some(place);
+                }
+            }
             What::Delimiter(Delimiter::Open) => {
                 self.open = self.open.saturating_add(1);
                 self.parenthesis = self.parenthesis.or(Some(place.0));
@@ -104,15 +111,17 @@ impl Surroundings {
 
     /// Reads a reserved word.
     fn read_word(&mut self, word: Keyword, (at, to): (usize, usize)) {
-        let name = None;
-        let opened = Some(OpenConstruct { word, at, name });
-        let is_program = word == Keyword::Program && self.unit.is_none();
+        let opened = Some(OpenConstruct {
+            word,
+            at,
+            name: None,
+        });
         match word {
             Keyword::Type | Keyword::Function | Keyword::Configuration => {
                 self.unit = opened;
                 self.has_block = false;
             }
-            Keyword::Program if is_program => self.unit = opened,
+            Keyword::Program if self.unit.is_none() => self.unit = opened,
             Keyword::Resource => self.resource = opened,
             Keyword::Var | Keyword::VarInput | Keyword::VarExternal | Keyword::VarGlobal => {
                 self.block = opened;
@@ -130,20 +139,10 @@ impl Surroundings {
             Keyword::EndConfiguration => self.unit = None,
             _ => return,
         }
-        let is_other = matches!(
+        self.is_named = matches!(
             word,
-            Keyword::Function | Keyword::Configuration | Keyword::Resource
+            Keyword::Program | Keyword::Function | Keyword::Configuration | Keyword::Resource
         );
-        self.is_named = is_program || is_other;
-    }
-
-    /// Takes the name of what was begun last.
-    fn call(&mut self, name: (usize, usize)) {
-        if let Some(resource) = &mut self.resource {
-            resource.name = Some(name);
-        } else if let Some(unit) = &mut self.unit {
-            unit.name = Some(name);
-        }
     }
 
     /// What was begun last and is not ended, parentheses aside.

@@ -28,20 +28,21 @@ macro_rules! words {
     ($($word:literal)+) => { &[$($word),+] };
 }
 
-/// What is asked of the parser, in the order in which it is told.
-pub const ASKED: &[(Group, &[&str])] = &[
-    (Group::Name, &["a"]),
-    (Group::Number, &["1"]),
-    (Group::Time, &["T#1s"]),
-    (Group::Address, &["%QB0.0"]),
-    (Group::Truth, TRUTHS),
-    (Group::Operator, OPERATORS),
-    (Group::Outer, OUTER),
-    (Group::OtherType, OTHER_TYPES),
-    (Group::Integer, INTEGERS),
-    (Group::Block, BLOCKS),
-    (Group::Word, WORDS),
-    (Group::Sign, &[",", ":", ";", ":=", ".", "..", "(", ")"]), // `&` is another word for AND
+/// What is asked of the parser, in the order in which it is told: words of a group, and how they are
+/// told in one where all could stand there.
+pub const ASKED: &[(Group, &str, &[&str])] = &[
+    (Group::Name, "a name", &["a"]),
+    (Group::Number, "a number", &["1"]),
+    (Group::Time, "a time", &["T#1s"]),
+    (Group::Address, "an address", &["%QB0.0"]),
+    (Group::Truth, "", TRUTHS),
+    (Group::Operator, "an operator", OPERATORS),
+    (Group::Outer, "an instruction", OUTER),
+    (Group::OtherType, "", OTHER_TYPES),
+    (Group::Integer, "a type of whole numbers", INTEGERS),
+    (Group::Block, "a function block", BLOCKS),
+    (Group::Word, "", WORDS),
+    (Group::Sign, "", &[",", ":", ";", ":=", ".", "..", "(", ")"]), // `&` is another word for AND
 ];
 
 /// Truth values.

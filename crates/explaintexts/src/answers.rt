@@ -5,8 +5,7 @@ use crate::filling::{first_answer, given_len};
 use crate::habits::habit_at;
 use crate::negations::negation;
 use crate::numbers::numbers;
-use crate::proposals::{is_bracket, proposals, renamed};
-use crate::rows::{ASKED, RESERVED};
+use crate::proposals::{ASKED, RESERVED, is_bracket, is_renamed, proposals};
 use crate::said::{Change, Said, Standing, Trial, advice};
 use explaincures::{
     Advice, AskedText, FaultAnswer, Group, Possible, Spot, Surroundings, left_out, list_words,
@@ -31,53 +30,49 @@ pub fn answer_text(
         spot: Spot::of(asked.text, at),
         around: Surroundings::of(asked.text, at),
     };
-    if let Some(answer) = of_cause(alloc, &standing, cause)? {
-        return Ok(answer);
+    let answer = match cause {
+        TextCause::Unexpected | TextCause::NotNested => habitual(alloc, &standing, None)?,
+        TextCause::BadToken => {
+            let is_last = left_out(alloc, &standing.spot)?.is_some();
+            habitual(alloc, &standing, Some(bad_token(&standing.spot, is_last)))?
+        }
+        _ => of_other(cause, &standing.spot).answer(alloc, &standing)?,
+    };
+    match answer {
+        Some(answer) => Ok(answer),
+        None => unexpected(alloc, &standing),
     }
-    unexpected(alloc, &standing)
 }
 
-/// What is said of a cause, where that is not for what could stand there to say.
-fn of_cause(
+/// What is said of what people write, of a negation or of a number; or this, where none is meant.
+fn habitual(
     alloc: Global,
     standing: &Standing,
-    cause: TextCause,
+    last: Option<Said>,
 ) -> Result<Option<FaultAnswer>, AllocError> {
-    match cause {
-        TextCause::Unexpected | TextCause::NotNested => habitual(alloc, standing),
-        TextCause::BadToken => {
-            if let Some(answer) = first_answer(alloc, standing, &equals(standing))? {
-                return Ok(Some(answer));
-            }
-            if let Some(answer) = habitual(alloc, standing)? {
-                return Ok(Some(answer));
-            }
-            let is_last = left_out(alloc, &standing.spot)?.is_some();
-            bad_token(&standing.spot, is_last).answer(alloc, standing)
-        }
-        _ => of_other(cause, &standing.spot).answer(alloc, standing),
-    }
-}
-
-/// What is said of what people write, of a negation or of a number.
-fn habitual(alloc: Global, standing: &Standing) -> Result<Option<FaultAnswer>, AllocError> {
-    let candidates = [unnamed(standing), negation(standing), habit_at(standing)];
+    let [value, all, inputs] = equals(standing);
+    let (negated, habit) = (negation(standing), habit_at(standing));
+    let candidates = [value, all, inputs, unnamed(standing), negated, habit];
     let answer = first_answer(alloc, standing, &candidates)?;
     if answer.is_some() || is_range(alloc, standing)? {
         return Ok(answer);
     }
-    first_answer(alloc, standing, &numbers(standing))
+    let [number, other] = numbers(standing);
+    first_answer(alloc, standing, &[number, other, last])
 }
 
 /// Whether a range with two dots is meant at one.
 fn is_range(alloc: Global, standing: &Standing) -> Result<bool, AllocError> {
-    let spot = &standing.spot;
-    if standing.around.is_in_body() || spot.token() != b".".as_slice() {
-        return Ok(false);
-    }
+    let Standing { spot, around, .. } = standing;
+    let is_dot = !around.is_in_body() && spot.token() == b".".as_slice();
     let place = (spot.at, spot.found_to());
-    let range = Said::of(ASKED, place).put(place, "..");
-    Ok(range.cure(alloc, standing)?.is_some())
+    Ok(
+        is_dot
+            && Said::of(ASKED, place)
+                .put(place, "..")
+                .cure(alloc, standing)?
+                .is_some(),
+    )
 }
 
 /// What is said where a program is open that has no name where one is asked for: something else
@@ -86,47 +81,39 @@ fn unnamed(standing: &Standing) -> Option<Said> {
     let spot = &standing.spot;
     let unit = standing.around.unit?;
     let is_open = unit.word == Keyword::Program && unit.name.is_none();
-    let is_word = keyword_of(spot.token()).is_some();
     let is_below = unit.at < spot.line_from || is_bracket(spot.token());
-    if !is_open || spot.at < spot.text.len() && !(is_word && is_below) {
-        return None;
-    }
+    let is_other = keyword_of(spot.token()).is_some() && is_below;
     let row = advice!("a program without a name";
         "a program has a name, which stands behind PROGRAM";
         "PROGRAM hall\nVAR count : UINT; END_VAR");
-    Some(Said::of(row, (spot.at, spot.at)))
+    let is_missing = is_open && (is_other || spot.at >= spot.text.len());
+    is_missing.then_some(Said::of(row, (spot.at, spot.at)))
 }
 
 /// What is said of `=` or `=>`: `:=` in its place, or in that of each such sign up to the end of
 /// the line where the text reads with it; or how a call is written, where one is open.
 fn equals(standing: &Standing) -> [Option<Said>; 3] {
-    let spot = &standing.spot;
-    if spot.token() != b"=".as_slice() {
-        return [None, None, None];
-    }
-    let code = spot
+    let Standing { spot, around, .. } = standing;
+    let comment = spot
         .rest()
         .windows(2)
         .position(|pair| pair == b"(*".as_slice());
-    let to = spot.at.saturating_add(code.unwrap_or(spot.rest().len()));
+    let code_len = comment.unwrap_or(spot.rest().len());
+    let code = (spot.at, spot.at.saturating_add(code_len));
     let sign = (spot.at, spot.at.saturating_add(given_len(spot.rest())));
-    let value = Said::of(
-        advice!("{1} where := is asked for"; "a value stands behind :="; ""),
-        sign,
-    );
-    let all = value.put_parts((spot.at, to), "{=}", [(spot.at, to), sign]);
-    let inputs = Said::of(
-        advice!("{0} where := is asked for";
-            "an input takes its value behind :=; an output is read behind the call, with a\n\
-                dot";
-            "CAL rest(IN := pressed, PT := T#3m)\nLD rest.Q"),
-        sign,
-    );
-    let is_input = is_in_call(spot, &standing.around);
+    let row = advice!("{1} where := is asked for"; "a value stands behind :="; "");
+    let value = Said::of(row, sign);
+    let all = value.put_parts(code, "{=}", [code, sign]);
+    let row = advice!("{0} where := is asked for";
+        "an input takes its value behind :=; an output is read behind the call, with a\n\
+            dot";
+        "CAL rest(IN := pressed, PT := T#3m)\nLD rest.Q");
+    let is_given = spot.token() == b"=".as_slice();
+    let is_input = is_given && is_in_call(spot, around);
     [
-        Some(value.put(sign, ":=")),
-        Some(all),
-        if is_input { Some(inputs) } else { None },
+        is_given.then_some(value.put(sign, ":=")),
+        is_given.then_some(all),
+        is_input.then_some(Said::of(row, sign)),
     ]
 }
 
@@ -138,30 +125,26 @@ fn bad_token(spot: &Spot, is_last: bool) -> Said {
     } else {
         "a text has words, numbers, times, addresses, comments and , : ; := . .. ( ) &"
     };
-    let what = "no word begins with {0}";
     let row = Advice {
-        what,
+        what: "no word begins with {0}",
         cure,
         line: "LD a",
     };
-    Said::of(row, (spot.at, spot.found_to())).with_change(Change::LeaveOut)
+    Said {
+        change: Change::LeaveOut,
+        ..Said::of(row, (spot.at, spot.found_to()))
+    }
 }
 
 /// What is said of the other causes.
 fn of_other(cause: TextCause, spot: &Spot) -> Said {
-    let said = Said::of(row_of(cause, spot.token()), (spot.at, spot.at));
+    let said = Said::of(row_of(cause, spot), (spot.at, spot.at));
     match cause {
-        TextCause::CommentOpen => {
-            let mut said = said.put((spot.line_to, spot.line_to), " *)");
-            said.trial = Trial::Text;
-            said
-        }
-        TextCause::NotAscii if is_marked(spot) => {
-            let row = advice!("a byte order mark";
-                "save the file without one: as ASCII, or as UTF-8 without a mark";
-                "PROGRAM stairs");
-            Said::of(row, (0, 3)).put((0, 3), "")
-        }
+        TextCause::CommentOpen => Said {
+            trial: Trial::Text,
+            ..said.put((spot.line_to, spot.line_to), " *)")
+        },
+        TextCause::NotAscii if is_marked(spot) => said.put((0, 3), ""),
         _ => said,
     }
 }
@@ -172,31 +155,27 @@ fn is_marked(spot: &Spot) -> bool {
 }
 
 /// What is said of a cause, and of a number that is too big by what it is.
-fn row_of(cause: TextCause, found: &[u8]) -> Advice {
-    match cause {
-        TextCause::NotAscii => advice!("a character that is not ASCII";
+fn row_of(cause: TextCause, spot: &Spot) -> Advice {
+    match (cause, spot.token()) {
+        (TextCause::NotAscii, _) if is_marked(spot) => advice!("a byte order mark";
+            "save the file without one: as ASCII, or as UTF-8 without a mark";
+            "PROGRAM stairs"),
+        (TextCause::NotAscii, _) => advice!("a character that is not ASCII";
             "write names without accents; in comments any character may stand";
             "PROGRAM cafe"),
-        TextCause::TooDeep => advice!("a parenthesis too many: at most 32 are open at once";
+        (TextCause::TooDeep, _) => advice!("a parenthesis too many: at most 32 are open at once";
             "store what is computed so far in a variable, and go on with that";
             "ST part"),
-        TextCause::CommentOpen => advice!("a comment without end";
+        (TextCause::CommentOpen, _) => advice!("a comment without end";
             "end it; (*) opens a comment too, and does not close it";
             "(* the stairs *)"),
-        TextCause::TooLong => advice!("a text of over 1,048,576 bytes";
+        (TextCause::TooLong, _) => advice!("a text of over 1,048,576 bytes";
             "leave out comments, or divide the house among two controllers";
             "PROGRAM stairs"),
-        _ => of_big(found),
-    }
-}
-
-/// What is said of a number, a time or an address that is too big.
-fn of_big(found: &[u8]) -> Advice {
-    match found {
-        [b'T' | b't', ..] => advice!("a time over its limit";
+        (_, [b'T' | b't', ..]) => advice!("a time over its limit";
             "a time is at most 4294967295 milliseconds, which is some 49 days";
             "T#49d"),
-        [b'%', ..] => advice!("an address over its limit";
+        (_, [b'%', ..]) => advice!("an address over its limit";
             "buses are 0 to 63, and what stands behind the dot is 0 to 255 at most";
             "lamp AT %QB0.5 : USINT (0..254);"),
         _ => advice!("a number over its limit";
@@ -207,45 +186,50 @@ fn of_big(found: &[u8]) -> Advice {
 
 /// What is said where something cannot stand: what could, and a change of the line that is tried.
 fn unexpected(alloc: Global, standing: &Standing) -> Result<FaultAnswer, AllocError> {
-    let spot = standing.spot;
-    let from = standing.around.from;
-    let Some(possible) = Possible::at(alloc, spot.text, from, spot.at)? else {
+    let spot = &standing.spot;
+    let Some(possible) = Possible::at(alloc, spot.text, standing.around.from, spot.at)? else {
         return cannot_stand(standing).plain(alloc, standing);
     };
     let answer = match first_answer(alloc, standing, &proposals(standing, &possible))? {
         Some(answer) => answer,
         None => last(alloc, standing, &possible)?.plain(alloc, standing)?,
     };
-    Ok(answer.with_facts(facts_of(alloc, standing, &possible)?))
+    let with_end = standing.around.is_in_body() && !spot.is_first();
+    let told = possible.words(alloc, with_end)?;
+    if told.is_empty() {
+        return Ok(answer);
+    }
+    let list = list_words(alloc, &told)?;
+    Ok(answer.with_facts(format!(in alloc; "could stand here: {list}\n")?))
 }
 
 /// What is said where no change helps: that a word is reserved, where a name alone could stand, or
 /// what is asked for, where that is one thing.
 fn last(alloc: Global, standing: &Standing, possible: &Possible) -> Result<Said, AllocError> {
     let spot = &standing.spot;
-    let mut said = cannot_stand(standing);
+    let said = cannot_stand(standing);
     let Advice { cure, line, .. } = said.row;
     let is_other = possible.has(Group::OtherType) || possible.has(Group::Number);
-    if !is_other && renamed(spot, possible).is_some() {
-        let Advice { what, cure, .. } = RESERVED;
-        said.row = Advice { what, cure, line };
-        return Ok(said);
+    if is_renamed(spot, possible) && !is_other {
+        let row = Advice { line, ..RESERVED };
+        return Ok(Said { row, ..said });
     }
+    let row = Advice {
+        cure,
+        line,
+        ..ASKED
+    };
     let told = possible.words(alloc, standing.around.is_in_body())?;
-    if let [only] = told.as_slice() {
-        if !spot.token().is_empty() {
-            let what = ASKED.what;
-            said.row = Advice { what, cure, line };
-            said.words = (*only, "");
-        }
-    }
-    Ok(said)
+    Ok(match told.as_slice() {
+        [only] if !spot.token().is_empty() => Said { row, ..said }.with_words((*only, "")),
+        _ => said,
+    })
 }
 
 /// What is said where nothing else is.
 fn cannot_stand(standing: &Standing) -> Said {
     let spot = &standing.spot;
-    let Advice { cure, line, .. } = example_of(spot, &standing.around);
+    let (cure, line) = example_of(spot, &standing.around);
     let what = if spot.at >= spot.text.len() {
         "the text ends too early"
     } else if spot.token().is_empty() {
@@ -253,17 +237,5 @@ fn cannot_stand(standing: &Standing) -> Said {
     } else {
         "{0} cannot stand here"
     };
-    let row = Advice { what, cure, line };
-    Said::of(row, (spot.at, spot.found_to()))
-}
-
-/// What could stand at the place, as a line.
-fn facts_of(alloc: Global, standing: &Standing, possible: &Possible) -> Result<String, AllocError> {
-    let with_end = standing.around.is_in_body() && !standing.spot.is_first();
-    let told = possible.words(alloc, with_end)?;
-    if told.is_empty() {
-        return Ok(String::new(alloc));
-    }
-    let list = list_words(alloc, &told)?;
-    format!(in alloc; "could stand here: {list}\n")
+    Said::of(Advice { what, cure, line }, (spot.at, spot.found_to()))
 }

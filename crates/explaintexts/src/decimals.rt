@@ -1,7 +1,12 @@
 //! Numbers with a fraction or an exponent, in whole numbers.
 
-use crate::said::{Place, Said};
-use explaincures::{Spot, part};
+use crate::habit_rows::FRACTION;
+use crate::said::{Place, Said, advice};
+use explaincures::{Advice, Spot, part};
+
+const WHOLE: Advice = advice!("a whole number with a dot or an exponent";
+    "write it in digits alone: there are no fractions and no exponents";
+    "LD 1000");
 
 /// A number as a quotient of two whole ones, of which the second is a power of ten.
 #[derive(Clone, Copy)]
@@ -18,44 +23,43 @@ impl Decimal {
         let (front, behind) = parted(digits, b".,");
         let number = with_digits(with_digits(0, front)?, part(behind, 1, behind.len()))?;
         let places = behind.iter().filter(|byte| byte.is_ascii_digit()).count();
-        let (up, down) = match exponent {
-            [] if !behind.is_empty() => (0, places),
-            [_, b'-', power @ ..] => (0, places.saturating_add(power_of(power)?)),
-            [_, b'+', power @ ..] => around(power_of(power)?, places),
-            [_, _, ..] => around(power_of(part(exponent, 1, exponent.len()))?, places),
+        let (is_small, power) = match exponent {
+            [] if !behind.is_empty() => (false, exponent),
+            [_, b'-', power @ ..] => (true, power),
+            [_, b'+', power @ ..] => (false, power),
+            [_, power @ ..] if !power.is_empty() => (false, power),
             _ => return None,
         };
+        let power = i64::try_from(with_digits(0, power)?).ok()?;
+        let power = if is_small {
+            0_i64.saturating_sub(power)
+        } else {
+            power
+        };
+        let scale = power.saturating_sub(i64::try_from(places).ok()?);
+        let ten = 10_u64.checked_pow(u32::try_from(scale.unsigned_abs()).ok()?)?;
         Some(Decimal {
-            number: number.checked_mul(power_of_ten(up)?)?,
-            divisor: power_of_ten(down)?,
+            number: number.checked_mul(if scale > 0 { ten } else { 1 })?,
+            divisor: if scale > 0 { 1 } else { ten },
         })
-    }
-
-    /// Whether it is a whole number.
-    pub(crate) fn is_whole(self) -> bool {
-        is_multiple(self.number, self.divisor)
     }
 
     /// This number in whole numbers where it stands, if it is one, or if MUL or DIV stands before
     /// it.
-    pub(crate) fn put(self, said: Said, spot: &Spot, place: Place) -> Said {
+    pub(crate) fn said(self, spot: &Spot, place: Place) -> Said {
+        let Decimal { number, divisor } = self;
+        let whole = quotient(number, divisor);
+        let said = Said::of(if whole.is_some() { WHOLE } else { FRACTION }, place);
         let (first, behind) = spot.first_place();
         let is_operand = spot.part(behind, place.0).iter().all(|byte| *byte == b' ');
         let is_division = is_operand && spot.first_word().eq_ignore_ascii_case(b"DIV");
         let is_product = is_operand && spot.first_word().eq_ignore_ascii_case(b"MUL");
-        let Decimal { number, divisor } = self;
-        let line = (first, place.1);
-        if is_division && number == 0 {
-            said
-        } else if self.is_whole() {
-            said.put(place, "{n}")
-                .with_numbers(quotient(number, divisor), 0)
-        } else if is_product {
-            product(said, line, number, divisor)
-        } else if is_division {
-            product(said, line, divisor, number)
-        } else {
-            said
+        match whole {
+            _ if is_division && number == 0 => said,
+            Some(whole) => said.put(place, "{n}").with_numbers((whole, 0)),
+            None if is_product => product(said, (first, place.1), number, divisor),
+            None if is_division => product(said, (first, place.1), divisor, number),
+            None => said,
         }
     }
 }
@@ -82,41 +86,20 @@ fn with_digits(number: u64, digits: &[u8]) -> Option<u64> {
     Some(number)
 }
 
-/// The power that is written so.
-fn power_of(digits: &[u8]) -> Option<usize> {
-    usize::try_from(with_digits(0, digits)?).ok()
-}
-
-/// How far a power goes up and down, of a number with the given number of digits behind its dot.
-fn around(power: usize, places: usize) -> (usize, usize) {
-    (power.saturating_sub(places), places.saturating_sub(power))
-}
-
-/// Ten to a power, which is 19 at most.
-fn power_of_ten(power: usize) -> Option<u64> {
-    10_u64.checked_pow(u32::try_from(power).ok()?)
-}
-
-/// Whether a number is a multiple of another one.
-fn is_multiple(number: u64, of: u64) -> bool {
-    number.checked_rem(of) == Some(0)
-}
-
-/// A number divided by one that it is a multiple of.
-fn quotient(number: u64, of: u64) -> u64 {
-    number.checked_div(of).unwrap_or(0)
+/// A number divided by another one, where it is a multiple of that.
+fn quotient(number: u64, of: u64) -> Option<u64> {
+    let whole = number.checked_div(of)?;
+    (number.checked_rem(of)? == 0).then_some(whole)
 }
 
 /// A multiplication and a division behind it, or one of them where that is enough.
 fn product(said: Said, line: Place, number: u64, divisor: u64) -> Said {
-    if is_multiple(divisor, number) {
-        said.put(line, "DIV {n}")
-            .with_numbers(quotient(divisor, number), 0)
-    } else if is_multiple(number, divisor) {
-        said.put(line, "MUL {n}")
-            .with_numbers(quotient(number, divisor), 0)
-    } else {
-        let lines = said.put(line, "MUL {n}\n{i}DIV {d}");
-        lines.with_numbers(number, divisor)
+    match (quotient(divisor, number), quotient(number, divisor)) {
+        (Some(part), _) => said.put(line, "DIV {n}").with_numbers((part, 0)),
+        (None, Some(times)) => said.put(line, "MUL {n}").with_numbers((times, 0)),
+        (None, None) => {
+            let lines = said.put(line, "MUL {n}\n{i}DIV {d}");
+            lines.with_numbers((number, divisor))
+        }
     }
 }

@@ -7,10 +7,6 @@ use explaincures::{
 use std::alloc::{AllocError, Global};
 
 /// The first of what may be said that can be said.
-///
-/// # Errors
-///
-/// The allocator is out of memory.
 pub(crate) fn first_answer(
     alloc: Global,
     standing: &Standing,
@@ -35,12 +31,14 @@ impl Said {
         alloc: Global,
         standing: &Standing,
     ) -> Result<Option<FaultAnswer>, AllocError> {
-        let example = match self.cure(alloc, standing)? {
-            Some(edit) => Example::TriedLines(edit.lines(alloc, standing.spot.text)?),
-            None if self.row.line.is_empty() => return Ok(None),
-            None => return Ok(Some(self.plain(alloc, standing)?)),
-        };
-        Ok(Some(self.worded(alloc, standing, example)?))
+        match self.cure(alloc, standing)? {
+            Some(edit) => {
+                let answer = self.plain(alloc, standing)?;
+                Ok(Some(answer.with_tried(alloc, standing.spot.text, &edit)?))
+            }
+            None if self.row.line.is_empty() => Ok(None),
+            None => Ok(Some(self.plain(alloc, standing)?)),
+        }
     }
 
     /// The answer, with the lines of another text.
@@ -49,51 +47,57 @@ impl Said {
         alloc: Global,
         standing: &Standing,
     ) -> Result<FaultAnswer, AllocError> {
-        let line = String::from_str(alloc, self.row.line)?;
-        self.worded(alloc, standing, Example::Other(line))
-    }
-
-    /// The answer, with these lines.
-    fn worded(
-        &self,
-        alloc: Global,
-        standing: &Standing,
-        example: Example,
-    ) -> Result<FaultAnswer, AllocError> {
         let text = standing.spot.text;
         Ok(FaultAnswer {
             what: shown_text(alloc, &self.fill(alloc, text, self.row.what, 0)?)?,
             facts: String::new(alloc),
             cure: shown_text(alloc, &self.fill(alloc, text, self.row.cure, 0)?)?,
-            example,
+            example: Example::Other(String::from_str(alloc, self.row.line)?),
         })
     }
 
-    /// The change, where the text reads with it, and nothing stands against its names there.
+    /// The change, where the text reads with it as far as it has to, and nothing stands against its
+    /// names there.
     pub(crate) fn cure(
         &self,
         alloc: Global,
         standing: &Standing,
     ) -> Result<Option<Edit>, AllocError> {
-        if let Some(edit) = self.edit(alloc, standing)? {
-            if is_cure(alloc, standing, &edit, self.trial)? {
-                return Ok(Some(edit));
-            }
+        let Some(edit) = self.edit(alloc, &standing.spot)? else {
+            return Ok(None);
+        };
+        let is_whole = self.trial == Trial::Text;
+        if !is_whole && !self.is_read(alloc, standing, &edit)? {
+            return Ok(None);
         }
-        Ok(None)
+        match edit.outcome(alloc, standing.asked)? {
+            EditOutcome::Text if is_whole => Ok(None),
+            EditOutcome::Name { is_there: true, .. } if !is_whole => Ok(None),
+            _ => Ok(Some(edit)),
+        }
+    }
+
+    /// Whether the lines read with a change.
+    fn is_read(&self, alloc: Global, standing: &Standing, edit: &Edit) -> Result<bool, AllocError> {
+        let around = &standing.around;
+        let is_open = !around.is_in_body() || around.open > 0 || edit.with.contains(&b'(');
+        // What was found stands on a line behind the change: that line shows whether it helps.
+        let is_shown = edit.to <= standing.spot.line_from;
+        let with_next = self.trial == Trial::NextLine && is_open && !is_shown;
+        edit.is_read(alloc, &standing.spot, around.from, with_next)
     }
 
     /// The change.
-    fn edit(&self, alloc: Global, standing: &Standing) -> Result<Option<Edit>, AllocError> {
+    fn edit(&self, alloc: Global, spot: &Spot) -> Result<Option<Edit>, AllocError> {
         match self.change {
-            Some(Change::Put((from, to), with)) => {
-                let indent = from.saturating_sub(Spot::of(standing.spot.text, from).line_from);
-                let with = self.fill(alloc, standing.spot.text, with, indent)?;
+            Change::Put((from, to), with) => {
+                let indent = from.saturating_sub(Spot::of(spot.text, from).line_from);
+                let with = self.fill(alloc, spot.text, with, indent)?;
                 Ok(Some(Edit::new(alloc, from, to, &with)?))
             }
-            Some(Change::LeaveOut) => left_out(alloc, &standing.spot),
-            Some(Change::Sign(sign)) => in_place_of_sign(alloc, &standing.spot, sign),
-            None => Ok(None),
+            Change::LeaveOut => left_out(alloc, spot),
+            Change::Sign(sign) => in_place_of_sign(alloc, spot, sign),
+            Change::Nothing => Ok(None),
         }
     }
 
@@ -128,52 +132,25 @@ impl Said {
         indent: usize,
         bytes: &mut Vec<u8>,
     ) -> Result<(), AllocError> {
+        let (number, count) = self.numbers;
         match slot {
             b'w' => bytes.extend_from_slice(self.words.0.as_bytes()),
             b'v' => bytes.extend_from_slice(self.words.1.as_bytes()),
-            b'n' => push_number(alloc, bytes, self.numbers.0),
-            b'd' => push_number(alloc, bytes, self.numbers.1),
+            b'n' => bytes.extend_from_slice(format!(in alloc; "{number}")?.as_bytes()),
+            b'd' => bytes.extend_from_slice(format!(in alloc; "{count}")?.as_bytes()),
             b'i' => push_times(bytes, indent, b" "),
-            b')' => push_times(bytes, self.numbers.1 as usize, b")\n"),
-            b'=' => push_given(bytes, self.part(asked, 0)),
-            digit => bytes.extend_from_slice(self.part(asked, digit.saturating_sub(b'0'))),
+            b')' => push_times(bytes, count as usize, b")\n"),
+            b'=' => push_given(bytes, self.part(asked, b'0')),
+            digit => bytes.extend_from_slice(self.part(asked, digit)),
         }
     }
 
-    /// One of the parts.
-    fn part<'a>(&self, asked: &'a [u8], number: u8) -> &'a [u8] {
-        match self.parts.get(usize::from(number)) {
-            Some((from, to)) => part(asked, *from, *to),
-            None => b"",
-        }
+    /// The part of this digit.
+    fn part<'a>(&self, asked: &'a [u8], digit: u8) -> &'a [u8] {
+        let number = usize::from(digit.saturating_sub(b'0'));
+        let (from, to) = self.parts.get(number).copied().unwrap_or((0, 0));
+        part(asked, from, to)
     }
-}
-
-/// Whether a change helps, as far as it has to be read.
-fn is_cure(
-    alloc: Global,
-    standing: &Standing,
-    edit: &Edit,
-    trial: Trial,
-) -> Result<bool, AllocError> {
-    if trial == Trial::Text {
-        return Ok(edit.outcome(alloc, standing.asked)? != EditOutcome::Text);
-    }
-    let around = &standing.around;
-    let is_open = !around.is_in_body() || around.open > 0 || edit.with.contains(&b'(');
-    // What was found stands on a line behind the change: that line shows whether it helps.
-    let is_shown = edit.to <= standing.spot.line_from;
-    let with_next = trial == Trial::NextLine && is_open && !is_shown;
-    if !edit.is_read(alloc, &standing.spot, around.from, with_next)? {
-        return Ok(false);
-    }
-    let outcome = edit.outcome(alloc, standing.asked)?;
-    Ok(!matches!(outcome, EditOutcome::Name { is_there: true, .. }))
-}
-
-/// Adds a number.
-fn push_number(alloc: Global, bytes: &mut Vec<u8>, number: u64) -> Result<(), AllocError> {
-    bytes.extend_from_slice(format!(in alloc; "{number}")?.as_bytes())
 }
 
 /// Adds some bytes the given number of times.

@@ -2,81 +2,57 @@
 
 use crate::habit::Fix;
 use crate::habits::is_name;
-use crate::said::{Change, Place, Said, Standing};
+use crate::said::{Change, Said, Standing};
 use explaincures::{Advice, Spot, content_len, near_word, part};
 
 /// What is said of a habit, with the change that is meant.
 pub(crate) fn meant(standing: &Standing, row: Advice, fix: Fix) -> Said {
-    let spot = &standing.spot;
-    let around = &standing.around;
-    let literal = spot.literal();
-    let said = Said::of(row, literal);
+    let Standing { spot, around, .. } = standing;
+    let (from, to) = spot.literal();
+    let before = around.before;
+    let said = Said::of(row, (from, to));
     match fix {
         Fix::Nothing => said,
-        Fix::LeaveOut => said.with_change(Change::LeaveOut),
-        Fix::LeaveOutBefore => said.put(with_blanks_before(spot, around.before), ""),
-        Fix::Joined => said.put((around.before.1, spot.at), "_"),
-        Fix::Replace(word) => said.put(spot.first_place(), word),
-        Fix::Front(len, word) => said.put(front(literal, usize::from(len)), word),
-        Fix::Literal(word) => said.put(literal, word),
-        Fix::Untyped => said.put(front(literal, type_len(spot)), ""),
-        Fix::Block(word) => match around.foreign {
-            Some(place) => said.put(place, word),
-            None => said,
+        Fix::LeaveOut => Said {
+            change: Change::LeaveOut,
+            ..said
         },
-        Fix::Call => call(said, spot, around.before.0),
-        Fix::Comment => commented(said, spot),
+        Fix::LeaveOutBefore => said.put((content_len(spot.part(0, before.0)), before.1), ""),
+        Fix::Joined => said.put((before.1, spot.at), "_"),
+        Fix::Replace(word) => said.put(spot.first_place(), word),
+        Fix::Front(len, word) => said.put((from, from.saturating_add(usize::from(len))), word),
+        Fix::Literal(word) => said.put((from, to), word),
+        Fix::Block(word) => said.put(around.foreign.unwrap_or(before), word),
+        Fix::Call => call(said, spot, before.0),
         Fix::Milliseconds => with_milliseconds(said, spot),
-        Fix::Bare => bare(said, spot),
         Fix::LoadAndStore => load_and_store(said, spot),
-        Fix::Unquoted => unquoted(said, spot),
+        Fix::Comment | Fix::Bare => within(said, spot, fix),
+        Fix::Unquoted => {
+            let to = spot.at.saturating_add(quoted_len(spot.rest()).unwrap_or(0));
+            let name = (spot.at.saturating_add(1), to.saturating_sub(1));
+            said.put_parts((spot.at, to), "{0}", [name; 2])
+        }
     }
 }
 
-/// So many bytes at the front of a part.
-fn front((from, _): Place, len: usize) -> Place {
-    (from, from.saturating_add(len))
-}
-
-/// How many bytes the number has up to the `#` behind its type.
-fn type_len(spot: &Spot) -> usize {
-    let (from, to) = spot.literal();
-    let typed = spot.part(from, to).iter().take_while(|byte| **byte != b'#');
-    typed.count().saturating_add(1)
-}
-
-/// Where a word stands, with the blanks before it on its line.
-fn with_blanks_before(spot: &Spot, (from, to): Place) -> Place {
-    let word = Spot::of(spot.text, from);
-    (word.line_from.saturating_add(content_len(word.front())), to)
-}
-
-/// The rest of the line as a comment, without the signs that begin and end it; nothing where they
-/// do not end with the line.
-fn commented(said: Said, spot: &Spot) -> Said {
-    let (first, last) = match spot.rest() {
-        [b'/', b'*', .., b'*', b'/'] => (2, 2),
-        [b'/', b'*', ..] => return said,
-        [b'/', b'/', ..] | [b'-', b'-', ..] => (2, 0),
-        [b'{', .., b'}'] => (1, 1),
-        _ => (1, 0),
+/// What stands up to the end of the line, without the parentheses around it; or as a comment,
+/// without the signs that begin and end one; nothing where they do not end with the line.
+fn within(said: Said, spot: &Spot, fix: Fix) -> Said {
+    let (first, last, with) = match (fix, spot.rest()) {
+        (Fix::Bare, [b'(', .., b')']) => (1, 1, " {0}"),
+        (Fix::Bare, _) => return said,
+        (_, [b'/', b'*', .., b'*', b'/']) => (2, 2, "(* {0} *)"),
+        (_, [b'/', b'*', ..]) => return said,
+        (_, [b'/', b'/', ..] | [b'-', b'-', ..]) => (2, 0, "(* {0} *)"),
+        (_, [b'{', .., b'}']) => (1, 1, "(* {0} *)"),
+        _ => (1, 0, "(* {0} *)"),
     };
     let to = spot.line_to.saturating_sub(last);
     let content = spot.trimmed(spot.at.saturating_add(first), to);
-    if content.0 == content.1 {
+    if content.0 == content.1 && !matches!(fix, Fix::Bare) {
         return said;
     }
-    said.put_parts((spot.at, spot.line_to), "(* {0} *)", [content; 2])
-}
-
-/// What stands in parentheses up to the end of the line, without them; nothing where they do not
-/// hold all of it.
-fn bare(said: Said, spot: &Spot) -> Said {
-    if !matches!(spot.rest(), [b'(', .., b')']) {
-        return said;
-    }
-    let content = spot.trimmed(spot.at.saturating_add(1), spot.line_to.saturating_sub(1));
-    said.put_parts((spot.at, spot.line_to), " {0}", [content; 2])
+    said.put_parts((spot.at, spot.line_to), with, [content; 2])
 }
 
 /// The call of an instance, which stands at a place, with CAL before it; or with a reserved word in
@@ -96,51 +72,32 @@ fn call(said: Said, spot: &Spot, instance: usize) -> Said {
 pub(crate) fn quoted_len(bytes: &[u8]) -> Option<usize> {
     let content = bytes.get(1..)?;
     let len = content.iter().position(|byte| *byte == b'\"')?;
-    if is_name(part(content, 0, len)) {
-        Some(len.saturating_add(2))
-    } else {
-        None
-    }
-}
-
-/// A name in quotes, without them.
-fn unquoted(said: Said, spot: &Spot) -> Said {
-    match quoted_len(spot.rest()) {
-        Some(len) => {
-            let to = spot.at.saturating_add(len);
-            let name = (spot.at.saturating_add(1), to.saturating_sub(1));
-            said.put_parts((spot.at, to), "{0}", [name; 2])
-        }
-        None => said,
-    }
+    is_name(part(content, 0, len)).then_some(len.saturating_add(2))
 }
 
 /// A time of seconds with one to three digits behind the dot, as seconds and milliseconds.
 fn with_milliseconds(said: Said, spot: &Spot) -> Said {
     let (from, to) = spot.literal();
     let literal = spot.part(from, to);
-    let Some(dot) = literal.iter().position(|byte| *byte == b'.') else {
-        return said;
-    };
-    let with = match part(literal, dot, literal.len()) {
+    let len = literal.iter().take_while(|byte| **byte != b'.').count();
+    let with = match part(literal, len, literal.len()) {
         [_, b'0'..=b'9', b's' | b'S'] => "{0}s{1}00ms",
         [_, b'0'..=b'9', b'0'..=b'9', b's' | b'S'] => "{0}s{1}0ms",
         [_, b'0'..=b'9', b'0'..=b'9', b'0'..=b'9', b's' | b'S'] => "{0}s{1}ms",
         _ => return said,
     };
-    let dot = from.saturating_add(dot);
+    let dot = from.saturating_add(len);
     let behind = (dot.saturating_add(1), to.saturating_sub(1));
     said.put_parts((from, to), with, [(from, dot), behind])
 }
 
 /// `a := b;` as `LD b` and `ST a`.
 fn load_and_store(said: Said, spot: &Spot) -> Said {
-    let (from, behind) = spot.trimmed(spot.line_from, spot.at);
+    let name = spot.trimmed(spot.line_from, spot.at);
     let (first, last) = spot.trimmed(spot.at.saturating_add(2), spot.line_to);
     let value = match spot.part(first, last) {
         [.., b';'] => spot.trimmed(first, last.saturating_sub(1)),
         _ => (first, last),
     };
-    let line = (from, spot.line_to);
-    said.put_parts(line, "LD {0}\n{i}ST {1}", [value, (from, behind)])
+    said.put_parts((name.0, spot.line_to), "LD {0}\n{i}ST {1}", [value, name])
 }

@@ -89,7 +89,6 @@ pub(crate) enum Fix {
     Literal(&'static str), // the number
     Block(&'static str), // the word that begins the block of variables
     Comment, // the rest of the line becomes one
-    Untyped, // without what stands up to the `#`
     Milliseconds, // in place of the part behind the dot
     Bare, // without the parentheses
     LoadAndStore, // in place of `a := b;`

@@ -1,9 +1,43 @@
 //! What people write who come from other languages: what is said of it, and how it is changed.
 
 use crate::habit::{Fix, Habit, Part, Where, habits};
-use crate::rows::{BASED, DOTTED, FRACTION, GROUPED, LOGIC_SIGN, NAMED, TRUTH_SIGN, UNIT};
 use crate::said::advice;
 use explaincures::Advice;
+
+pub(crate) const BASED: Advice = advice!("a number of another base as other languages have it";
+    "write 16# before hexadecimal digits, 8# before octal and 2# before binary ones";
+    "LD 16#C8");
+
+pub(crate) const DOTTED: Advice = advice!("a time with a fraction";
+    "write whole numbers with the units d, h, m, s and ms, in this order";
+    "T#1s500ms");
+
+pub(crate) const FRACTION: Advice = advice!("a number with a fraction";
+    "there are whole numbers alone: a multiplication and then a division stand\n\
+        for a fraction";
+    "MUL 35\nDIV 10");
+
+pub(crate) const GROUPED: Advice = advice!("a number with a dot or a comma in it";
+    "digits stand together, or with _ between them: a thousand is 1000 or 1_000,\n\
+        and one is 1";
+    "LD 1_000");
+
+const LOGIC_SIGN: Advice = advice!("a sign that is not an operator";
+    "operators are words, each on a line of its own: EQ, NE, GT, GE, LE and LT\n\
+        compare, ADD, SUB, MUL, DIV and MOD calculate";
+    "GT 100");
+
+const NAMED: Advice = advice!("an address where a name is asked for";
+    "give the address a name in VAR_GLOBAL, and write that name";
+    "VAR_GLOBAL lamp AT %QB0.5 : USINT (0..254); END_VAR");
+
+const TRUTH_SIGN: Advice = advice!("a sign that is not an operator";
+    "operators are words: AND, OR, XOR and NOT combine truth values";
+    "OR button");
+
+const UNIT: Advice = advice!("a time without T# before it";
+    "a time begins with T#";
+    "T#100ms");
 
 /// Comments, arrays and quotes.
 pub(crate) const QUOTES: &[Habit] = habits! {
@@ -161,8 +195,9 @@ pub(crate) const NUMBERS: &[Habit] = habits! {
     advice!("a number with a type before it";
         "write the number alone: it takes the type of what it goes to";
         "LD 5") =>
-        Literal Anywhere ["int#", "uint#", "sint#", "usint#", "dint#", "udint#"] Untyped,
-        Literal Anywhere ["byte#", "word#", "l#", "b#", "w#", "dw#"] Untyped;
+        Literal Anywhere ["l#", "b#", "w#"] Front(2, ""), Literal Anywhere ["dw#"] Front(3, ""),
+        Literal Anywhere ["int#"] Front(4, ""), Literal Anywhere ["usint#", "udint#"] Front(6, ""),
+        Literal Anywhere ["uint#", "sint#", "dint#", "byte#", "word#"] Front(5, "");
     advice!("a truth value with a type before it"; "write TRUE or FALSE alone"; "LD TRUE") =>
         Whole Anywhere ["bool#1", "bool#true"] Literal("TRUE"),
         Whole Anywhere ["bool#0", "bool#false"] Literal("FALSE"),

@@ -20,7 +20,6 @@ mod habits;
 mod negations;
 mod numbers;
 mod proposals;
-mod rows;
 mod said;
 
 pub use answers::answer_text;

@@ -12,60 +12,52 @@ const NEGATED: Advice = advice!("{0} before an operand";
 const TURNED: &[&str] = &["LD", "ST", "AND", "OR", "XOR", "JMPC", "CALC", "RETC"];
 
 /// What is said of a negation that was found before an operand: the same with N behind the word of
-/// the instruction, or with LDN and ST before a call of a block.
+/// the instruction, with LDN and ST before a call of a block, or, within parentheses, with NOT on a
+/// line of its own below.
 pub(crate) fn negation(standing: &Standing) -> Option<Said> {
-    let spot = &standing.spot;
-    let around = &standing.around;
+    let Standing { spot, around, .. } = standing;
     let to = match spot.rest() {
         [b'!', b'=', ..] => return None,
         [b'!' | b'~', ..] => spot.at.saturating_add(1),
         _ if is_one_of(spot.token(), &["NOT"]) => spot.found_to(),
         _ => return None,
     };
-    let operand = operand_at(spot, to);
-    let (from, behind) = around.before;
-    let is_return = is_one_of(spot.part(from, behind), &["RETC"]);
-    let is_alone = content_len(spot.part(operand.0, spot.line_to)) == 0 && !is_return;
+    // The name or the value that is negated, up to a blank, a comma or a parenthesis.
+    let (from, _) = spot.trimmed(to, spot.line_to);
+    let operand = (from, Spot::of(spot.text, from).literal().1);
+    let word = standing.before();
+    let is_return = is_one_of(word, &["RETC"]);
+    let is_alone = content_len(spot.part(from, spot.line_to)) == 0 && !is_return;
     if spot.is_first() || is_alone {
         return None;
     }
-    let mut said = Said::of(NEGATED, operand);
-    if is_return {
-        let Advice { cure, line, .. } = NEGATED;
-        let what = "{0} behind RETC";
-        said.row = Advice { what, cure, line };
-    }
-    said.parts = [(spot.at, to), operand, operand, operand, operand];
+    let what = if is_return {
+        "{0} behind RETC"
+    } else {
+        NEGATED.what
+    };
+    let said = Said {
+        parts: [(spot.at, to), operand, operand, operand, operand],
+        ..Said::of(Advice { what, ..NEGATED }, operand)
+    };
+    let (first, behind) = around.before;
+    let is_last = content_len(spot.part(operand.1, spot.line_to)) == 0;
+    let is_turned = first >= spot.line_from && is_one_of(word, TURNED);
+    let is_empty = from >= operand.1;
     Some(match around.parenthesis {
-        _ if operand.0 >= operand.1 && !is_return => said,
-        Some(open) if open >= spot.line_from && from == open => nested(said, spot, operand),
-        Some(open) if open >= spot.line_from => before_call(said, spot, (open, from), operand),
-        _ => with_letter(said, spot, around.before, operand),
+        _ if is_empty && !is_return => said,
+        Some(open) if open >= spot.line_from && first != open => {
+            before_call(said, spot, (open, first), operand)
+        }
+        Some(open) if open >= spot.line_from && is_last => said.put(
+            (spot.at, operand.1),
+            "{1}\nNOT",
+        ),
+        Some(open) if open >= spot.line_from => said,
+        _ if is_turned => said.put((behind, from), if is_empty { "N" } else { "N " }),
+        _ => said,
     })
 }
-
-/// Where the name or the value behind a place stands, up to a blank, a comma or a parenthesis.
-fn operand_at(spot: &Spot, from: usize) -> Place {
-    let (from, _) = spot.trimmed(from, spot.line_to);
-    (from, Spot::of(spot.text, from).literal().1)
-}
-
-/// With N behind the word of the instruction before the place, where it has such a form.
-fn with_letter(said: Said, spot: &Spot, (first, behind): Place, (operand, to): Place) -> Said {
-    if first < spot.line_from || !is_one_of(spot.part(first, behind), TURNED) {
-        return said;
-    }
-    said.put((behind, operand), if operand < to { "N " } else { "N" })
-}
-
-/// Within parentheses: with the operand, and NOT on a line of its own below.
-fn nested(said: Said, spot: &Spot, (from, to): Place) -> Said {
-    if content_len(spot.part(to, spot.line_to)) > 0 {
-        return said;
-    }
-    said.put((spot.at, to), "{1}\nNOT")
-}
-
 /// `CAL t(IN := NOT b, ..)` as `LDN b`, `ST t.IN` and the call without this input: what is open,
 /// and where `:=` stands.
 fn before_call(said: Said, spot: &Spot, (open, given): Place, (_, to): Place) -> Said {

@@ -2,7 +2,7 @@
 //! does not have, or letters.
 
 use crate::decimals::Decimal;
-use crate::rows::{BASED, DOTTED, FRACTION, GROUPED};
+use crate::habit_rows::{BASED, DOTTED, FRACTION, GROUPED};
 use crate::said::{Place, Said, Standing, advice};
 use explaincures::{Advice, Spot, content_len, part};
 
@@ -13,10 +13,6 @@ const NO_TIME: Advice = advice!("a number with a fraction where a time is asked 
 
 /// What is said where that helps.
 const TIMED: Advice = advice!("a time without T# before it"; "a time begins with T#"; "");
-
-const WHOLE: Advice = advice!("a whole number with a dot or an exponent";
-    "write it in digits alone: there are no fractions and no exponents";
-    "LD 1000");
 
 const PERCENT: Advice = advice!("a percent sign";
     "a share of a value is a multiplication, and then a division; a level is a\n\
@@ -35,23 +31,20 @@ pub(crate) fn numbers(standing: &Standing) -> [Option<Said>; 2] {
         return [None, None];
     };
     let number = spot.part(place.0, place.1);
-    if let Some(base) = number.iter().position(|byte| *byte == b'#') {
-        return [based(spot, place, base), None];
-    }
-    if is_grouped(number) {
-        return [Some(Said::of(GROUPED, place)), None];
-    }
-    match Decimal::of(number) {
-        Some(_) if is_time(spot) => [Some(Said::of(NO_TIME, place)), None],
-        Some(decimal) => {
-            let row = if decimal.is_whole() { WHOLE } else { FRACTION };
-            [Some(decimal.put(Said::of(row, place), spot, place)), None]
-        }
-        None => {
+    let said = match (
+        number.iter().position(|byte| *byte == b'#'),
+        Decimal::of(number),
+    ) {
+        (Some(base), _) => based(spot, place, base),
+        _ if is_grouped(number) => Some(Said::of(GROUPED, place)),
+        (None, Some(_)) if is_time(spot) => Some(Said::of(NO_TIME, place)),
+        (None, Some(decimal)) => Some(decimal.said(spot, place)),
+        (None, None) => {
             let timed = Said::of(TIMED, place).put((place.0, place.0), "T#");
-            [Some(timed), Some(Said::of(of_letters(number), place))]
+            return [Some(timed), Some(Said::of(of_letters(number), place))];
         }
-    }
+    };
+    [said, None]
 }
 
 /// Whether three digits stand behind a dot or a comma, which may be there for a thousand.
@@ -68,23 +61,18 @@ fn is_grouped(number: &[u8]) -> bool {
 
 /// Whether a time is given there: behind PT, or in the line before a store to it.
 fn is_time(spot: &Spot) -> bool {
-    let front = spot.part(spot.line_from, spot.literal().0).trim_ascii_end();
-    let named = match front {
-        [named @ .., b':', b'='] => named.trim_ascii_end(),
+    let front = spot.part(spot.line_from, spot.literal().0);
+    let named = match front.trim_ascii_end() {
+        [named @ .., b':', b'='] => named,
         _ => b"",
     };
-    let next = spot
-        .part(spot.line_to, spot.next_line_to())
-        .trim_ascii_end();
-    ends_with_time(named) || ends_with_time(next)
-}
-
-/// Whether the name of an input that takes a time stands last.
-fn ends_with_time(bytes: &[u8]) -> bool {
-    matches!(
-        bytes,
-        [.., b'(' | b',' | b' ' | b'.', b'P' | b'p', b'T' | b't']
-    )
+    let next = spot.part(spot.line_to, spot.next_line_to());
+    [named, next].iter().any(|bytes| {
+        matches!(
+            bytes.trim_ascii_end(),
+            [.., b'(' | b',' | b' ' | b'.', b'P' | b'p', b'T' | b't']
+        )
+    })
 }
 
 /// What is said of a number with other characters than digits.
@@ -112,7 +100,11 @@ fn based(spot: &Spot, place: Place, base: usize) -> Option<Said> {
         _ => return Some(Said::of(BASED, place)),
     };
     let written = spot.part(behind, place.1);
-    let bad = match written.iter().position(|byte| !is_digit(number, *byte)) {
+    let is_bad = |byte: &u8| match char::from(*byte).to_digit(16) {
+        Some(digit) => digit >= number,
+        None => *byte != b'_',
+    };
+    let bad = match written.iter().position(is_bad) {
         Some(index) => behind.saturating_add(index),
         None if written.is_empty() => behind,
         None => return None,
@@ -124,18 +116,8 @@ fn based(spot: &Spot, place: Place, base: usize) -> Option<Said> {
     };
     let cure = "behind {n}# stand the digits {w}";
     let row = Advice { what, cure, line };
-    let said = Said::of(row, (bad, bad.saturating_add(1))).with_words(digits, "");
-    Some(said.with_numbers(u64::from(number), 0))
-}
-
-/// Whether a byte may stand among the digits of a base.
-fn is_digit(base: u8, byte: u8) -> bool {
-    match byte {
-        b'0' | b'1' | b'_' => true,
-        b'2'..=b'7' => base > 2,
-        b'8' | b'9' | b'A'..=b'F' | b'a'..=b'f' => base > 8,
-        _ => false,
-    }
+    let said = Said::of(row, (bad, bad.saturating_add(1))).with_words((digits, ""));
+    Some(said.with_numbers((u64::from(number), 0)))
 }
 
 /// Where the number stands that breaks off at a place, if one does: it begins before the place, or

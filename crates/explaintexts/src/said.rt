@@ -23,6 +23,14 @@ pub(crate) struct Standing<'a> {
     pub around: Surroundings,
 }
 
+impl<'a> Standing<'a> {
+    /// What stands just before the place.
+    pub(crate) fn before(&self) -> &'a [u8] {
+        let (from, to) = self.around.before;
+        self.spot.part(from, to)
+    }
+}
+
 /// Where a part of the asked text begins and ends.
 pub(crate) type Place = (usize, usize);
 
@@ -37,13 +45,14 @@ pub(crate) struct Said {
     pub words: (&'static str, &'static str),
     /// `{n}` and `{d}`; `{)}` is `)` on as many lines as the second says.
     pub numbers: (u64, u64),
-    pub change: Option<Change>,
+    pub change: Change,
     pub trial: Trial,
 }
 
 /// A change that may cure the text.
 #[derive(Clone, Copy)]
 pub(crate) enum Change {
+    Nothing,
     /// A text with slots in place of a part. `{i}` is as many blanks as stand before the part.
     Put(Place, &'static str),
     /// Without the sign that was found, where nothing stands behind it.
@@ -57,7 +66,8 @@ pub(crate) enum Change {
 pub(crate) enum Trial {
     /// To the end of the line.
     Line,
-    /// To the end of the next one, where a line does not end what it says.
+    /// To the end of the next one, where a line does not end what it says: the change may take away
+    /// what the next line needs.
     NextLine,
     /// To its end.
     Text,
@@ -71,49 +81,44 @@ impl Said {
             parts: [part; 5],
             words: ("", ""),
             numbers: (0, 0),
-            change: None,
+            change: Change::Nothing,
             trial: Trial::Line,
         }
     }
 
     /// The same, with words.
-    pub(crate) fn with_words(self, word: &'static str, other: &'static str) -> Said {
-        let mut said = self;
-        said.words = (word, other);
-        said
+    pub(crate) fn with_words(self, words: (&'static str, &'static str)) -> Said {
+        Said { words, ..self }
     }
 
     /// The same, with numbers.
-    pub(crate) fn with_numbers(self, number: u64, other: u64) -> Said {
-        let mut said = self;
-        said.numbers = (number, other);
-        said
-    }
-
-    /// The same, with a change.
-    pub(crate) fn with_change(self, change: Change) -> Said {
-        let mut said = self;
-        said.change = Some(change);
-        said
+    pub(crate) fn with_numbers(self, numbers: (u64, u64)) -> Said {
+        Said { numbers, ..self }
     }
 
     /// The same, with a text in place of a part.
     pub(crate) fn put(self, part: Place, with: &'static str) -> Said {
-        self.with_change(Change::Put(part, with))
+        let change = Change::Put(part, with);
+        Said { change, ..self }
     }
 
     /// The same of two parts, with a text in place of another one.
     pub(crate) fn put_parts(self, part: Place, with: &'static str, parts: [Place; 2]) -> Said {
         let [first, second] = parts;
-        let mut said = self.put(part, with);
-        said.parts = [first, second, first, second, second];
-        said
+        let parts = [first, second, first, second, second];
+        Said {
+            parts,
+            ..self.put(part, with)
+        }
     }
 
-    /// The same, where the change may take away what the next line needs.
-    pub(crate) fn bold(self) -> Said {
-        let mut said = self;
-        said.trial = Trial::NextLine;
-        said
+    /// The same with a change of signs, which may take away what the next line needs.
+    pub(crate) fn bold(self, change: Change) -> Said {
+        let trial = Trial::NextLine;
+        Said {
+            change,
+            trial,
+            ..self
+        }
     }
 }
