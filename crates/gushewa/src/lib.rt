@@ -34,7 +34,7 @@ pub use ilcompile::Setup;
 pub use interface::Interface;
 pub use not_opened::NotOpened;
 pub use plant::{OpenFault, Plant};
-pub use plantdriving::{Halt, Observer};
+pub use plantdriving::{Halt, Happened, Observer};
 pub use plantload::{LoadFault, load};
 pub use transact::Reply;
 pub use unobserved::Unobserved;

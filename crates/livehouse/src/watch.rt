@@ -3,7 +3,8 @@
 ghost use Rattle.std.specs.Prelude.{◌≡◌};
 
 use liveclock::StopCondition;
-use plantturns::{Gate, Happened};
+use plantdriving::Happened;
+use plantturns::Gate;
 use std::fs;
 use std::rt::Files;
 use std::sync::Arc;

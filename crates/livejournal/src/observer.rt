@@ -5,7 +5,8 @@ use crate::storage::Storage;
 use crate::unsorted::{Told, Unsorted};
 use ilcompile::Setup;
 use options::Beside;
-use plantturns::{Gate, Happened};
+use plantdriving::Happened;
+use plantturns::Gate;
 use std::alloc::{AllocError, Global};
 use std::sync::{Mutex, Wait};
 

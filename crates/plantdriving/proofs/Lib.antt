@@ -10,4 +10,5 @@ pub mod Refused
 mod Scanned
 pub mod Sent
 mod Settled
+pub mod Tellings
 pub mod Turned

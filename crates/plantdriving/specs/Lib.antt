@@ -5,5 +5,6 @@ pub mod Links
 pub mod Open
 pub mod Order
 pub mod Quiet
+pub mod Tellings
 pub mod Ticks
 pub mod TurnSteps

@@ -1,19 +1,25 @@
 -- What private functions do.
 use Rattle.std.specs.Prelude.{◌≡◌, ◌≢◌, ◌⊎◌, ℕ, ◌+◌, ◌<◌, ◌≤◌, Bool, true, false, List, [], ◌∷◌, ◌++◌, length}
-use Rattle.std.specs.Prelude.{Result, Ok, Err, ⊤}
+use Rattle.std.specs.Prelude.{Result, Ok, Err, Option, Some, None, ⊤}
 use Rattle.buslink.specs.BusLog.{BusLog, IsSameBus}
 use Rattle.plantevents.specs.declared.event.Event.{Event}
 use Rattle.plantevents.specs.declared.event.Event.TheVariants.{Heard, Down}
 use Rattle.plantevents.specs.Histories.{sent_in, heard_in, downs_in, ups_in, given_in}
+use Rattle.transact.specs.Attempts.{ReportParts}
+use Rattle.transact.specs.declared.marks.Outcome.{Outcome}
+use Rattle.transact.specs.declared.marks.Outcome.TheVariants as outcome
 use Rattle.plant.specs.declared.refusal.CallRefusal.TheVariants.{NothingReady, BusDown}
 use Rattle.plant.specs.Shown.{Shown}
 use Rattle.plantdriving.specs.declared.halt.Halt.{Halt}
 use Rattle.plantdriving.specs.declared.halt.Halt.TheVariants.{Refused, Memory, Unwritten}
+use Rattle.plantdriving.specs.declared.happened.Happened.TheVariants as what
+use Rattle.plantdriving.specs.declared.happened.Told.{Told}
 use Rattle.plantdriving.specs.Driven.{AreHeardUpTo, IsDriven}
 use Rattle.plantdriving.specs.Links.{IsLinked, HasHeard, log_of}
 use Rattle.plantdriving.specs.Open.{HasNothingOpen}
 use Rattle.plantdriving.specs.Order.{CameInTurn, HaveNothing, IsInTurn, place_after}
 use Rattle.plantdriving.specs.Quiet.{HasNoHandout, HasNoFrame}
+use Rattle.plantdriving.specs.Tellings.{grown_by}
 
 -- nothing happened on bus b from h to g
 pub record IsSameOn (b : ℕ) (h g : List Event) : Type 0 where
@@ -125,3 +131,31 @@ GoesOn from to p q = (first : Shown) → IsTurnOf first p from → IsTurnOf firs
 abbrev pub GoesTo : {A : Type 0} → ℕ → ℕ → Shown → Shown → Result A Halt → Type 0
 GoesTo from to p q (Ok done) = GoesOn from to p q
 GoesTo from to p q (Err halt) = (first : Shown) → IsTurnOf first p from → IsInTurn first q
+
+-- ---- what is told
+
+-- of these tellings a first part was told
+pub record IsPartTold (tellings : List Told) (before after : Option (List Told)) : Type 0 where
+  pub part : List Told
+  pub rest : List Told
+  pub are : tellings ≡ rest ++ part
+  pub told : after ≡ grown_by part before
+
+-- they were told, or the observer failed and only a first part of them was
+abbrev pub TellsThese : {A E : Type 0} → List Told → Option (List Told) → Option (List Told) → Result A E → Type 0
+TellsThese tellings before after (Ok done) = after ≡ grown_by tellings before
+TellsThese tellings before after (Err error) = IsPartTold tellings before after
+
+-- a bus went down at this place, where it did
+abbrev pub down_told : ℕ → Option ℕ → List Told
+down_told b None = []
+down_told b (Some place) = record { place = place; happened = what.WentDown b } ∷ []
+
+-- what is told of a report at one place, and of the going down of its bus at another
+abbrev pub report_told : ℕ → ReportParts → ℕ → Option ℕ → List Told
+report_told b report place down = down_told b down ++ record { place = place; happened = what.Reported b report } ∷ []
+
+-- where a bus goes down once its transaction was reported at this place: right behind that, where its interface failed
+abbrev pub down_place : Outcome → ℕ → Option ℕ
+down_place outcome.Failed place = Some (place + 1)
+down_place other place = None

@@ -4,10 +4,11 @@ ghost use Rattle.std.specs.Prelude.{◌≡◌, ◌<◌, IfErr, OnOk, map, vec_le
 ghost use Rattle.plantdriving.specs.Driven.{CannotGoOn, IsDriven, IsHeardFirst, IsInOrder};
 ghost use Rattle.plantdriving.specs.Open.{HasNothingOpen};
 ghost use Rattle.plantdriving.specs.Quiet.{IsQuiet};
+ghost use Rattle.plantdriving.specs.Tellings.{TellsEach};
 ghost use Rattle.plantdriving.specs.Ticks.{TicksAt};
 
 use crate::settling::settle;
-use crate::{Halt, Observer};
+use crate::{Halt, Happened, Observer};
 use buslink::Bus;
 use plant::Plant;
 use std::alloc::Global;
@@ -58,11 +59,13 @@ impl IdlePlant {
     /// The plant refuses the tick, and is unchanged. Or the observer failed, once the tick was
     /// noted.
     pub fn tick<B, O: Observer<B>>(&mut self, moment: u64, observer: &mut O) -> Result<(), Halt>
-        ensures { TicksAt moment self.old self.new result }
+        ensures ticks { TicksAt moment self.old self.new result }
+        ensures told { TellsEach self.old self.new (O.told observer.old) (O.told observer.new)
+            result }
     {
         let place = self.plant.len();
         self.plant.tick(moment)?;
-        observer.note_tick(place, moment)?;
+        observer.note(place, Happened::Ticked { moment })?;
         Ok(())
     }
 
@@ -88,6 +91,8 @@ impl IdlePlant {
         ensures quiet { OnOk result
             (IsQuiet self.new (map B.log lines.old.items) (map B.log lines.new.items)) }
         ensures stops { IfErr result (CannotGoOn self.new) }
+        ensures told { TellsEach self.old self.new (O.told observer.old) (O.told observer.new)
+            result }
     {
         settle(alloc, &mut self.plant, lines, observer)
     }

@@ -14,6 +14,7 @@
 
 mod downs;
 mod halt;
+mod happened;
 mod idle_plant;
 mod observer;
 mod scanning;
@@ -22,6 +23,7 @@ mod settling;
 
 pub use downs::has_down;
 pub use halt::Halt;
+pub use happened::{Happened, Told};
 pub use idle_plant::IdlePlant;
 pub use observer::Observer;
 pub use serving::send_next;

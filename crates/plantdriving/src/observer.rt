@@ -1,10 +1,12 @@
 //! Who is told what happens at a plant.
 
-use daliframe::Frame24;
+ghost use Rattle.std.specs.Prelude.{◌≡◌};
+ghost use Rattle.plantdriving.specs.Tellings.{noted};
+
+use crate::Happened;
 use plant::Plant;
-use plantevents::Origin;
 use std::io;
-use transact::{Report, Transaction};
+use transact::Report;
 
 /// Whoever is told what happens at a plant: each event with its place in the history, from 0. The
 /// places order what is told; where several threads drive a plant, each tells what it did itself,
@@ -12,104 +14,45 @@ use transact::{Report, Transaction};
 ///
 /// An observer that fails stops whoever drives the plant, once what was begun is ended: nothing is
 /// open then, and the buses and the history tell the same.
+///
+/// For contracts alone an observer may keep what it is told, the newest first: then its `told` is
+/// that list, as that of a `ghosts::Trace<Told>`. Where it keeps none, `told` is `None`, as it is
+/// where nothing is written. Whoever drives a plant tells an observer the same, whatever it keeps.
 pub trait Observer<B> {
-    /// It is this moment, in milliseconds.
+    ghost use Rattle.std.specs.Prelude.{List, None, Option};
+    ghost use Rattle.plantdriving.specs.declared.happened.Told.{Told};
+
+    ghost told: { Self → Option (List Told) } = { λ _. None };
+
+    /// This happened, at this place of the history. Where a task was taken its scan is made next;
+    /// where a transaction was handed out it is sent next.
     ///
     /// # Errors
     ///
     /// What was told is not kept.
-    fn note_tick(&mut self, _place: u64, _moment: u64) -> io::Result<()> {
+    fn note(&mut self, place: u64, happened: Happened) -> io::Result<()>
+        ensures { told self.new ≡ noted place happened (told self.old) };
+
+    /// Behind the scan of the task whose commit was told last, the plant is as it is here. This is
+    /// told where one thread drives the plant; one that lies under a lock is lent to nobody.
+    ///
+    /// # Errors
+    ///
+    /// What was told is not kept.
+    fn note_values(&mut self, _plant: &Plant, _task: usize) -> io::Result<()>
+        ensures { told self.new ≡ told self.old }
+    {
         Ok(())
     }
 
-    /// A 24-bit frame was heard on a bus.
+    /// Behind this report of a bus, which was told last, the bus has this interface.
     ///
     /// # Errors
     ///
     /// What was told is not kept.
-    fn note_frame(&mut self, _place: u64, _bus: u8, _frame: Frame24) -> io::Result<()> {
-        Ok(())
-    }
-
-    /// A scan worker took a task. Its scan is made next.
-    ///
-    /// # Errors
-    ///
-    /// What was told is not kept.
-    fn note_take(&mut self, _place: u64, _worker: usize, _task: usize) -> io::Result<()> {
-        Ok(())
-    }
-
-    /// A scan worker committed the scan of a task, which took these steps.
-    ///
-    /// # Errors
-    ///
-    /// What was told is not kept.
-    fn note_commit(
-        &mut self,
-        _place: u64,
-        _worker: usize,
-        _task: usize,
-        _steps: u32,
-    ) -> io::Result<()> {
-        Ok(())
-    }
-
-    /// Behind that scan of the task the plant is as it is here. This is told where one thread
-    /// drives the plant; one that lies under a lock is lent to nobody.
-    ///
-    /// # Errors
-    ///
-    /// What was told is not kept.
-    fn note_values(&mut self, _plant: &Plant, _task: usize) -> io::Result<()> {
-        Ok(())
-    }
-
-    /// A bus was handed a transaction, made of this. It is sent next.
-    ///
-    /// # Errors
-    ///
-    /// What was told is not kept.
-    fn note_handout(
-        &mut self,
-        _place: u64,
-        _bus: u8,
-        _origin: Origin,
-        _transaction: &Transaction,
-    ) -> io::Result<()> {
-        Ok(())
-    }
-
-    /// A bus, with this interface, reported what became of a transaction.
-    ///
-    /// # Errors
-    ///
-    /// What was told is not kept.
-    fn note_report(
-        &mut self,
-        _place: u64,
-        _bus: u8,
-        _report: &Report,
-        _line: &B,
-    ) -> io::Result<()> {
-        Ok(())
-    }
-
-    /// A bus went down, since its interface failed.
-    ///
-    /// # Errors
-    ///
-    /// What was told is not kept.
-    fn note_down(&mut self, _place: u64, _bus: u8) -> io::Result<()> {
-        Ok(())
-    }
-
-    /// A bus that was down is up again, since its interface answers.
-    ///
-    /// # Errors
-    ///
-    /// What was told is not kept.
-    fn note_up(&mut self, _place: u64, _bus: u8) -> io::Result<()> {
+    fn note_line(&mut self, _bus: u8, _report: &Report, _line: &B) -> io::Result<()>
+        ensures { told self.new ≡ told self.old }
+    {
         Ok(())
     }
 }

@@ -1,13 +1,15 @@
 //! Scans of tasks.
 
-ghost use Rattle.std.specs.Prelude.{◌<◌, IfErr, OnOk};
+ghost use Rattle.std.specs.Prelude.{◌<◌, [], ◌∷◌, IfErr, OnOk};
 ghost use Rattle.plantdriving.specs.Driven.{CannotGoOn};
 ghost use Rattle.plantdriving.specs.Open.{HasNothingOpen};
 ghost use Rattle.plantdriving.specs.Order.{scans_at};
 ghost use Rattle.plantdriving.specs.Quiet.{HasNoScan};
-ghost use Rattle.plantdriving.specs.TurnSteps.{GoesOn, IsScanStep, IsTold, Tells};
+ghost use Rattle.plantdriving.specs.Tellings.{TellsEach};
+ghost use Rattle.plantdriving.specs.TurnSteps.{GoesOn, IsScanStep, IsTold, Tells, TellsThese};
+ghost use Rattle.plantdriving.specs.declared.happened.Happened.TheVariants as what;
 
-use crate::{Halt, Observer};
+use crate::{Halt, Happened, Observer};
 use ilmachine::scan_into;
 use plant::{CallError, CallRefusal, Plant};
 use std::alloc::Global;
@@ -26,10 +28,17 @@ fn tell_scan<B, O: Observer<B>>(
     task: usize,
     steps: u32,
 ) -> Result<bool, Halt>
-    ensures { IsTold result }
+    ensures done { IsTold result }
+    ensures told { TellsThese (record { place = place; happened = what.Committed 0 task steps } ∷ [])
+        (O.told observer.old) (O.told observer.new) result }
 {
     took?;
-    observer.note_commit(place, WORKER, task, steps)?;
+    let committed = Happened::Committed {
+        worker: WORKER,
+        task,
+        steps,
+    };
+    observer.note(place, committed)?;
     observer.note_values(plant, task)?;
     Ok(true)
 }
@@ -46,6 +55,8 @@ pub(crate) fn scan_next<B, O: Observer<B>>(
     ensures turn { Tells plant.old plant.new (HasNoScan plant.old) result }
     ensures goes_on { GoesOn scans_at scans_at plant.old plant.new }
     ensures stops { IfErr result (CannotGoOn plant.new) }
+    ensures told { TellsEach plant.old plant.new (O.told observer.old) (O.told observer.new)
+        result }
 {
     let order = match plant.take(alloc, WORKER) {
         Ok(order) => order,
@@ -53,13 +64,20 @@ pub(crate) fn scan_next<B, O: Observer<B>>(
         Err(error) => return Err(Halt::from(error)),
     };
     let (place, task) = (order.number, order.task);
-    let took = observer.note_take(place, WORKER, task);
+    let took = observer.note(
+        place,
+        Happened::Took {
+            worker: WORKER,
+            task,
+        },
+    );
     let made = scan_into(order.work);
     let steps = made.steps();
+    let next = plant.len();
     let Ok(()) = plant.commit(WORKER, made) else {
         unreachable!()
     };
-    tell_scan::<B, O>(observer, plant, took, place.saturating_add(1), task, steps)
+    tell_scan::<B, O>(observer, plant, took, next, task, steps)
 }
 
 /// Takes and commits all tasks that are ready, one after another. Whether there were any.
@@ -75,6 +93,8 @@ pub(crate) fn scan_all<B, O: Observer<B>>(
     ensures goes_on { GoesOn scans_at scans_at plant.old plant.new }
     ensures none { OnOk result (HasNoScan plant.new) }
     ensures stops { IfErr result (CannotGoOn plant.new) }
+    ensures told { TellsEach plant.old plant.new (O.told observer.old) (O.told observer.new)
+        result }
 {
     let mut any = false;
     for _ in 0..plant.limit() + 1 {

@@ -1,6 +1,6 @@
 //! What is sent and heard on a bus.
 
-ghost use Rattle.std.specs.Prelude.{◌≡◌, ◌≢◌, ◌+◌, ◌<◌, ◌≤◌, IfErr, OnOk};
+ghost use Rattle.std.specs.Prelude.{◌≡◌, ◌≢◌, ◌+◌, ◌<◌, ◌≤◌, IfErr, OnOk, length};
 ghost use Rattle.transact.specs.Attempts.{most_sent};
 ghost use Rattle.transact.specs.declared.marks.Outcome.TheVariants as outcomes;
 ghost use Rattle.plantevents.specs.declared.event.Event.TheVariants.{Done, Down};
@@ -12,51 +12,79 @@ ghost use Rattle.plantdriving.specs.Driven.{CannotGoOn, SendsNext};
 ghost use Rattle.plantdriving.specs.Open.{HasNothingOpen};
 ghost use Rattle.plantdriving.specs.Order.{sends_at};
 ghost use Rattle.plantdriving.specs.Quiet.{HasNoFrame, HasNoHandout};
+ghost use Rattle.plantdriving.specs.Tellings.{TellsEach, noted};
 ghost use Rattle.plantdriving.specs.TurnSteps.{GoesOn, GoesTo, IsBusStep, IsHearing, IsIdleOr, IsTold};
-ghost use Rattle.plantdriving.specs.TurnSteps.{Tells};
+ghost use Rattle.plantdriving.specs.TurnSteps.{Tells, TellsThese, down_place, report_told};
+ghost use Rattle.plantdriving.specs.declared.happened.Happened.TheVariants as what;
 
-use crate::{Halt, Observer};
+use crate::{Halt, Happened, Observer};
 use buslink::{Bus, perform};
-use plant::{CallRefusal, Plant};
+use plant::{CallRefusal, Handed, Plant};
 use std::io;
 use transact::{MOST_SENT, Outcome, Report};
 
 /// Notes the report of the transaction that a bus has open, by the attempts of the bus. Where the
-/// interface failed, the bus goes down.
-fn note_report(plant: &mut Plant, bus: u8, number: u64, report: Report)
+/// interface failed, the bus goes down: at which place of the history.
+fn note_report(plant: &mut Plant, bus: u8, number: u64, report: Report) -> Option<u64>
     requires open { IsReportOf plant.old bus number report }
     requires up { IsUp plant.old.plant plant.old.history bus }
     ensures fine { report.outcome ≢ outcomes.Failed
         → plant.new ≡ grown plant.old (Done bus number report) }
     ensures failed { report.outcome ≡ outcomes.Failed
         → plant.new ≡ grown (grown plant.old (Done bus number report)) (Down bus) }
+    ensures down { result ≡ down_place report.outcome (length plant.old.history) }
 {
     let has_failed = matches!(report.outcome(), Outcome::Failed);
     let Ok(()) = plant.note_report(bus, number, report) else {
         unreachable!()
     };
-    if has_failed {
-        let Ok(()) = plant.down(bus) else {
-            unreachable!()
-        };
+    if !has_failed {
+        return None;
     }
+    let place = plant.len();
+    let Ok(()) = plant.down(bus) else {
+        unreachable!()
+    };
+    Some(place)
 }
 
-/// Tells what became of a transaction and whether its bus went down, unless it failed to tell that
-/// the transaction was handed out.
+/// Tells that a transaction was handed to a bus.
+fn tell_handed<B, O: Observer<B>>(observer: &mut O, bus: u8, handed: &Handed) -> io::Result<()>
+    ensures { O.told observer.new ≡ noted handed.now.number
+        (what.Handed bus handed.now.origin handed.now.transaction) (O.told observer.old) }
+{
+    let happened = Happened::Handed {
+        bus,
+        origin: handed.origin,
+        transaction: handed.transaction.clone().unwrap(),
+    };
+    observer.note(handed.number, happened)
+}
+
+/// Tells what became of a transaction, unless it failed to tell that the transaction was handed
+/// out; and whether its bus went down, at which place of the history.
 fn tell_report<B, O: Observer<B>>(
     observer: &mut O,
     handed: io::Result<()>,
     place: u64,
+    down: Option<u64>,
     bus: u8,
     report: &Report,
     line: &B,
-) -> io::Result<()> {
+) -> io::Result<()>
+    ensures { TellsThese (report_told bus report.now place down)
+        (O.told observer.old) (O.told observer.new) result }
+{
     handed?;
-    observer.note_report(place, bus, report, line)?;
-    match report.outcome() {
-        Outcome::Failed => observer.note_down(place.saturating_add(1), bus),
-        Outcome::Done(_) | Outcome::GaveUp => Ok(()),
+    let happened = Happened::Reported {
+        bus,
+        report: report.clone().unwrap(),
+    };
+    observer.note(place, happened)?;
+    observer.note_line(bus, report, line)?;
+    match down {
+        None => Ok(()),
+        Some(place) => observer.note(place, Happened::WentDown { bus }),
     }
 }
 
@@ -79,24 +107,20 @@ pub fn send_next<B: Bus, O: Observer<B>>(
     // Out of memory is answered only where the line had no room before.
     ensures enough { most_sent ≤ (B.log line.old).spare
         → IfErr result (λ halt. halt ≢ halts.Memory) }
+    ensures told { TellsEach plant.old plant.new (O.told observer.old) (O.told observer.new)
+        result }
 {
     plant.allows_hand(bus)?;
     line.room(MOST_SENT)?;
     let Ok(handed) = plant.hand(bus) else {
         unreachable!()
     };
-    let told = observer.note_handout(handed.number, bus, handed.origin, &handed.transaction);
+    let told = tell_handed::<B, O>(observer, bus, &handed);
     let report = perform(line, &handed.transaction, handed.tries);
     let noted = report.clone().unwrap();
-    note_report(plant, bus, handed.number, noted);
-    tell_report(
-        observer,
-        told,
-        handed.number.saturating_add(1),
-        bus,
-        &report,
-        line,
-    )?;
+    let place = plant.len();
+    let down = note_report(plant, bus, handed.number, noted);
+    tell_report(observer, told, place, down, bus, &report, line)?;
     Ok(())
 }
 
@@ -123,6 +147,8 @@ fn send_turn<B: Bus, O: Observer<B>>(
     ensures turn { Tells plant.old plant.new (HasNoHandout plant.old bus) result }
     ensures goes_on { GoesOn (sends_at bus) (sends_at bus) plant.old plant.new }
     ensures stops { IfErr result (CannotGoOn plant.new) }
+    ensures told { TellsEach plant.old plant.new (O.told observer.old) (O.told observer.new)
+        result }
 {
     match send_next(plant, bus, line, observer) {
         Ok(()) => Ok(true),
@@ -144,6 +170,8 @@ fn send_all<B: Bus, O: Observer<B>>(
     ensures goes_on { GoesOn (sends_at bus) (sends_at bus) plant.old plant.new }
     ensures none { OnOk result (HasNoHandout plant.new bus) }
     ensures stops { IfErr result (CannotGoOn plant.new) }
+    ensures told { TellsEach plant.old plant.new (O.told observer.old) (O.told observer.new)
+        result }
 {
     let mut any = false;
     for _ in 0..plant.limit() + 1 {
@@ -182,6 +210,8 @@ fn hear_next<B: Bus, O: Observer<B>>(
     ensures goes_on { HasNoHandout plant.old bus
         → GoesOn (sends_at bus) (sends_at (bus + 1)) plant.old plant.new }
     ensures stops { IfErr result (CannotGoOn plant.new) }
+    ensures told { TellsEach plant.old plant.new (O.told observer.old) (O.told observer.new)
+        result }
 {
     line.room(1)?;
     if let Err(refusal) = plant.may_hear(bus) {
@@ -193,14 +223,14 @@ fn hear_next<B: Bus, O: Observer<B>>(
             let Ok(()) = plant.note_frame(bus, frame) else {
                 unreachable!()
             };
-            as_done(observer.note_frame(place, bus, frame))
+            as_done(observer.note(place, Happened::Heard { bus, frame }))
         }
         Ok(None) => Ok(false),
         Err(_) => {
             let Ok(()) = plant.down(bus) else {
                 unreachable!()
             };
-            as_done(observer.note_down(place, bus))
+            as_done(observer.note(place, Happened::WentDown { bus }))
         }
     }
 }
@@ -218,6 +248,8 @@ pub(crate) fn hear_all<B: Bus, O: Observer<B>>(
     ensures silent { OnOk result
         (HasNoFrame plant.new bus (B.log line.old) (B.log line.new)) }
     ensures stops { IfErr result (CannotGoOn plant.new) }
+    ensures told { TellsEach plant.old plant.new (O.told observer.old) (O.told observer.new)
+        result }
 {
     for _ in 0..plant.limit() + 1 {
         if !hear_next(plant, bus, line, observer)? {
@@ -244,6 +276,8 @@ pub(crate) fn turn<B: Bus, O: Observer<B>>(
         × HasNoFrame plant.old bus (B.log line.old) (B.log line.new)) result }
     ensures goes_on { GoesTo (sends_at bus) (sends_at (bus + 1)) plant.old plant.new result }
     ensures stops { IfErr result (CannotGoOn plant.new) }
+    ensures told { TellsEach plant.old plant.new (O.told observer.old) (O.told observer.new)
+        result }
 {
     let sent = send_all(plant, bus, line, observer)?;
     let heard = hear_next(plant, bus, line, observer)?;

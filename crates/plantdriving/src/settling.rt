@@ -6,6 +6,7 @@ ghost use Rattle.plantdriving.specs.Links.{log_of};
 ghost use Rattle.plantdriving.specs.Open.{HasNothingOpen};
 ghost use Rattle.plantdriving.specs.Order.{scans_at, sends_at};
 ghost use Rattle.plantdriving.specs.Quiet.{HasNoFrame, HasNoHandout, IsQuiet};
+ghost use Rattle.plantdriving.specs.Tellings.{TellsEach};
 ghost use Rattle.plantdriving.specs.TurnSteps.{AreHeardInOrder, AreQuiet, GoesTo, IsHearing, Tells};
 
 use crate::scanning::scan_all;
@@ -32,6 +33,8 @@ fn hear_at<B: Bus, O: Observer<B>>(
     ensures silent { OnOk result (HasNoFrame plant.new bus
         (log_of (map B.log lines.old.items) bus) (log_of (map B.log lines.new.items) bus)) }
     ensures stops { IfErr result (CannotGoOn plant.new) }
+    ensures told { TellsEach plant.old plant.new (O.told observer.old) (O.told observer.new)
+        result }
 {
     hear_all(plant, bus, &mut lines[usize::from(bus)], observer)
 }
@@ -49,6 +52,8 @@ fn hear_buses<B: Bus, O: Observer<B>>(
         (map B.log lines.new.items)) }
     ensures order { AreHeardInOrder plant.old plant.new }
     ensures stops { IfErr result (CannotGoOn plant.new) }
+    ensures told { TellsEach plant.old plant.new (O.told observer.old) (O.told observer.new)
+        result }
 {
     let buses = plant.setup().plan().buses();
     for bus in 0..buses {
@@ -76,6 +81,8 @@ fn turn_at<B: Bus, O: Observer<B>>(
         (log_of (map B.log lines.new.items) bus)) result }
     ensures goes_on { GoesTo (sends_at bus) (sends_at (bus + 1)) plant.old plant.new result }
     ensures stops { IfErr result (CannotGoOn plant.new) }
+    ensures told { TellsEach plant.old plant.new (O.told observer.old) (O.told observer.new)
+        result }
 {
     turn(plant, bus, &mut lines[usize::from(bus)], observer)
 }
@@ -96,6 +103,8 @@ fn turn_all<B: Bus, O: Observer<B>>(
     ensures goes_on { GoesTo (sends_at 0) (sends_at plant.old.plant.plan.buses)
         plant.old plant.new result }
     ensures stops { IfErr result (CannotGoOn plant.new) }
+    ensures told { TellsEach plant.old plant.new (O.told observer.old) (O.told observer.new)
+        result }
 {
     let mut any = false;
     let buses = plant.setup().plan().buses();
@@ -123,6 +132,8 @@ fn round<B: Bus, O: Observer<B>>(
         (IsQuiet plant.new (map B.log lines.old.items) (map B.log lines.new.items)) result }
     ensures goes_on { GoesTo scans_at scans_at plant.old plant.new result }
     ensures stops { IfErr result (CannotGoOn plant.new) }
+    ensures told { TellsEach plant.old plant.new (O.told observer.old) (O.told observer.new)
+        result }
 {
     let scanned = scan_all::<B, O>(alloc, plant, observer)?;
     let turned = turn_all(plant, lines, observer)?;
@@ -145,6 +156,8 @@ fn finish<B: Bus, O: Observer<B>>(
         (IsQuiet plant.new (map B.log lines.old.items) (map B.log lines.new.items)) }
     ensures goes_on { GoesTo scans_at scans_at plant.old plant.new result }
     ensures stops { IfErr result (CannotGoOn plant.new) }
+    ensures told { TellsEach plant.old plant.new (O.told observer.old) (O.told observer.new)
+        result }
 {
     for _ in 0..plant.limit() + 1 {
         if !round(alloc, plant, lines, observer)? {
@@ -183,6 +196,8 @@ pub fn settle<B: Bus, O: Observer<B>>(
     ensures quiet { OnOk result
         (IsQuiet plant.new (map B.log lines.old.items) (map B.log lines.new.items)) }
     ensures stops { IfErr result (CannotGoOn plant.new) }
+    ensures told { TellsEach plant.old plant.new (O.told observer.old) (O.told observer.new)
+        result }
 {
     hear_buses(plant, lines, observer)?;
     finish(alloc, plant, lines, observer)

@@ -1,16 +1,15 @@
 //! The lines that are written of what happens.
 
-use daliframe::{Frame, Frame24};
+use daliframe::Frame;
 use daliwords::FramesWords;
 use ilplan::Plan;
 use plant::Plant;
-use plantdriving::Observer;
-use plantevents::Origin;
+use plantdriving::{Happened, Observer};
 use playwatch::Watch;
 use std::alloc::{AllocError, Global};
 use std::io::Write;
 use std::{fmt, io};
-use transact::{Outcome, Report, Transaction};
+use transact::{Outcome, Transaction};
 
 /// How the frames of a play are written.
 #[derive(Clone, Copy, PartialEq, Eq, Debug)]
@@ -56,6 +55,18 @@ impl<'a, W: Write> Lines<'a, W> {
     }
 }
 
+impl<W: Write> Lines<'_, W> {
+    /// Writes the line of a transaction that a bus was handed.
+    fn write_handed(&mut self, bus: u8, transaction: &Transaction) -> io::Result<()> {
+        let handed = TransactionLine { bus, transaction };
+        let behind = WordsBehind {
+            style: self.style,
+            frames: transaction.frames(),
+        };
+        writeln!(self.out, "hand {handed}{behind}")
+    }
+}
+
 /// The names of the tasks, by their numbers.
 fn task_names(alloc: Global, plan: &Plan) -> Result<Vec<String>, AllocError> {
     let mut names = Vec::new(alloc);
@@ -74,61 +85,41 @@ fn name_of(tasks: &[String], task: usize) -> &str {
 }
 
 impl<B, W: Write> Observer<B> for Lines<'_, W> {
-    fn note_tick(&mut self, _place: u64, moment: u64) -> io::Result<()> {
-        writeln!(self.out, "tick {moment}")
-    }
-
-    fn note_frame(&mut self, _place: u64, bus: u8, frame: Frame24) -> io::Result<()> {
-        let behind = WordsBehind {
-            style: self.style,
-            frames: &[Frame::Forward24(frame)],
-        };
-        writeln!(self.out, "heard {bus} {frame}{behind}")
-    }
-
-    fn note_take(&mut self, _place: u64, _worker: usize, task: usize) -> io::Result<()> {
-        let name = name_of(&self.tasks, task);
-        writeln!(self.out, "take {name}")
-    }
-
-    fn note_commit(
-        &mut self,
-        _place: u64,
-        _worker: usize,
-        task: usize,
-        steps: u32,
-    ) -> io::Result<()> {
-        let name = name_of(&self.tasks, task);
-        writeln!(self.out, "commit {name} steps {steps}")
+    fn note(&mut self, _place: u64, happened: Happened) -> io::Result<()> {
+        match happened {
+            Happened::Ticked { moment } => writeln!(self.out, "tick {moment}"),
+            Happened::Heard { bus, frame } => {
+                let behind = WordsBehind {
+                    style: self.style,
+                    frames: &[Frame::Forward24(frame)],
+                };
+                writeln!(self.out, "heard {bus} {frame}{behind}")
+            }
+            Happened::Took { task, .. } => {
+                let name = name_of(&self.tasks, task);
+                writeln!(self.out, "take {name}")
+            }
+            Happened::Committed { task, steps, .. } => {
+                let name = name_of(&self.tasks, task);
+                writeln!(self.out, "commit {name} steps {steps}")
+            }
+            Happened::Handed {
+                bus,
+                transaction,
+                ..
+            } => self.write_handed(bus, &transaction),
+            Happened::Reported { bus, report } => {
+                let outcome = report.outcome();
+                writeln!(self.out, "done {}", OutcomeLine { bus, outcome })
+            }
+            Happened::WentDown { bus } => writeln!(self.out, "down {bus}"),
+            Happened::CameUp { .. } => Ok(()),
+        }
     }
 
     fn note_values(&mut self, plant: &Plant, task: usize) -> io::Result<()> {
         self.watch.note_values(plant, task)?;
         self.watch.write_changes(self.out)
-    }
-
-    fn note_handout(
-        &mut self,
-        _place: u64,
-        bus: u8,
-        _origin: Origin,
-        transaction: &Transaction,
-    ) -> io::Result<()> {
-        let handed = TransactionLine { bus, transaction };
-        let behind = WordsBehind {
-            style: self.style,
-            frames: transaction.frames(),
-        };
-        writeln!(self.out, "hand {handed}{behind}")
-    }
-
-    fn note_report(&mut self, _place: u64, bus: u8, report: &Report, _line: &B) -> io::Result<()> {
-        let outcome = report.outcome();
-        writeln!(self.out, "done {}", OutcomeLine { bus, outcome })
-    }
-
-    fn note_down(&mut self, _place: u64, bus: u8) -> io::Result<()> {
-        writeln!(self.out, "down {bus}")
     }
 }
 

@@ -15,7 +15,7 @@ use crate::links::Links;
 use crate::turn::Turn;
 use buslink::{Bus, perform};
 use plant::{CallRefusal, Handed};
-use plantdriving::{Halt, Observer};
+use plantdriving::{Halt, Happened, Observer};
 use plantlock::{LockStart, Share, Shared};
 use planttallies::{Tallies, Tally};
 use std::io;
@@ -50,7 +50,12 @@ fn as_told(told: io::Result<()>, turn: Turn) -> Result<Turn, Halt>
 
 /// Tells that a transaction was handed to a bus.
 fn tell_handed<B, O: Observer<B>>(observer: &mut O, bus: u8, handed: &Handed) -> io::Result<()> {
-    observer.note_handout(handed.number, bus, handed.origin, &handed.transaction)
+    let happened = Happened::Handed {
+        bus,
+        origin: handed.origin,
+        transaction: handed.transaction.clone().unwrap(),
+    };
+    observer.note(handed.number, happened)
 }
 
 /// Tells what became of a transaction, unless it failed to tell that the transaction was handed
@@ -67,10 +72,15 @@ fn tell_report<B, O: Observer<B>>(
     ensures { IsTold (turn_after down) result }
 {
     handed?;
-    observer.note_report(place, bus, report, line)?;
+    let happened = Happened::Reported {
+        bus,
+        report: report.clone().unwrap(),
+    };
+    observer.note(place, happened)?;
+    observer.note_line(bus, report, line)?;
     match down {
         None => Ok(Turn::Busy),
-        Some(place) => as_told(observer.note_down(place, bus), Turn::Down),
+        Some(place) => as_told(observer.note(place, Happened::WentDown { bus }), Turn::Down),
     }
 }
 
@@ -172,14 +182,14 @@ fn hear_once<'a, B: Bus, J: LockStart + Links, T: Tally, K: Tallies<T>, O: Obser
                 unreachable!()
             };
             as_told(
-                observer.note_frame(served.share.last_place(), bus, frame),
+                observer.note(served.share.last_place(), Happened::Heard { bus, frame }),
                 Turn::Busy,
             )
         }
         Ok(None) => Ok(Turn::Idle),
         Err(_) => {
             let place = go_down(rt, shared, bus, served);
-            as_told(observer.note_down(place, bus), Turn::Down)
+            as_told(observer.note(place, Happened::WentDown { bus }), Turn::Down)
         }
     }
 }
@@ -277,7 +287,10 @@ pub fn come_up<'a, B: Bus, J: LockStart + Links, T: Tally, K: Tallies<T>, O: Obs
     match shared.up(rt, &mut served.share, bus) {
         Ok(()) => {
             served.line.resume();
-            as_told(observer.note_up(served.share.last_place(), bus), Turn::Busy)
+            as_told(
+                observer.note(served.share.last_place(), Happened::CameUp { bus }),
+                Turn::Busy,
+            )
         }
         Err(refusal) => turn_where_refused(Halt::Refused(refusal)),
     }

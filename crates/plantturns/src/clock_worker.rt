@@ -5,7 +5,7 @@ ghost use Rattle.plantturns.specs.Logs.{HasEnded, IsTimed};
 
 use crate::links::Links;
 use buslink::Clock;
-use plantdriving::{Halt, Observer};
+use plantdriving::{Halt, Happened, Observer};
 use plantlock::{LockStart, Share, Shared};
 use planttallies::{Tallies, Tally};
 use std::sync::Wait;
@@ -52,6 +52,6 @@ pub fn tick_once<
     let Ok(()) = shared.tick(rt, &mut timed.share, moment) else {
         unreachable!()
     };
-    observer.note_tick(timed.share.last_place(), moment)?;
+    observer.note(timed.share.last_place(), Happened::Ticked { moment })?;
     Ok(true)
 }

@@ -1,11 +1,7 @@
 //! What is asked before a scan and before a transaction, and told after each event.
 
-use crate::happened::Happened;
-use daliframe::Frame24;
-use plantdriving::Observer;
-use plantevents::Origin;
+use plantdriving::{Happened, Observer};
 use std::io;
-use transact::{Report, Transaction};
 
 /// A gate that each scan and each transaction passes before it begins, outside the lock. It is told
 /// of each event after it came, outside the lock too. Each worker observes its own turns for it, as
@@ -42,68 +38,32 @@ pub struct Passing<'g, G: Gate> {
 }
 
 impl<'g, B, G: Gate> Observer<B> for Passing<'g, G> {
-    fn note_tick(&mut self, place: u64, moment: u64) -> io::Result<()> {
-        self.gate.after(place, Happened::Ticked { moment });
-        Ok(())
-    }
-
-    fn note_frame(&mut self, place: u64, bus: u8, frame: Frame24) -> io::Result<()> {
-        self.gate.after(place, Happened::Heard { bus, frame });
-        Ok(())
-    }
-
-    fn note_take(&mut self, place: u64, worker: usize, task: usize) -> io::Result<()> {
-        self.gate.after(place, Happened::Took { worker, task });
-        self.gate.before_scan(worker, task);
-        Ok(())
-    }
-
-    fn note_commit(
-        &mut self,
-        place: u64,
-        worker: usize,
-        task: usize,
-        steps: u32,
-    ) -> io::Result<()> {
-        let happened = Happened::Committed {
-            worker,
-            task,
-            steps,
-        };
+    fn note(&mut self, place: u64, happened: Happened) -> io::Result<()> {
+        let passes = passes_of(&happened);
         self.gate.after(place, happened);
+        match passes {
+            Passes::Scan { worker, task } => self.gate.before_scan(worker, task),
+            Passes::Transaction { bus } => self.gate.before_transaction(bus),
+            Passes::Nothing => {}
+        }
         Ok(())
     }
+}
 
-    fn note_handout(
-        &mut self,
-        place: u64,
-        bus: u8,
-        origin: Origin,
-        transaction: &Transaction,
-    ) -> io::Result<()> {
-        let happened = Happened::Handed {
-            bus,
-            origin,
-            transaction: transaction.clone().unwrap(),
-        };
-        self.gate.after(place, happened);
-        self.gate.before_transaction(bus);
-        Ok(())
-    }
+/// What passes a gate once an event came.
+#[derive(Clone, Copy)]
+enum Passes {
+    Scan { worker: usize, task: usize },
+    Transaction { bus: u8 },
+    Nothing,
+}
 
-    fn note_report(&mut self, place: u64, bus: u8, report: &Report, _line: &B) -> io::Result<()> {
-        let report = report.clone().unwrap();
-        self.gate.after(place, Happened::Reported { bus, report });
-        Ok(())
-    }
-
-    fn note_down(&mut self, place: u64, bus: u8) -> io::Result<()> {
-        self.gate.after(place, Happened::WentDown { bus });
-        Ok(())
-    }
-
-    fn note_up(&mut self, place: u64, bus: u8) -> io::Result<()> {
-        self.gate.after(place, Happened::CameUp { bus });
-        Ok(())
+/// A scan is to be made once its task was taken, and a transaction is to be sent once it was handed
+/// out.
+fn passes_of(happened: &Happened) -> Passes {
+    match *happened {
+        Happened::Took { worker, task } => Passes::Scan { worker, task },
+        Happened::Handed { bus, .. } => Passes::Transaction { bus },
+        _ => Passes::Nothing,
     }
 }

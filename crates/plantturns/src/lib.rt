@@ -20,7 +20,6 @@
 mod bus_worker;
 mod clock_worker;
 mod gate;
-mod happened;
 mod links;
 mod scan_worker;
 mod turn;
@@ -28,7 +27,6 @@ mod turn;
 pub use bus_worker::{BusWithShare, come_up, hear_turn, send_turn};
 pub use clock_worker::{ClockWithShare, tick_once};
 pub use gate::{Gate, OpenGate, Passing};
-pub use happened::Happened;
 pub use links::Links;
 pub use scan_worker::scan_turn;
 pub use turn::Turn;

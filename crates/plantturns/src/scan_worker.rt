@@ -7,7 +7,7 @@ ghost use Rattle.plantturns.specs.TurnSteps.{IsUnwritten, ScansOnce};
 use crate::bus_worker::turn_where_refused;
 use crate::turn::Turn;
 use ilmachine::scan_into;
-use plantdriving::{Halt, Observer};
+use plantdriving::{Halt, Happened, Observer};
 use plantlock::{LockStart, Share, Shared};
 use planttallies::{Tallies, Tally};
 use std::alloc::Global;
@@ -24,7 +24,12 @@ fn tell_scan<B, O: Observer<B>>(
     steps: u32,
 ) -> io::Result<()> {
     took?;
-    observer.note_commit(place, worker, task, steps)
+    let committed = Happened::Committed {
+        worker,
+        task,
+        steps,
+    };
+    observer.note(place, committed)
 }
 
 /// Takes a task under the lock, makes its scan outside the lock, and commits it under the lock.
@@ -43,7 +48,7 @@ fn scan_once<'a, B, J: LockStart, T: Tally, K: Tallies<T>, O: Observer<B>, R: Wa
 {
     let order = shared.take(rt, alloc, share, worker)?;
     let task = order.task;
-    let took = observer.note_take(order.number, worker, task);
+    let took = observer.note(order.number, Happened::Took { worker, task });
     let scan = scan_into(order.work);
     let steps = scan.steps();
     let Ok(()) = shared.commit(rt, share, worker, scan) else {

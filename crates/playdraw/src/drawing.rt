@@ -5,8 +5,7 @@ use daliframe::{Frame, Frame24};
 use daliwords::{FrameWords, FramesWords};
 use iltypes::Value;
 use plant::Plant;
-use plantdriving::Observer;
-use plantevents::Origin;
+use plantdriving::{Happened, Observer};
 use playpicture::{Column, Kind, Moment, Picture, Row, Sign};
 use playwatch::Watch;
 use simbus::{Scenario, SimBus};
@@ -183,34 +182,73 @@ impl Drawing {
     }
 }
 
-impl Observer<SimBus> for Drawing {
-    fn note_tick(&mut self, _place: u64, milliseconds: u64) -> io::Result<()> {
+/// How each event is drawn.
+impl Drawing {
+    fn draw_tick(&mut self, milliseconds: u64) -> Result<(), AllocError> {
         let line = format!(in self.alloc; "tick {milliseconds}")?;
-        Ok(self.begin(Some(Moment { milliseconds }), None, false, line)?)
+        self.begin(Some(Moment { milliseconds }), None, false, line)
     }
 
-    fn note_frame(&mut self, _place: u64, bus: u8, frame: Frame24) -> io::Result<()> {
+    fn draw_frame(&mut self, bus: u8, frame: Frame24) -> Result<(), AllocError> {
         let words = FrameWords(Frame::Forward24(frame));
         let line = format!(in self.alloc; "heard {bus} {frame}  {words}")?;
         self.begin(None, Some(bus), false, line)?;
-        Ok(self.mark_event(bus, frame)?)
+        self.mark_event(bus, frame)
     }
 
-    fn note_take(&mut self, _place: u64, _worker: usize, task: usize) -> io::Result<()> {
+    fn draw_take(&mut self, task: usize) -> Result<(), AllocError> {
         let line = format!(in self.alloc; "take {}", self.task_name(task))?;
         self.go_on(&line)?;
-        Ok(self.mark(Kind::Task, task, Sign::Scan)?)
+        self.mark(Kind::Task, task, Sign::Scan)
     }
 
-    fn note_commit(
-        &mut self,
-        _place: u64,
-        _worker: usize,
-        task: usize,
-        steps: u32,
-    ) -> io::Result<()> {
+    fn draw_commit(&mut self, task: usize, steps: u32) -> Result<(), AllocError> {
         let line = format!(in self.alloc; "commit {} steps {steps}", self.task_name(task))?;
-        Ok(self.go_on(&line)?)
+        self.go_on(&line)
+    }
+
+    /// The transaction with its class and its frames, and behind two blanks these in words.
+    fn draw_handout(&mut self, bus: u8, transaction: &Transaction) -> Result<(), AllocError> {
+        let alloc = self.alloc;
+        let mut line = format!(in alloc; "hand {bus} {}", transaction.first_priority())?;
+        for frame in transaction.frames() {
+            line.push_str(&format!(in alloc; " {frame}")?)?;
+        }
+        line.push_str(&format!(in alloc; "  {}", FramesWords(transaction.frames()))?)?;
+        self.begin(None, Some(bus), true, line)
+    }
+
+    /// What a report comes to.
+    fn draw_outcome(&mut self, bus: u8, outcome: Outcome) -> Result<(), AllocError> {
+        let line = format!(in self.alloc; "done {bus} {outcome}")?;
+        self.go_on(&line)?;
+        self.mark(Kind::Bus, usize::from(bus), sign_of_outcome(outcome))
+    }
+
+    fn draw_down(&mut self, bus: u8) -> Result<(), AllocError> {
+        let line = format!(in self.alloc; "down {bus}")?;
+        self.begin(None, Some(bus), true, line)?;
+        self.mark(Kind::Bus, usize::from(bus), Sign::Down)
+    }
+}
+
+impl Observer<SimBus> for Drawing {
+    fn note(&mut self, _place: u64, happened: Happened) -> io::Result<()> {
+        match happened {
+            Happened::Ticked { moment } => self.draw_tick(moment)?,
+            Happened::Heard { bus, frame } => self.draw_frame(bus, frame)?,
+            Happened::Took { task, .. } => self.draw_take(task)?,
+            Happened::Committed { task, steps, .. } => self.draw_commit(task, steps)?,
+            Happened::Handed {
+                bus,
+                transaction,
+                ..
+            } => self.draw_handout(bus, &transaction)?,
+            Happened::Reported { bus, report } => self.draw_outcome(bus, report.outcome())?,
+            Happened::WentDown { bus } => self.draw_down(bus)?,
+            Happened::CameUp { .. } => {}
+        }
+        Ok(())
     }
 
     /// Marks the values that are new.
@@ -225,35 +263,8 @@ impl Observer<SimBus> for Drawing {
         Ok(())
     }
 
-    /// Adds the transaction with its class and its frames, and behind two blanks these in words.
-    fn note_handout(
-        &mut self,
-        _place: u64,
-        bus: u8,
-        _origin: Origin,
-        transaction: &Transaction,
-    ) -> io::Result<()> {
-        let alloc = self.alloc;
-        let mut line = format!(in alloc; "hand {bus} {}", transaction.first_priority())?;
-        for frame in transaction.frames() {
-            line.push_str(&format!(in alloc; " {frame}")?)?;
-        }
-        line.push_str(&format!(in alloc; "  {}", FramesWords(transaction.frames()))?)?;
-        Ok(self.begin(None, Some(bus), true, line)?)
-    }
-
-    /// Marks what the report comes to, and the levels that are new after it.
-    fn note_report(
-        &mut self,
-        _place: u64,
-        bus: u8,
-        report: &Report,
-        line: &SimBus,
-    ) -> io::Result<()> {
-        let outcome = report.outcome();
-        let done = format!(in self.alloc; "done {bus} {outcome}")?;
-        self.go_on(&done)?;
-        self.mark(Kind::Bus, usize::from(bus), sign_of_outcome(outcome))?;
+    /// Marks the levels that are new after a report.
+    fn note_line(&mut self, bus: u8, report: &Report, line: &SimBus) -> io::Result<()> {
         let column = self.column();
         for (lamp, row) in self.lamps.iter().zip(&mut self.picture.rows) {
             match level_of(line, report, lamp.address) {
@@ -262,12 +273,6 @@ impl Observer<SimBus> for Drawing {
             }
         }
         Ok(())
-    }
-
-    fn note_down(&mut self, _place: u64, bus: u8) -> io::Result<()> {
-        let line = format!(in self.alloc; "down {bus}")?;
-        self.begin(None, Some(bus), true, line)?;
-        Ok(self.mark(Kind::Bus, usize::from(bus), Sign::Down)?)
     }
 }
 

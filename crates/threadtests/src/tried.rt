@@ -4,7 +4,8 @@
 use crate::house::House;
 use livejournal::{BuildingObserver, Care, Storage};
 use options::Beside;
-use plantturns::{Gate, Happened};
+use plantdriving::Happened;
+use plantturns::Gate;
 use std::alloc::Global;
 use std::io;
 use std::io::ErrorKind;

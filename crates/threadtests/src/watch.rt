@@ -1,6 +1,7 @@
 //! A gate that counts what is done by number, and lets scans, frames and the clock wait for counts.
 
-use plantturns::{Gate, Happened};
+use plantdriving::Happened;
+use plantturns::Gate;
 use std::alloc::{AllocError, Global};
 use std::sync::atomic::{AtomicU64, Ordering};
 use std::thread;

@@ -1,4 +1,5 @@
 use Rattle.plantdriving.specs.Order.{scans_at}
+use Rattle.plantdriving.specs.Tellings.{HasToldAll}
 use Rattle.plantdriving.specs.TurnSteps.{GoesOn, HasTurned, IsScanStep}
 use Rattle.plantdriving.proofs.scanning.scan_all.Given as goal
 
@@ -8,4 +9,6 @@ invariant-loop g l =
       step : IsScanStep l.fn.plant l.plant;
       goes_on : GoesOn scans_at scans_at l.fn.plant l.plant;
       turned : HasTurned l.fn.plant l.plant l.counter l.any;
+      told : HasToldAll l.fn.plant.history l.plant.history (g.O.Observer.told l.fn.observer)
+          (g.O.Observer.told l.observer);
     }

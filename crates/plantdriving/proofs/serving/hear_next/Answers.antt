@@ -1,12 +1,16 @@
-use Rattle.std.proofs.Common.{ℕ, Option, refl, ap, ◌∙◌}
+use Rattle.std.proofs.Common.{ℕ, Option, Bool, false, List, ◌∷◌, length, refl, ap, ◌∙◌}
 use Rattle.std.specs.Prelude.{Ok}
 use Rattle.buslink.specs.BusLog.{after_hear}
+use Rattle.plantevents.specs.declared.event.Event.{Event}
+use Rattle.plantevents.specs.declared.event.Event.TheVariants.{Heard, Down}
 use Rattle.plant.specs.Shown.{Shown}
+use Rattle.plantdriving.specs.declared.happened.Happened.TheVariants as what
 use Rattle.plantdriving.proofs.BusSteps.{step_fault, step_frame, step_silent}
 use Rattle.plantdriving.proofs.Handed.{step_idle}
 use Rattle.plantdriving.proofs.Hearing.{heard_fault, heard_frame, heard_nothing}
 use Rattle.plantdriving.proofs.Order.{fault_goes_on, frame_goes_on, unheard_kept, unheard_same}
 use Rattle.plantdriving.proofs.Refused.{hear_stops, hear_tells}
+use Rattle.plantdriving.proofs.Tellings.{tells_none, tells_one}
 use Rattle.plantdriving.proofs.serving.hear_next.Goals as goal
 
 pub returns-in-Err : goal.returns-in-Err
@@ -21,6 +25,8 @@ returns-in-Err g c = record {
   goes_on = unheard_same c.args.bus c.args.plant.now c.may_hear.new.self c.in-Err.ensures.err;
   stops = hear_stops c.args.plant.now c.may_hear.new.self c.args.bus c.in-Err.refusal c.idle_where_refused.result
       c.in-Err.ensures.err c.requires.known c.in-Err.ensures.refused c.idle_where_refused.ensures;
+  told = tells_none c.args.plant.now c.may_hear.new.self (g.O.Observer.told c.args.observer.now)
+      c.idle_where_refused.result (ap (λ (x : Shown). x.history) c.in-Err.ensures.err);
 }
 
 pub returns-in-Ok-clause-step : goal.returns-in-Ok-clause-step
@@ -71,3 +77,30 @@ returns-in-Ok-down-clause-goes_on g c = λ none.
 
 pub returns-in_err-room-clause-goes_on : goal.returns-in_err-room-clause-goes_on
 returns-in_err-room-clause-goes_on g c = unheard_same c.args.bus c.args.plant.now c.args.plant.now refl
+
+pub returns-in-Ok-clause-told : goal.returns-in-Ok-clause-told
+returns-in-Ok-clause-told g c =
+    let kept = ap (λ (x : Shown). x.history) c.in_default.ensures.ok in
+    tells_one c.args.plant.now c.note_frame.new.self (Heard c.args.bus c.in-Ok-Some.frame) c.len-place.result
+    (what.Heard c.args.bus c.in-Ok-Some.frame) (g.O.Observer.told c.args.observer.now)
+    (g.O.Observer.told c.note.new.self) c.as_done.result
+    (ap (λ (x : Shown). x.history) c.in-Ok.ensures.ok ∙ ap (λ (h : List Event). Heard c.args.bus c.in-Ok-Some.frame ∷ h) kept)
+    (c.len-place.ensures.value ∙ ap length kept) (refl, refl) c.note.ensures
+
+pub returns-in-Ok-None-clause-told : goal.returns-in-Ok-None-clause-told
+returns-in-Ok-None-clause-told g c =
+    tells_none {A = Bool} c.args.plant.now c.may_hear.new.self (g.O.Observer.told c.args.observer.now) (Ok false)
+    (ap (λ (x : Shown). x.history) c.in_default.ensures.ok)
+
+pub returns-in-Ok-down-clause-told : goal.returns-in-Ok-down-clause-told
+returns-in-Ok-down-clause-told g c =
+    let kept = ap (λ (x : Shown). x.history) c.in_default.ensures.ok in
+    tells_one c.args.plant.now c.down.new.self (Down c.args.bus) c.len-place.result
+    (what.WentDown c.args.bus) (g.O.Observer.told c.args.observer.now)
+    (g.O.Observer.told c.note-in-Err-hear.new.self) c.as_done-in-Err-hear.result
+    (ap (λ (x : Shown). x.history) c.in-Ok-down.ensures.ok ∙ ap (λ (h : List Event). Down c.args.bus ∷ h) kept)
+    (c.len-place.ensures.value ∙ ap length kept) refl c.note-in-Err-hear.ensures
+
+pub returns-in_err-room-clause-told : goal.returns-in_err-room-clause-told
+returns-in_err-room-clause-told g c =
+    tells_none c.args.plant.now c.args.plant.now (g.O.Observer.told c.args.observer.now) c.from_residual.result refl

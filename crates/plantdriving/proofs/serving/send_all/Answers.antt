@@ -1,9 +1,11 @@
+use Rattle.std.proofs.Common.{refl}
 use Rattle.plantdriving.specs.Order.{sends_at}
 use Rattle.plantdriving.specs.Quiet.{HasNoHandout}
-use Rattle.plantdriving.proofs.Again.{turned_more, turned_out}
-use Rattle.plantdriving.proofs.Linked.{step_then}
-use Rattle.plantdriving.proofs.Order.{none_left, on_and_on}
+use Rattle.plantdriving.proofs.Again.{turned_more, turned_none, turned_out}
+use Rattle.plantdriving.proofs.Linked.{step_nothing, step_then}
+use Rattle.plantdriving.proofs.Order.{none_left, on_and_on, stays_same}
 use Rattle.plantdriving.proofs.Turned.{handout_moved}
+use Rattle.plantdriving.proofs.Tellings.{stopped_then, told_none, told_then}
 use Rattle.plantdriving.proofs.serving.send_all.Goals as goal
 
 pub returns-in_err-send_turn-clause-step : goal.returns-in_err-send_turn-clause-step
@@ -30,6 +32,9 @@ loop-preserved g c = record {
   turned = turned_more c.args.plant.now c.loop.plant c.send_turn.new.plant c.loop.counter c.loop.any
       c.in_ok-send_turn.field-0 (HasNoHandout c.loop.plant c.args.bus) c.loop.invariant.turned
       c.in_ok-send_turn.ensures.turn c.if-not-branch.false;
+  told = told_then c.args.plant.now.history c.loop.plant.history c.send_turn.new.plant.history
+      (g.O.Observer.told c.args.observer.now) (g.O.Observer.told c.loop.observer)
+      (g.O.Observer.told c.send_turn.new.observer) c.loop.invariant.told c.in_ok-send_turn.ensures.told;
 }
 
 pub returns-in_err-send_turn-clause-goes_on : goal.returns-in_err-send_turn-clause-goes_on
@@ -48,3 +53,24 @@ pub returns-then-not-branch-clause-none : goal.returns-then-not-branch-clause-no
 returns-then-not-branch-clause-none g c =
     none_left c.args.bus c.loop.plant c.send_turn.new.plant c.in_ok-send_turn.field-0
     c.in_ok-send_turn.ensures.step.later.plant c.in_ok-send_turn.ensures.turn c.if-not-branch.true
+
+pub returns-in_err-send_turn-clause-told : goal.returns-in_err-send_turn-clause-told
+returns-in_err-send_turn-clause-told g c =
+    stopped_then c.args.plant.now c.loop.plant c.send_turn.new.plant (g.O.Observer.told c.args.observer.now)
+    (g.O.Observer.told c.loop.observer) (g.O.Observer.told c.send_turn.new.observer) c.in_err-send_turn.field-0.0
+    c.from_residual.result c.from_residual.ensures.1 c.loop.invariant.told c.in_err-send_turn.ensures.told
+
+pub returns-then-not-branch-clause-told : goal.returns-then-not-branch-clause-told
+returns-then-not-branch-clause-told g c =
+    told_then c.args.plant.now.history c.loop.plant.history c.send_turn.new.plant.history
+    (g.O.Observer.told c.args.observer.now) (g.O.Observer.told c.loop.observer)
+    (g.O.Observer.told c.send_turn.new.observer) c.loop.invariant.told c.in_ok-send_turn.ensures.told
+
+pub loop-init : goal.loop-init
+loop-init g c = record {
+  step = step_nothing c.args.bus c.args.plant.now (g.B.Bus.log c.args.line.now);
+  goes_on = stays_same c.args.plant.now c.args.plant.now (sends_at c.args.bus) refl;
+  turned = turned_none c.args.plant.now;
+  told = told_none c.args.plant.now.history c.args.plant.now.history (g.O.Observer.told c.args.observer.now)
+      (g.O.Observer.told c.args.observer.now) refl refl;
+}

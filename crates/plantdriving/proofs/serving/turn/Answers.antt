@@ -2,6 +2,7 @@ use Rattle.std.proofs.Common.{◌+◌}
 use Rattle.plantdriving.specs.Order.{sends_at}
 use Rattle.plantdriving.proofs.Linked.{step_then}
 use Rattle.plantdriving.proofs.Order.{on_and_on, stopped_at, stops, stops_then}
+use Rattle.plantdriving.proofs.Tellings.{stopped_then, told_then}
 use Rattle.plantdriving.proofs.serving.turn.Goals as goal
 
 pub returns-in_err-heard-clause-step : goal.returns-in_err-heard-clause-step
@@ -41,3 +42,22 @@ returns-in_err-heard-clause-goes_on g c =
     stopped_at at (sends_at (c.args.bus + 1)) p r c.from_residual-in_err-heard.result _
     c.from_residual-in_err-heard.ensures.1 (stops_then at at p q r c.in_ok-sent.ensures.goes_on
     (stops at (sends_at (c.args.bus + 1)) q r (c.in_err-heard.ensures.goes_on c.in_ok-sent.ensures.none)))
+
+pub returns-in_err-heard-clause-told : goal.returns-in_err-heard-clause-told
+returns-in_err-heard-clause-told g c =
+    stopped_then c.args.plant.now c.send_all.new.plant c.hear_next.new.plant (g.O.Observer.told c.args.observer.now)
+    (g.O.Observer.told c.send_all.new.observer) (g.O.Observer.told c.hear_next.new.observer)
+    c.in_err-heard.field-0.0 c.from_residual-in_err-heard.result c.from_residual-in_err-heard.ensures.1
+    c.in_ok-sent.ensures.told c.in_err-heard.ensures.told
+
+pub returns-then-sent-clause-told : goal.returns-then-sent-clause-told
+returns-then-sent-clause-told g c =
+    told_then c.args.plant.now.history c.send_all.new.plant.history c.hear_next.new.plant.history
+    (g.O.Observer.told c.args.observer.now) (g.O.Observer.told c.send_all.new.observer)
+    (g.O.Observer.told c.hear_next.new.observer) c.in_ok-sent.ensures.told c.in_ok-heard.ensures.told
+
+pub returns-else-sent-clause-told : goal.returns-else-sent-clause-told
+returns-else-sent-clause-told g c =
+    told_then c.args.plant.now.history c.send_all.new.plant.history c.hear_next.new.plant.history
+    (g.O.Observer.told c.args.observer.now) (g.O.Observer.told c.send_all.new.observer)
+    (g.O.Observer.told c.hear_next.new.observer) c.in_ok-sent.ensures.told c.in_ok-heard.ensures.told

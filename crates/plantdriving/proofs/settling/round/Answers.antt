@@ -6,6 +6,7 @@ use Rattle.plantdriving.specs.TurnSteps.{Tells}
 use Rattle.plantdriving.proofs.Order.{round_goes_on, round_stops, stopped_at, stops}
 use Rattle.plantdriving.proofs.Settled.{round_tells}
 use Rattle.plantdriving.proofs.Turned.{finish_of_scan, finish_then}
+use Rattle.plantdriving.proofs.Tellings.{stopped_then, told_then}
 use Rattle.plantdriving.proofs.settling.round.Goals as goal
 
 pub returns-in_err-turned-clause-driven : goal.returns-in_err-turned-clause-driven
@@ -66,3 +67,22 @@ returns-in_err-turned-clause-goes_on g c =
     stopped_at scans_at scans_at c.args.plant.now c.turn_all.new.plant c.from_residual-in_err-turned.result _
     c.from_residual-in_err-turned.ensures.1 (round_stops c.args.plant.now c.scan_all.new.plant c.turn_all.new.plant
     c.in_ok-scanned.ensures.goes_on c.in_ok-scanned.ensures.none c.in_err-turned.ensures.goes_on)
+
+pub returns-in_err-turned-clause-told : goal.returns-in_err-turned-clause-told
+returns-in_err-turned-clause-told g c =
+    stopped_then c.args.plant.now c.scan_all.new.plant c.turn_all.new.plant (g.O.Observer.told c.args.observer.now)
+    (g.O.Observer.told c.scan_all.new.observer) (g.O.Observer.told c.turn_all.new.observer)
+    c.in_err-turned.field-0.0 c.from_residual-in_err-turned.result c.from_residual-in_err-turned.ensures.1
+    c.in_ok-scanned.ensures.told c.in_err-turned.ensures.told
+
+pub returns-then-scanned-clause-told : goal.returns-then-scanned-clause-told
+returns-then-scanned-clause-told g c =
+    told_then c.args.plant.now.history c.scan_all.new.plant.history c.turn_all.new.plant.history
+    (g.O.Observer.told c.args.observer.now) (g.O.Observer.told c.scan_all.new.observer)
+    (g.O.Observer.told c.turn_all.new.observer) c.in_ok-scanned.ensures.told c.in_ok-turned.ensures.told
+
+pub returns-else-scanned-clause-told : goal.returns-else-scanned-clause-told
+returns-else-scanned-clause-told g c =
+    told_then c.args.plant.now.history c.scan_all.new.plant.history c.turn_all.new.plant.history
+    (g.O.Observer.told c.args.observer.now) (g.O.Observer.told c.scan_all.new.observer)
+    (g.O.Observer.told c.turn_all.new.observer) c.in_ok-scanned.ensures.told c.in_ok-turned.ensures.told

@@ -2,6 +2,7 @@ use Rattle.std.proofs.Common.{map}
 use Rattle.plantdriving.proofs.Order.{came_in_order, heard_first, none_came}
 use Rattle.plantdriving.proofs.Settled.{quiet_on}
 use Rattle.plantdriving.proofs.Turned.{finish_then}
+use Rattle.plantdriving.proofs.Tellings.{tells_then}
 use Rattle.plantdriving.proofs.settling.settle.Goals as goal
 
 pub returns-clause-driven : goal.returns-clause-driven
@@ -30,3 +31,9 @@ returns-clause-order g c =
 pub returns-in_err-hear_buses-clause-order : goal.returns-in_err-hear_buses-clause-order
 returns-in_err-hear_buses-clause-order g c =
     none_came c.args.plant.now c.hear_buses.new.plant c.hear_buses.ensures.order c.hear_buses.ensures.driven.plant
+
+pub returns-clause-told : goal.returns-clause-told
+returns-clause-told g c =
+    tells_then c.args.plant.now c.hear_buses.new.plant c.finish.new.plant (g.O.Observer.told c.args.observer.now)
+    (g.O.Observer.told c.hear_buses.new.observer) (g.O.Observer.told c.finish.new.observer) c.finish.result
+    c.in_ok-hear_buses.ensures.told c.finish.ensures.told

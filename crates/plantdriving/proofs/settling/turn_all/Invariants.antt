@@ -1,6 +1,7 @@
 use Rattle.std.proofs.Common.{map}
 use Rattle.plantdriving.specs.Driven.{IsDriven}
 use Rattle.plantdriving.specs.Order.{sends_at}
+use Rattle.plantdriving.specs.Tellings.{HasToldAll}
 use Rattle.plantdriving.specs.TurnSteps.{GoesOn, HaveTurned}
 use Rattle.plantdriving.proofs.settling.turn_all.Given as goal
 
@@ -11,4 +12,6 @@ invariant-loop-bus g l =
       goes_on : GoesOn (sends_at 0) (sends_at l.bus) l.fn.plant l.plant;
       turned : HaveTurned l.fn.plant l.plant (map g.B.Bus.log l.fn.lines.items) (map g.B.Bus.log l.lines.items)
           l.bus l.any;
+      told : HasToldAll l.fn.plant.history l.plant.history (g.O.Observer.told l.fn.observer)
+          (g.O.Observer.told l.observer);
     }

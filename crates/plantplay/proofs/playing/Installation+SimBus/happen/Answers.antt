@@ -12,7 +12,7 @@ returns-in_err-tick-in-Tick g c =
     let s = stage_of c.args.self.now in
     rw (p.1, p.2, c.in-Tick.is)
     (tick_halts c.in-Tick.moment s (record { plant = c.tick.new.self; logs = s.logs }) c.in_err-tick-in-Tick.field-0.0
-    c.in_err-tick-in-Tick.ensures refl)
+    c.in_err-tick-in-Tick.ensures.ticks refl)
 
 pub returns-in_ok-tick-in-Tick : goal.returns-in_ok-tick-in-Tick
 returns-in_ok-tick-in-Tick g c =
@@ -20,7 +20,7 @@ returns-in_ok-tick-in-Tick g c =
     let t = stage_of c.settle.new.self in
     rw c.in-Tick.is
     (settle_ends (Tick c.in-Tick.moment) s came t c.settle.result
-    (record { plant = c.in_ok-tick-in-Tick.ensures; logs = refl }) (λ settled. settled) c.settle.ensures.driven
+    (record { plant = c.in_ok-tick-in-Tick.ensures.ticks; logs = refl }) (λ settled. settled) c.settle.ensures.driven
     c.settle.ensures.settled c.settle.ensures.stops)
 
 pub returns-then-arrive : goal.returns-then-arrive

@@ -47,3 +47,10 @@ pub enum Happened {
         bus: u8,
     },
 }
+
+/// An event with its place in the history, from 0.
+#[derive(Drop)]
+pub struct Told {
+    pub place: u64,
+    pub happened: Happened,
+}
