@@ -8,4 +8,5 @@ mod Refusing
 mod Results
 mod SentInTurn
 mod TaskTurns
+mod ToldOnce
 mod Turned

@@ -24,3 +24,4 @@ pub mod plays;
 pub mod runs;
 pub mod shares;
 pub mod tasks;
+pub mod told;
