@@ -4,8 +4,23 @@ ghost use Rattle.std.specs.Prelude.{◌≡◌, ◌≢◌, [], true, false, IsSom
 
 use busqueue::{Class, Queues};
 use dalievent::EventSource;
-use daliframe::{EventScheme, Frame24};
+use daliframe::{Address, EventScheme, Frame16, Frame24, OpcodeClass};
 use gearcmd::{GearAskCommand, Request, gear_ask_opcode};
+
+/// `group_address_sent_as_short`: the level of group 0 went to short address 0.
+pub fn level_of_group_0_is_80fe(address: Address) -> u16
+    requires { address ≡ Address.Group 0 }
+    ensures { result ≡ 0x80FE }
+{
+    Frame16::level(address, 254).number()
+}
+
+/// `opcode_09_sent_once`: an opcode that the profile lacks was one that is sent once.
+pub fn opcode_09_is_none() -> bool
+    ensures { result ≡ true }
+{
+    OpcodeClass::of(0x09).is_none()
+}
 
 /// `event_bit_taken_from_bit_15`: bit 15 in place of bit 16 told commands from events.
 pub fn bit_16_makes_a_command() -> bool

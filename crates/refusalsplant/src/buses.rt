@@ -1,24 +1,29 @@
 //! What is kept of buses and of scans that are open.
 
-ghost use Rattle.std.specs.Prelude.{◌≡◌, ◌≢◌, ◌<◌, IfOk, None, Some, false, length, slice_get};
+ghost use Rattle.std.specs.Prelude.{◌≡◌, ◌≢◌, ◌<◌, IfOk, None, Some, false, true, length, map};
+ghost use Rattle.std.specs.Prelude.{slice_get};
+ghost use Rattle.std.specs.Int.{bit_at};
+ghost use Rattle.busqueue.specs.declared.class.Class.{Class as RequestClass};
 ghost use Rattle.gearcmd.specs.declared.requests.Answerer.TheVariants.{Gear};
-ghost use Rattle.ilimage.specs.Images.{Global as GlobalVariable};
+ghost use Rattle.ilimage.specs.Images.{Global as GlobalVariable, layout_of};
 ghost use Rattle.plantbuses.specs.HandingSteps.{IsOfClass};
-ghost use Rattle.plantbuses.specs.KeptSteps.{BusesFollow};
+ghost use Rattle.plantbuses.specs.KeptSteps.{BusesFollow, ImageFollows};
 ghost use Rattle.plantbuses.specs.OutputSteps.{output_for, output_in, planned};
-ghost use Rattle.plantbuses.specs.OwedSteps.{OwedFollow};
+ghost use Rattle.plantbuses.specs.OwedSteps.{OwedFollow, addresses_of, owed_on, owes};
+ghost use Rattle.plantbuses.specs.StoreSteps.{AreTables, OwedBeside, externals_at};
 ghost use Rattle.plantevents.specs.Plants.{location, output_at, storing_kind};
 ghost use Rattle.plantevents.specs.Variables.{answerer_by, value, whole};
 ghost use Rattle.plantevents.specs.Waiting.{handouts};
 
 use busqueue::Class;
 use gearcmd::{Request, TaskKind};
+use ilimage::Image;
 use ilplan::{Location, Plan};
 use iltypes::Value;
 use plant::Plant;
 use plantbuses::{
-    BusOutputs, BusState, Next, OwedLevels, RunningScan, answer_to, first_of, note_handed, note_up,
-    outputs_of,
+    BusOutputs, BusState, Next, OwedLevels, RunningScan, answer_to, first_of, note_handed,
+    note_stores, note_up, outputs_of,
 };
 use plantevents::Origin;
 use std::alloc::{AllocError, Global};
@@ -98,6 +103,31 @@ pub fn handed_level_is_owed_no_more(
 {
     note_handed(owed, 0, next);
     owed[0].least(class)
+}
+
+/// `a_commit_skips_a_level_that_its_task_stores`: a level that a scan had stored was not owed.
+pub fn stored_level_is_owed(
+    owed: &mut Vec<OwedLevels>,
+    plan: &Plan,
+    outputs: &[BusOutputs],
+    buses: &[BusState],
+    image: &Image,
+    plant: &Plant,
+)
+    requires known { 0 < plan.now.buses }
+    requires task { 0 < length image.now.tasks }
+    requires types { image.now.types ≡ map (λ g. g.value_type) plan.now.globals }
+    requires count { length owed.old.items ≡ plan.now.buses }
+    requires tables { AreTables plan.now outputs.now buses.now }
+    requires plan { plant.now.plant.plan ≡ plan.now }
+    requires buses { BusesFollow plant.now.plant plant.now.history buses.now }
+    requires image { ImageFollows plant.now.plant plant.now.history image.now }
+    requires beside { OwedBeside plant.now.plant plant.now.history
+        (externals_at (layout_of image.now) 0) owed.old.items }
+    ensures { (class : RequestClass) → owes plant.now.plant 0 plant.now.history class 5 ≡ true
+        → bit_at (addresses_of class (owed_on owed.new.items 0)) 5 ≡ 1 }
+{
+    note_stores(owed, plan, outputs, buses, image, 0);
 }
 
 /// `a_bus_that_comes_up_stays_down`: a bus that came up again was down still.
