@@ -1,15 +1,16 @@
-//! The bodies of a code, those of its programs and of its functions: their lines in a table, and
-//! the chains of calls, the one that makes a path long, and the deepest one.
+//! The bodies of a code, those of its programs and of its functions: how many words of a longest
+//! path each has, their lines in a table, and the chains of calls, the one that makes a path long,
+//! and the deepest one.
 
-use crate::marks::count_at;
-use crate::stars::{Share, longest_through};
+use crate::marks::{add_at, count_at, mark};
 use crate::task_names::TaskNames;
 use crate::uses::line_at;
+use crate::words::{Part, PartText};
 use ilcode::{Code, Word};
+use iltypes::Condition;
 use ilverify::LongestWays;
 use page::Page;
 use std::alloc::{AllocError, Global};
-use std::fmt;
 
 /// The place where a body begins: that of the programs is 0, that of function n is n + 1.
 pub(crate) fn start_of(code: &Code, body: usize) -> usize {
@@ -33,6 +34,136 @@ fn callee_at(code: &Code, place: usize) -> Option<usize> {
     }
 }
 
+/// What the programs or a function have of a longest path.
+#[derive(Clone, Copy)]
+pub(crate) struct Share {
+    /// The body: 0 is the programs, function n is n + 1.
+    pub body: usize,
+    /// How often the path goes through it.
+    pub times: u32,
+    /// How many words of its own the path has there each time.
+    pub words: u32,
+}
+
+/// A longest path, as far as it is followed.
+#[derive(Drop)]
+pub(crate) struct LongestPath {
+    /// For each place whether its word is on the path.
+    pub words: Vec<bool>,
+    /// How often it calls each function.
+    pub calls: Vec<u32>,
+    /// What makes the path: the programs, and the functions from the last to the first.
+    pub shares: Vec<Share>,
+}
+
+/// A longest path of a code. A function is called by those behind it alone, so the programs are
+/// gone over first, and then the functions from the last to the first.
+///
+/// # Errors
+///
+/// The allocator is out of memory.
+pub(crate) fn longest_path(
+    alloc: Global,
+    code: &Code,
+    ways: &LongestWays,
+) -> Result<LongestPath, AllocError> {
+    let mut path = longest_through(alloc, code, ways, 0)?;
+    for function in (0..code.functions().len()).rev() {
+        let times = count_at(&path.calls, function);
+        if times > 0 {
+            path.follow(code, ways, function.saturating_add(1), times)?;
+        }
+    }
+    Ok(path)
+}
+
+/// A longest path through a body, without what it has of functions.
+///
+/// # Errors
+///
+/// The allocator is out of memory.
+pub(crate) fn longest_through(
+    alloc: Global,
+    code: &Code,
+    ways: &LongestWays,
+    body: usize,
+) -> Result<LongestPath, AllocError> {
+    let mut path = LongestPath {
+        words: vec![in alloc; false; code.len()]?,
+        calls: vec![in alloc; 0; code.functions().len()]?,
+        shares: Vec::new(alloc),
+    };
+    path.follow(code, ways, body, 1)?;
+    Ok(path)
+}
+
+impl LongestPath {
+    /// Adds the words of a path through a body, from its first word on, which the longest path
+    /// takes the given number of times.
+    fn follow(
+        &mut self,
+        code: &Code,
+        ways: &LongestWays,
+        body: usize,
+        times: u32,
+    ) -> Result<(), AllocError> {
+        let mut place = start_of(code, body);
+        let mut words: u32 = 0;
+        for _ in place..code.end_of(body) {
+            if place >= code.end_of(body) {
+                break;
+            }
+            mark(&mut self.words, place);
+            words = words.saturating_add(1);
+            if let Some(Word::Invoke(function)) = code.get(place) {
+                add_at(&mut self.calls, usize::from(function), times);
+            }
+            place = place_after(code, ways, body, place);
+        }
+        self.shares.push(Share { body, times, words })?;
+        Ok(())
+    }
+}
+
+/// Where the longest path through a body goes on from a place: to the next word where both ways are
+/// as long.
+fn place_after(code: &Code, ways: &LongestWays, body: usize, place: usize) -> usize {
+    let next = place.saturating_add(1);
+    let Some(Word::Jump { condition, target }) = code.get(place) else {
+        return next;
+    };
+    let target = target as usize;
+    let is_longer = ways.words_from(body, target) > ways.words_from(body, next);
+    if condition == Condition::Always || is_longer {
+        target
+    } else {
+        next
+    }
+}
+
+/// Adds a number behind a text.
+pub(crate) fn add_number(page: &mut Page, before: &str, number: u32) {
+    page.text(before);
+    page.number(i64::from(number));
+}
+
+/// Adds a number, with blanks before it up to so many columns.
+pub(crate) fn add_column(page: &mut Page, number: usize, columns: usize) {
+    let mut least: usize = 10;
+    for _ in 1..columns {
+        if number < least {
+            page.text(" ");
+        }
+        least = least.saturating_mul(10);
+    }
+    page.count(number);
+}
+
+/// Adds a name.
+fn add_name(page: &mut Page, names: &TaskNames, part: Part) {
+    page.shown(&PartText { names, part });
+}
+
 /// Adds, where the code has functions, what makes the bound: how many words of a longest path are
 /// of the programs, and of each function that it goes through, and how often it does.
 pub(crate) fn add_bound(page: &mut Page, names: &TaskNames, shares: &[Share], bound: u32) {
@@ -50,26 +181,13 @@ pub(crate) fn add_bound(page: &mut Page, names: &TaskNames, shares: &[Share], bo
         }
         add_number(page, "", share.words);
         page.text(" in ");
-        match share.body.checked_sub(1) {
-            Some(function) => add_function(page, names, function),
-            None => page.text("programs"),
-        }
+        let part = match share.body.checked_sub(1) {
+            Some(function) => Part::Function(function),
+            None => Part::Text("programs"),
+        };
+        add_name(page, names, part);
     }
     page.text("\n");
-}
-
-/// Adds a number behind a text.
-pub(crate) fn add_number(page: &mut Page, before: &str, number: u32) {
-    page.text(before);
-    page.number(i64::from(number));
-}
-
-/// Adds the name of a function of a code, or its number where it has none.
-fn add_function(page: &mut Page, names: &TaskNames, function: usize) {
-    match names.function(function) {
-        Some(name) => page.shown(&name),
-        None => page.count(function),
-    }
 }
 
 /// Adds a line for each function that begins at a place: its name, its words, the greatest number
@@ -84,7 +202,7 @@ pub(crate) fn add_functions_at(
         if function.start == place {
             let end = names.code.end_of(number.saturating_add(1));
             page.text("function ");
-            add_function(page, names, number);
+            add_name(page, names, Part::Function(number));
             page.text(" words ");
             page.count(end.saturating_sub(place));
             add_number(page, " bound ", words_in(names.code, ways, number));
@@ -102,7 +220,7 @@ fn add_callers(page: &mut Page, names: &TaskNames, function: usize) {
             let caller = caller_at(names.code, place);
             if last != Some(caller) {
                 page.text(if last.is_none() { " called by " } else { ", " });
-                add_caller(page, names, caller);
+                add_name(page, names, Part::Caller(caller));
             }
             last = Some(caller);
         }
@@ -119,17 +237,6 @@ fn caller_at(code: &Code, place: usize) -> usize {
             let begun = starts.iter().filter(|start| **start <= place).count();
             begun.saturating_sub(1)
         }
-    }
-}
-
-/// Adds the name of who calls, by that number.
-fn add_caller(page: &mut Page, names: &TaskNames, caller: usize) {
-    match caller.checked_sub(names.code.starts().len()) {
-        Some(function) => add_function(page, names, function),
-        None => match names.instance(caller) {
-            Some(name) => page.shown(&name),
-            None => page.text("?"),
-        },
     }
 }
 
@@ -155,11 +262,9 @@ pub fn print_longest_calls(
         let Some(function) = longest_call(names.code, &ways, &path.calls) else {
             break;
         };
-        if let Some(place) = first_call(names.code, body, function) {
-            add_call(page, names, place, function);
-            let words = words_in(names.code, &ways, function);
-            add_times(page, count_at(&path.calls, function), words);
-        }
+        let words = words_in(names.code, &ways, function);
+        add_first_call(page, names, body, function);
+        add_times(page, count_at(&path.calls, function), words);
         body = function.saturating_add(1);
     }
     Ok(())
@@ -193,29 +298,22 @@ fn longest_call(code: &Code, ways: &LongestWays, calls: &[u32]) -> Option<usize>
     found
 }
 
-/// The place of the first call of a function in a body.
-fn first_call(code: &Code, body: usize, function: usize) -> Option<usize> {
-    (start_of(code, body)..code.end_of(body)).find(|place| {
-        callee_at(code, *place) == Some(function)
-    })
+/// Adds the first call of a function in a body.
+fn add_first_call(page: &mut Page, names: &TaskNames, body: usize, function: usize) {
+    let code = names.code;
+    let mut places = start_of(code, body)..code.end_of(body);
+    if let Some(place) = places.find(|place| callee_at(code, *place) == Some(function)) {
+        add_call(page, names, place, function);
+    }
 }
 
 /// Adds who calls what at a place, with the line.
 fn add_call(page: &mut Page, names: &TaskNames, place: usize, function: usize) {
-    page.shown(&LineNumber(line_at(names.code, place)));
-    add_caller(page, names, caller_at(names.code, place));
+    add_column(page, line_at(names.code, place), 6);
+    page.text(" | ");
+    add_name(page, names, Part::Caller(caller_at(names.code, place)));
     page.text(" calls ");
-    add_function(page, names, function);
-}
-
-/// The number of a line before what stands on it.
-#[derive(Clone, Copy)]
-struct LineNumber(usize);
-
-impl fmt::Display for LineNumber {
-    fn fmt<W: fmt::Write>(&self, f: &mut fmt::Formatter<W>) -> fmt::Result {
-        write!(f, "{:>6} | ", self.0)
-    }
+    add_name(page, names, Part::Function(function));
 }
 
 /// Prints the longest chain of calls that begins with the call at a place, a line for each. It goes
@@ -231,56 +329,37 @@ pub fn print_deepest_calls(
     place: usize,
 ) -> Result<(), AllocError> {
     page.text("the chain of calls:\n");
-    let depths = depths(alloc, names.code)?;
+    let code = names.code;
+    let mut depths = Vec::new(alloc);
+    for function in 0..code.functions().len() {
+        let (_, below) = deepest_call(code, &depths, function);
+        depths.push(below.saturating_add(1))?;
+    }
     let mut place = place;
-    for _ in 0..names.code.functions().len().saturating_add(1) {
-        let Some(function) = callee_at(names.code, place) else {
+    for _ in 0..code.functions().len().saturating_add(1) {
+        let Some(function) = callee_at(code, place) else {
             break;
         };
         add_call(page, names, place, function);
         page.text("\n");
-        match deepest_call(names.code, &depths, function) {
-            Some(call) => place = call.place,
-            None => break,
-        }
+        place = deepest_call(code, &depths, function).0;
     }
     Ok(())
 }
 
-/// How many calls are open at once in each function, itself included.
-fn depths(alloc: Global, code: &Code) -> Result<Vec<u32>, AllocError> {
-    let mut depths = Vec::new(alloc);
-    for function in 0..code.functions().len() {
-        let below = match deepest_call(code, &depths, function) {
-            Some(call) => call.depth,
-            None => 0,
-        };
-        depths.push(below.saturating_add(1))?;
-    }
-    Ok(depths)
-}
-
-/// A call in a function, and how many calls are open at once in what it calls.
-#[derive(Clone, Copy)]
-struct DeepCall {
-    place: usize,
-    depth: u32,
-}
-
-/// The call in a function that leads deepest, among those of functions before it; of several the
-/// first.
-fn deepest_call(code: &Code, depths: &[u32], function: usize) -> Option<DeepCall> {
-    let mut found = None;
-    let mut greatest: u32 = 0;
+/// The place of the call in a function that leads deepest, among those of functions before it, and
+/// how many calls are open at once in what it calls; of several the first. Where there is none, it
+/// is the place past the last word, and none are open.
+fn deepest_call(code: &Code, depths: &[u32], function: usize) -> (usize, u32) {
+    let mut found = (code.len(), 0);
     let body = function.saturating_add(1);
     for place in start_of(code, body)..code.end_of(body) {
         let depth = match callee_at(code, place) {
             Some(called) if called < function => count_at(depths, called),
             _ => 0,
         };
-        if depth > greatest {
-            greatest = depth;
-            found = Some(DeepCall { place, depth });
+        if depth > found.1 {
+            found = (place, depth);
         }
     }
     found

@@ -2,13 +2,11 @@
 
 ghost use Rattle.std.specs.Prelude.{◌<◌, length};
 
-use crate::bodies::{add_bound, add_functions_at, add_number, words_in};
-use crate::knowing::KnownText;
+use crate::bodies::{add_bound, add_column, add_functions_at, add_number, longest_path, words_in};
 use crate::marks::is_marked;
-use crate::stars::longest_path;
 use crate::task_names::{TaskNames, functions_in};
 use crate::uses::line_at;
-use crate::words::WordText;
+use crate::words::{KnownText, WordText};
 use ilcode::Word;
 use ilcompile::Setup;
 use iltypes::Condition;
@@ -35,11 +33,21 @@ pub fn write_task<W: Write>(
 ) -> io::Result<()>
     requires { task < length setup.now.plan.tasks }
 {
+    let mut page = Page::new(alloc);
+    add_task(alloc, &mut page, setup, task)?;
+    page.write_to(out)
+}
+
+/// Adds the words of a task.
+fn add_task(alloc: Global, page: &mut Page, setup: &Setup, task: usize) -> Result<(), AllocError>
+    requires { task < length setup.now.plan.tasks }
+{
+    let plan = setup.plan();
     let verified = setup.code(task);
     let code = verified.code();
-    let functions = functions_in(alloc, setup.plan(), task)?;
+    let functions = functions_in(alloc, plan, task)?;
     let names = TaskNames {
-        plan: setup.plan(),
+        plan,
         task,
         code,
         functions: &functions,
@@ -48,74 +56,79 @@ pub fn write_task<W: Write>(
         return Ok(());
     };
     let longest = longest_path(alloc, code, &ways)?;
-    let mut page = Page::new(alloc);
     page.text("task ");
-    page.text(setup.plan().task_name(task));
+    page.text(plan.task_name(task));
     page.text(" words ");
     page.count(code.len());
-    add_number(&mut page, " bound ", verified.bound());
+    add_number(page, " bound ", verified.bound());
     page.text("\n");
-    add_bound(&mut page, &names, &longest.shares, verified.bound());
+    add_bound(page, &names, &longest.shares, verified.bound());
     page.text("   word  line  left  what it does              known before it\n");
-    page.write_to(out)?;
-    write_words(alloc, out, &names, &ways, &longest.words)
+    add_words(alloc, page, &names, &ways, &longest.words)
 }
 
-/// Writes a line for each word, and one before the words of each function.
-fn write_words<W: Write>(
+/// Adds a line for each word, and one before the words of each function.
+fn add_words(
     alloc: Global,
-    out: &mut W,
+    page: &mut Page,
     names: &TaskNames,
     ways: &LongestWays,
     on_longest: &[bool],
-) -> io::Result<()> {
+) -> Result<(), AllocError> {
     let code = names.code;
     let mut pass = Pass::begin(alloc, code)?;
     for place in 0..code.len() {
         let word = code.word(place);
-        let mut page = Page::new(alloc);
-        add_functions_at(&mut page, names, ways, place);
-        let is_longest = is_marked(on_longest, place);
-        page.text(&word_line(alloc, names, ways, place, is_longest)?);
-        add_known(&mut page, names, &pass, word);
-        add_ways(&mut page, names, ways, place, word);
+        add_functions_at(page, names, ways, place);
+        page.text(if is_marked(on_longest, place) {
+            "* "
+        } else {
+            "  "
+        });
+        add_numbers(page, names, ways, place);
+        add_word(alloc, page, names, word)?;
+        match pass.entry() {
+            Some(entry) => page.shown(&KnownText { names, word, entry }),
+            None => page.text("no scan comes here"),
+        }
+        add_ways(page, names, ways, place, word);
         page.text("\n");
-        page.write_to(out)?;
         let Passed::On(next) = pass.advance()? else {
             return Ok(());
         };
         pass = next;
     }
-    let mut page = Page::new(alloc);
-    add_functions_at(&mut page, names, ways, code.len());
-    page.write_to(out)
+    add_functions_at(page, names, ways, code.len());
+    Ok(())
 }
 
-/// What a word is, with its numbers, and a star where it is on the longest path that is shown.
-fn word_line(
-    alloc: Global,
-    names: &TaskNames,
-    ways: &LongestWays,
-    place: usize,
-    is_longest: bool,
-) -> Result<String, AllocError> {
-    let Some(word) = names.code.get(place) else {
-        return Ok(String::new(alloc));
-    };
-    let star = if is_longest { "*" } else { " " };
-    let line = line_at(names.code, place);
+/// Adds the numbers of a word: its place, its line, and the words from it on.
+fn add_numbers(page: &mut Page, names: &TaskNames, ways: &LongestWays, place: usize) {
     let left = ways.words_from(names.code.body_at(place), place);
+    add_column(page, place, 5);
+    page.text(" ");
+    add_column(page, line_at(names.code, place), 5);
+    page.text(" ");
+    add_column(page, left as usize, 5);
+    page.text("  ");
+}
+
+/// How many columns a word has.
+const WORD_COLUMNS: usize = 24;
+
+/// Adds what a word does.
+fn add_word(
+    alloc: Global,
+    page: &mut Page,
+    names: &TaskNames,
+    word: Word,
+) -> Result<(), AllocError> {
     let text = WordText { names, word };
     let text = format!(in alloc; "{text}")?;
-    format!(in alloc; "{star} {place:>5} {line:>5} {left:>5}  {text:<24}  ")
-}
-
-/// Adds what is known before a word.
-fn add_known(page: &mut Page, names: &TaskNames, pass: &Pass, word: Word) {
-    match pass.entry() {
-        Some(entry) => page.shown(&KnownText { names, word, entry }),
-        None => page.text("no scan comes here"),
-    }
+    page.text(&text);
+    page.repeat(" ", WORD_COLUMNS.saturating_sub(text.len()));
+    page.text("  ");
+    Ok(())
 }
 
 /// Adds how long the longest paths are on both ways from a jump that has two, and in a function

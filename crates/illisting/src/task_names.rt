@@ -2,9 +2,9 @@
 
 ghost use Rattle.std.specs.Prelude.{◌<◌, length};
 
-use crate::names::shown;
-use ilcode::Code;
-use ilplan::{DeclaredName, Plan, SlotName, Task, UserFunction};
+use crate::words::Part;
+use ilcode::{Code, WordOperand};
+use ilplan::{Plan, SlotOwner, Task, UserFunction};
 use ilsource::Name;
 use std::alloc::{AllocError, Global};
 
@@ -38,7 +38,41 @@ pub fn functions_in(alloc: Global, plan: &Plan, task: usize) -> Result<Vec<usize
     Ok(functions)
 }
 
+/// A name as declared, in parts between which dots stand, of which an empty one is not printed.
+#[derive(Clone, Copy)]
+pub(crate) struct NameParts<'a> {
+    /// The program instance or the function in which it stands.
+    pub outer: &'a [u8],
+    pub name: &'a [u8],
+    pub port: &'a [u8],
+}
+
+/// A part that is not there.
+pub(crate) const NO_NAME: &[u8] = b"";
+
 impl<'a> TaskNames<'a> {
+    /// The name of what a part of a word names.
+    pub(crate) fn find(&self, part: Part) -> Option<NameParts<'a>> {
+        let name = match part {
+            Part::Operand(WordOperand::Slot(slot)) => return self.slot(usize::from(slot)),
+            Part::Operand(WordOperand::Port { port, block }) => {
+                return self.block(usize::from(block), Some(usize::from(port)));
+            }
+            Part::Block(block) => return self.block(usize::from(block), None),
+            Part::Function(function) => self.function(function)?.name(),
+            Part::Caller(caller) => match caller.checked_sub(self.code.starts().len()) {
+                Some(function) => self.function(function)?.name(),
+                None => self.task()?.instances().get(caller)?.name(),
+            },
+            _ => return None,
+        };
+        Some(NameParts {
+            outer: NO_NAME,
+            name: name.text(self.plan.text()),
+            port: NO_NAME,
+        })
+    }
+
     /// The task.
     fn task(&self) -> Option<&'a Task> {
         if self.task < self.plan.tasks() {
@@ -48,68 +82,59 @@ impl<'a> TaskNames<'a> {
         }
     }
 
-    /// The name of the function of this number in the code, as declared.
-    pub fn function(&self, function: usize) -> Option<DeclaredName<'a>> {
-        Some(shown(self.plan.text(), self.user_function(function)?.name()))
-    }
-
     /// The function of this number in the code.
-    fn user_function(&self, function: usize) -> Option<&'a UserFunction> {
+    fn function(&self, function: usize) -> Option<&'a UserFunction> {
         self.plan.functions().get(*self.functions.get(function)?)
     }
 
-    /// The name of the program instance of this number, as declared.
-    pub(crate) fn instance(&self, instance: usize) -> Option<DeclaredName<'a>> {
-        let found = self.task()?.instances().get(instance)?;
-        Some(shown(self.plan.text(), found.name()))
+    /// The name of the variable in a slot: `instance.variable`, `function.variable`, and of a
+    /// global variable its name alone. A function's result has the function's name.
+    fn slot(&self, slot: usize) -> Option<NameParts<'a>> {
+        let text = self.plan.text();
+        let (outer, name) = match self.task()?.slots().get(slot) {
+            Some(found) => match found.variable {
+                SlotOwner::Own { instance, name } => (instance.text(text), name),
+                SlotOwner::Global(number) => {
+                    if number >= self.plan.globals() {
+                        return None;
+                    }
+                    (NO_NAME, self.plan.global(number).name)
+                }
+            },
+            None => {
+                let bodies = self.code.functions();
+                let number = bodies.iter().rposition(|body| body.first <= slot)?;
+                let function = self.function(number)?;
+                let own = slot.saturating_sub(bodies.get(number)?.first);
+                (function.name().text(text), name_in(function, own)?)
+            }
+        };
+        Some(NameParts {
+            outer,
+            name: name.text(text),
+            port: NO_NAME,
+        })
     }
 
-    /// The name of the variable in a slot, as declared: `instance.variable`, `function.variable`,
-    /// and of a global variable its name alone. A function's result has the function's name.
-    pub(crate) fn slot(&self, slot: usize) -> Option<SlotName<'a>> {
-        let plan = self.plan;
-        if self.task < plan.tasks() && slot < plan.task(self.task).slots().len() {
-            return Some(plan.slot_name(self.task, slot));
-        }
-        let bodies = self.code.functions();
-        let number = bodies.iter().rposition(|body| body.first <= slot)?;
-        let function = self.user_function(number)?;
-        let own = slot.saturating_sub(bodies.get(number)?.first);
-        Some(self.name_within(function.name(), name_in(function, own)?))
-    }
-
-    /// The name of what stands in an instance or in a function.
-    fn name_within(&self, outer: Name, name: Name) -> SlotName<'a> {
-        SlotName {
-            instance: Some(shown(self.plan.text(), outer)),
-            variable: shown(self.plan.text(), name),
-        }
-    }
-
-    /// The name of a block instance, as declared.
-    pub(crate) fn block(&self, block: usize) -> Option<SlotName<'a>> {
+    /// The name of a block instance, or of a port of it.
+    fn block(&self, block: usize, port: Option<usize>) -> Option<NameParts<'a>> {
+        let text = self.plan.text();
         let found = self.task()?.blocks().get(block)?;
-        Some(self.name_within(found.instance, found.name))
-    }
-
-    /// The names of a block instance and of a port of it.
-    pub(crate) fn port(
-        &self,
-        block: usize,
-        port: usize,
-    ) -> Option<(SlotName<'a>, DeclaredName<'a>)> {
-        let found = self.task()?.blocks().get(block)?;
-        let bytes = found.kind.ports().get(port)?.name.spelling();
-        Some((
-            self.name_within(found.instance, found.name),
-            DeclaredName { bytes },
-        ))
+        let port = match port {
+            Some(port) => found.kind.ports().get(port)?.name.spelling(),
+            None => NO_NAME,
+        };
+        Some(NameParts {
+            outer: found.instance.text(text),
+            name: found.name.text(text),
+            port,
+        })
     }
 }
 
 /// The name of a function's variable of this number: its inputs count first, then its result and
 /// its VAR.
-pub(crate) fn name_in(function: &UserFunction, own: usize) -> Option<Name> {
+pub fn name_in(function: &UserFunction, own: usize) -> Option<Name> {
     match own.checked_sub(function.inputs().len()) {
         Some(other) => Some(function.variables().get(other)?.name),
         None => Some(function.inputs().get(own)?.name),

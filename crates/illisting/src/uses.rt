@@ -12,7 +12,7 @@ pub fn line_at(code: &Code, place: usize) -> usize {
 }
 
 /// The operand that a word reads.
-pub(crate) fn read_by(word: Word) -> Option<WordOperand> {
+pub fn read_by(word: Word) -> Option<WordOperand> {
     match word {
         Word::Load { operand, .. } | Word::Pass { operand, .. } | Word::Give { operand, .. } => {
             Some(operand)
@@ -23,7 +23,7 @@ pub(crate) fn read_by(word: Word) -> Option<WordOperand> {
 }
 
 /// The variable or the port that a word writes, as an operand.
-pub(crate) fn written_by(word: Word) -> Option<WordOperand> {
+pub fn written_by(word: Word) -> Option<WordOperand> {
     match word {
         Word::Store { variable, .. } | Word::Set(variable) | Word::Reset(variable) => {
             match variable {

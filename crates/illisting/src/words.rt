@@ -1,9 +1,11 @@
-//! Words as they are written.
+//! Words as they are written, and what is known before them, in words.
 
-use crate::task_names::TaskNames;
+use crate::task_names::{NO_NAME, NameParts, TaskNames};
 use crate::uses::{read_by, written_by};
 use ilcode::{Code, Word, WordOperand};
-use iltypes::{Condition, Function, Operator};
+use ilplan::DeclaredName;
+use ilranges::{Entry, Known};
+use iltypes::{Condition, Function, Operator, Range};
 use std::fmt;
 
 /// A word of a task's code, as it could stand in a text; a jump leads to the number of a word, and
@@ -30,7 +32,9 @@ pub(crate) enum Part {
     Text(&'static str),
     Operand(WordOperand),
     Block(u16),
-    Function(u16),
+    Function(usize),
+    /// Who has a word: program instances count first, then the functions of the code.
+    Caller(usize),
     /// The number of the word to which a jump leads.
     Place(u32),
 }
@@ -50,7 +54,7 @@ fn parts_of(code: &Code, word: Word) -> (Part, &'static str, Part) {
     }
     match word {
         Word::Call(block) => (verb, " ", Part::Block(block)),
-        Word::Invoke(function) => (verb, " ", Part::Function(function)),
+        Word::Invoke(function) => (verb, " ", Part::Function(usize::from(function))),
         Word::Open(_) => (verb, "(", NOTHING),
         Word::Jump { target, .. } if !is_return(code, target) => (verb, " ", Part::Place(target)),
         _ => (verb, "", NOTHING),
@@ -128,49 +132,87 @@ pub(crate) struct PartText<'a> {
     pub part: Part,
 }
 
-impl PartText<'_> {
-    /// Writes an operand: a variable in a slot by its name, or by the slot's number where it has
-    /// none.
-    fn write_operand<W: fmt::Write>(
-        &self,
-        f: &mut fmt::Formatter<W>,
-        operand: WordOperand,
-    ) -> fmt::Result {
-        match operand {
-            WordOperand::Slot(slot) => match self.names.slot(usize::from(slot)) {
-                Some(name) => write!(f, "{name}"),
-                None => write!(f, "slot {slot}"),
-            },
-            WordOperand::Constant(number) => {
-                match self.names.code.constants().get(usize::from(number)) {
-                    Some(value) => write!(f, "{value}"),
-                    None => f.write_str("?"),
-                }
-            }
-            WordOperand::Port { port, block } => {
-                match self.names.port(usize::from(block), usize::from(port)) {
-                    Some((name, port)) => write!(f, "{name}.{port}"),
-                    None => f.write_str("?"),
-                }
-            }
-        }
-    }
-}
+/// What is printed in place of a name that is not there.
+const UNNAMED: NameParts<'static> = NameParts {
+    outer: NO_NAME,
+    name: QUESTION,
+    port: NO_NAME,
+};
+
+/// What stands for it.
+const QUESTION: &[u8] = b"?";
 
 impl fmt::Display for PartText<'_> {
     fn fmt<W: fmt::Write>(&self, f: &mut fmt::Formatter<W>) -> fmt::Result {
         match self.part {
-            Part::Text(text) => f.write_str(text),
-            Part::Operand(operand) => self.write_operand(f, operand),
-            Part::Block(block) => match self.names.block(usize::from(block)) {
-                Some(name) => write!(f, "{name}"),
-                None => f.write_str("?"),
-            },
-            Part::Function(function) => match self.names.function(usize::from(function)) {
-                Some(name) => write!(f, "{name}"),
-                None => write!(f, "{function}"),
-            },
-            Part::Place(place) => write!(f, "{place}"),
+            Part::Text(text) => return f.write_str(text),
+            Part::Place(place) => return write!(f, "{place}"),
+            Part::Operand(WordOperand::Constant(number)) => {
+                if let Some(value) = self.names.code.constants().get(usize::from(number)) {
+                    return write!(f, "{value}");
+                }
+            }
+            _ => {}
+        }
+        let NameParts { outer, name, port } = self.names.find(self.part).unwrap_or(UNNAMED);
+        if !outer.is_empty() {
+            write!(f, "{}.", DeclaredName { bytes: outer })?;
+        }
+        write!(f, "{}", DeclaredName { bytes: name })?;
+        if !port.is_empty() {
+            write!(f, ".{}", DeclaredName { bytes: port })?;
+        }
+        Ok(())
+    }
+}
+
+/// What is known of the current result before a word, and of the variable that the word names.
+#[derive(Clone, Copy)]
+pub struct KnownText<'a> {
+    pub names: &'a TaskNames<'a>,
+    pub word: Word,
+    pub entry: &'a Entry,
+}
+
+impl KnownText<'_> {
+    /// The variable that the word names, with what is known of it: what the word reads counts
+    /// before what it writes.
+    fn variable(&self) -> Option<(Part, Known)> {
+        let operand = read_by(self.word).or(written_by(self.word))?;
+        let WordOperand::Slot(slot) = operand else {
+            return None;
+        };
+        let known = self.entry.slots.get(usize::from(slot))?;
+        Some((Part::Operand(operand), known))
+    }
+}
+
+impl fmt::Display for KnownText<'_> {
+    fn fmt<W: fmt::Write>(&self, f: &mut fmt::Formatter<W>) -> fmt::Result {
+        match self.entry.result {
+            Some(known) => write!(f, "result {}", ValuesText { known })?,
+            None => f.write_str("no result")?,
+        }
+        let Some((part, known)) = self.variable() else {
+            return Ok(());
+        };
+        let names = self.names;
+        write!(f, ", {} {}", PartText { names, part }, ValuesText { known })
+    }
+}
+
+/// The values that something may have.
+#[derive(Clone, Copy)]
+pub struct ValuesText {
+    pub known: Known,
+}
+
+impl fmt::Display for ValuesText {
+    fn fmt<W: fmt::Write>(&self, f: &mut fmt::Formatter<W>) -> fmt::Result {
+        match self.known {
+            Known::Bool => f.write_str("BOOL"),
+            Known::Int(Range { lo, hi }) if lo == hi => write!(f, "{lo}"),
+            Known::Int(Range { lo, hi }) => write!(f, "{lo}..{hi}"),
         }
     }
 }

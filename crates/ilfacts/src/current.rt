@@ -2,13 +2,13 @@
 //! values among them, and the slot from which it was computed. The ranges of `ilverify` say
 //! neither.
 
-use crate::marks::{is_marked, mark};
 use ilcode::{Code, Word, WordOperand};
+use illisting::{is_marked, mark};
 use iltypes::{Function, Operator, Value};
 use std::alloc::{AllocError, Global};
 
 /// The value of an operand that is a constant. FALSE counts as 0 and TRUE as 1.
-pub(crate) fn constant_of(code: &Code, operand: WordOperand) -> Option<i64> {
+pub fn constant_of(code: &Code, operand: WordOperand) -> Option<i64> {
     let WordOperand::Constant(number) = operand else {
         return None;
     };

@@ -1,13 +1,12 @@
-//! Places and names in notes.
+//! Where the lines of a text begin.
 
-use ilplan::DeclaredName;
 use ilsource::{LineColumn, Name};
 use std::alloc::{AllocError, Global};
 
 /// Where the lines of a text begin, found in one pass: so a text with many notes is not gone over
 /// again for each.
 #[derive(Drop)]
-pub(crate) struct LineStarts {
+pub struct LineStarts {
     starts: Vec<usize>,
 }
 
@@ -43,12 +42,5 @@ impl LineStarts {
             .get(line.saturating_sub(1))
             .copied()
             .unwrap_or(0)
-    }
-}
-
-/// A name as it stands in a text.
-pub(crate) fn shown(text: &[u8], name: Name) -> DeclaredName<'_> {
-    DeclaredName {
-        bytes: name.text(text),
     }
 }

@@ -5,11 +5,11 @@ ghost use Rattle.std.specs.Prelude.{◌<◌, length};
 
 use crate::current::{Current, Way};
 use crate::levels::{Driven, Level, Levels};
-use crate::task_names::{TaskNames, functions_in};
-use crate::uses::{line_at, read_by, written_by};
+use crate::line_starts::LineStarts;
 use ilblocks::{BlockKind, MOST_PORTS};
 use ilcode::{Code, Word, WordOperand};
 use ilcompile::Setup;
+use illisting::{TaskNames, functions_in, line_at, read_by, written_by};
 use ilplan::{Activation, Location, Plan, SlotOwner, Task};
 use ilsource::{Name, Source};
 use std::alloc::{AllocError, Global};
@@ -19,34 +19,39 @@ const LEVEL_PORT: usize = 3;
 
 /// What rules look at: the plan with its source program, and the facts that several of them need.
 #[derive(Drop)]
-pub(crate) struct House<'p> {
+pub struct House<'p> {
     pub plan: &'p Plan,
     pub source: &'p Source,
+    /// Where the lines of the text begin.
+    pub lines: LineStarts,
     pub tasks: Vec<TaskFacts<'p>>,
     pub levels: Levels,
 }
 
 /// What notes look at of a task.
 #[derive(Drop)]
-pub(crate) struct TaskFacts<'p> {
+pub struct TaskFacts<'p> {
     /// Its number in the plan.
     pub number: usize,
     pub task: &'p Task,
     pub code: &'p Code,
+    /// The milliseconds between two scans, where the clock starts the task.
+    pub interval: Option<u32>,
+    /// The global variable of the trigger, where an event starts the task.
+    pub trigger: Option<usize>,
     /// For each function of the code its number in the plan.
     pub functions: Vec<usize>,
-    /// The global variables that its slots are.
+    /// The global variables that its slots are: its first ones.
     pub globals: Vec<GlobalSlot>,
     /// The slots, and then the ports.
     used: Vec<Usage>,
-    blocks: Vec<BlockCalls>,
     /// The calls of block instances, in the order of the words.
     pub calls: Vec<BlockCall>,
 }
 
 /// A slot that is a global variable.
 #[derive(Clone, Copy)]
-pub(crate) struct GlobalSlot {
+pub struct GlobalSlot {
     pub slot: usize,
     /// The number of the global variable.
     pub number: usize,
@@ -66,10 +71,10 @@ impl GlobalSlot {
 
 /// How a variable, or a port of a block instance, is used by the words of a code, reached or not.
 #[derive(Clone, Copy)]
-pub(crate) struct Usage {
+pub struct Usage {
     /// The line of the first word that reads it, or 0 where none does.
     pub read: usize,
-    /// Whether a word stores to it.
+    /// Whether a word stores to it, other than to give its first value or an argument.
     pub is_stored: bool,
     /// The one value that all words store that do, as far as they say it by themselves: FALSE
     /// counts as 0 and TRUE as 1. Where none stores it is 0.
@@ -82,6 +87,15 @@ pub(crate) struct Usage {
     moves: bool,
     /// A slot besides of which a word stores what was computed.
     follows: Option<usize>,
+    // Of the first port of a block instance:
+    /// Whether the instance is called.
+    pub is_called: bool,
+    /// Whether a call surely has FALSE there.
+    pub is_false: bool,
+    /// Whether each scan calls it with FALSE there.
+    pub is_always_false: bool,
+    /// Whether each scan calls it with TRUE there.
+    pub is_always_true: bool,
 }
 
 /// What no word names.
@@ -94,6 +108,10 @@ const UNNAMED: Usage = Usage {
     origin: None,
     moves: false,
     follows: None,
+    is_called: false,
+    is_false: false,
+    is_always_false: false,
+    is_always_true: false,
 };
 
 impl Usage {
@@ -105,12 +123,12 @@ impl Usage {
             origin,
             is_changed,
         } = way.stored_by(word);
-        if !self.is_stored || self.value == value {
-            self.value = value;
-        } else {
+        if self.is_stored && self.value != value {
             self.value = None;
+        } else {
+            self.value = value;
         }
-        self.is_stored = true;
+        self.is_stored = self.is_stored || !matches!(word, Word::Give { .. });
         match origin {
             Some(origin) if origin != place => self.follows = Some(origin),
             Some(_) if is_changed => self.moves = true,
@@ -125,46 +143,30 @@ impl Usage {
             self.stretch = way.stretch;
         }
     }
-}
 
-/// How the calls of a code use a block instance.
-#[derive(Clone, Copy)]
-pub(crate) struct BlockCalls {
-    pub is_any: bool,
-    /// Whether one surely has FALSE at the first port.
-    pub is_false: bool,
-    /// Whether each scan calls it with FALSE at the first port.
-    pub is_always_false: bool,
-    /// Whether each scan calls it with TRUE there.
-    pub is_always_true: bool,
-}
+    /// Adds a call of the block instance of which this is the first port.
+    fn add_call(&mut self, call: &BlockCall) {
+        let (is_false, is_true) = (call.port(0) == Some(0), call.port(0) == Some(1));
+        self.is_called = true;
+        self.is_false = self.is_false || is_false;
+        self.is_always_false = self.is_always_false || is_false && call.is_always;
+        self.is_always_true = self.is_always_true || is_true && call.is_always;
+    }
 
-/// Nothing calls the block instance.
-const UNCALLED: BlockCalls = BlockCalls {
-    is_any: false,
-    is_false: false,
-    is_always_false: false,
-    is_always_true: false,
-};
-
-impl BlockCalls {
-    /// Adds a call.
-    fn add(&mut self, call: &BlockCall) {
-        self.is_any = true;
-        match call.port(0) {
-            Some(0) => {
-                self.is_false = true;
-                self.is_always_false = self.is_always_false || call.is_always;
-            }
-            Some(1) => self.is_always_true = self.is_always_true || call.is_always,
-            _ => {}
+    /// The value at a call on this straight line, where it is known: what the line stored, or else
+    /// the one value that all words of the code store, which is 0 at first.
+    fn known(&self, stretch: usize) -> Option<i64> {
+        if self.stretch == stretch {
+            self.held
+        } else {
+            self.value
         }
     }
 }
 
 /// A call of a block instance, with what is known of its ports there.
 #[derive(Clone, Copy)]
-pub(crate) struct BlockCall {
+pub struct BlockCall {
     pub place: usize,
     pub line: usize,
     pub block: usize,
@@ -191,8 +193,33 @@ impl BlockCall {
 
     /// What BUS and ADR name, of a block that sends.
     pub fn driven(&self) -> Option<Driven> {
-        Driven::named(self.port(1)?, self.port(2)?)
+        let bus = u8::try_from(self.port(1)?).ok()?;
+        let address = u8::try_from(self.port(2)?).ok()?;
+        Some(Driven { bus, address })
     }
+}
+
+/// What rules look at of a setup and its source program.
+///
+/// # Errors
+///
+/// The allocator is out of memory.
+pub fn house_of<'p>(
+    alloc: Global,
+    setup: &'p Setup,
+    source: &'p Source,
+) -> Result<House<'p>, AllocError> {
+    let plan = setup.plan();
+    let lines = LineStarts::of(alloc, source.text())?;
+    let tasks = facts_of(alloc, setup)?;
+    let levels = Levels::of(alloc, plan.buses(), &tasks)?;
+    Ok(House {
+        plan,
+        source,
+        lines,
+        tasks,
+        levels,
+    })
 }
 
 /// What notes look at, for each task.
@@ -234,34 +261,24 @@ impl<'p> TaskFacts<'p> {
     fn none(alloc: Global, setup: &'p Setup, number: usize) -> Result<TaskFacts<'p>, AllocError>
         requires { number < length setup.now.plan.tasks }
     {
-        let task = setup.plan().task(number);
+        let plan = setup.plan();
+        let task = plan.task(number);
         let code = setup.code(number).code();
+        let (interval, trigger) = match task.activation() {
+            Activation::Cyclic { interval } => (Some(interval), None),
+            Activation::Event { trigger } => (None, Some(trigger)),
+        };
         Ok(TaskFacts {
             number,
             task,
             code,
-            functions: functions_in(alloc, setup.plan(), number)?,
-            globals: globals_in(alloc, setup.plan(), task)?,
+            interval,
+            trigger,
+            functions: functions_in(alloc, plan, number)?,
+            globals: globals_in(alloc, plan, task)?,
             used: vec![in alloc; UNNAMED; port_place(code, code.kinds().len(), 0)]?,
-            blocks: vec![in alloc; UNCALLED; code.kinds().len()]?,
             calls: Vec::new(alloc),
         })
-    }
-
-    /// The global variable of the trigger that starts the task, where an event starts it.
-    pub fn trigger(&self) -> Option<usize> {
-        match self.task.activation() {
-            Activation::Event { trigger } => Some(trigger),
-            Activation::Cyclic { .. } => None,
-        }
-    }
-
-    /// The milliseconds between two scans, where the clock starts the task.
-    pub fn interval(&self) -> Option<u32> {
-        match self.task.activation() {
-            Activation::Cyclic { interval } => Some(interval),
-            Activation::Event { .. } => None,
-        }
     }
 
     /// The names of what its words name.
@@ -274,16 +291,6 @@ impl<'p> TaskFacts<'p> {
         }
     }
 
-    /// The global variable that a slot is: these are a task's first slots.
-    pub fn global_at(&self, slot: usize) -> Option<GlobalSlot> {
-        let found = *self.globals.get(slot)?;
-        if found.slot == slot {
-            Some(found)
-        } else {
-            None
-        }
-    }
-
     /// How a slot is used.
     pub fn slot(&self, slot: usize) -> Usage {
         self.used.get(slot).copied().unwrap_or(UNNAMED)
@@ -292,11 +299,6 @@ impl<'p> TaskFacts<'p> {
     /// How a port of a block instance is used.
     pub fn port(&self, block: usize, port: usize) -> Usage {
         self.slot(port_place(self.code, block, port))
-    }
-
-    /// How a block instance is called.
-    pub fn block(&self, block: usize) -> BlockCalls {
-        self.blocks.get(block).copied().unwrap_or(UNCALLED)
     }
 
     /// Whether what is stored to a slot may differ from scan to scan, since it is computed from
@@ -319,7 +321,7 @@ impl<'p> TaskFacts<'p> {
             number: global.number,
             name: global.name,
             driven,
-            is_moved: self.interval().is_some() && self.is_moved(global.slot),
+            is_moved: self.interval.is_some() && self.is_moved(global.slot),
         })
     }
 
@@ -327,7 +329,11 @@ impl<'p> TaskFacts<'p> {
     /// looked at on a second way.
     fn add_words(&mut self, alloc: Global) -> Result<(), AllocError> {
         let code = self.code;
-        let mut way = Way::new(alloc, code, self.trigger_slot())?;
+        let trigger = self
+            .globals
+            .iter()
+            .position(|global| Some(global.number) == self.trigger);
+        let mut way = Way::new(alloc, code, trigger)?;
         for with_calls in [false, true] {
             for place in 0..code.len() {
                 let word = code.word(place);
@@ -342,30 +348,18 @@ impl<'p> TaskFacts<'p> {
         Ok(())
     }
 
-    /// The slot of the trigger that starts the task, where it names that.
-    fn trigger_slot(&self) -> Option<usize> {
-        let trigger = self.trigger()?;
-        Some(
-            self.globals
-                .iter()
-                .find(|global| global.number == trigger)?
-                .slot,
-        )
-    }
-
     /// Adds what a word reads and stores.
     fn add_word(&mut self, way: &Way, place: usize, word: Word) {
+        let code = self.code;
         if let Some(operand) = read_by(word) {
-            let line = line_at(self.code, place);
-            let read = place_of(self.code, operand);
-            if let Some(kept) = self.used.get_mut(read) {
+            if let Some(kept) = self.used.get_mut(place_of(code, operand)) {
                 if kept.read == 0 {
-                    kept.read = line;
+                    kept.read = line_at(code, place);
                 }
             }
         }
         if let Some(operand) = written_by(word) {
-            let written = place_of(self.code, operand);
+            let written = place_of(code, operand);
             if let Some(kept) = self.used.get_mut(written) {
                 kept.store(way, word, written);
             }
@@ -374,12 +368,9 @@ impl<'p> TaskFacts<'p> {
 
     /// Adds the call of a block instance, where the word is one.
     fn add_call(&mut self, way: &Way, place: usize, word: Word) -> Result<(), AllocError> {
-        let Word::Call(block) = word else {
-            return Ok(());
-        };
-        if let Some(call) = self.call_at(way, place, usize::from(block)) {
-            if let Some(kept) = self.blocks.get_mut(call.block) {
-                kept.add(&call);
+        if let Some(call) = self.call_at(way, place, word) {
+            if let Some(kept) = self.used.get_mut(port_place(self.code, call.block, 0)) {
+                kept.add_call(&call);
             }
             self.calls.push(call)?;
         }
@@ -387,8 +378,13 @@ impl<'p> TaskFacts<'p> {
     }
 
     /// The call of a block instance at a place, with what is known of its ports.
-    fn call_at(&self, way: &Way, place: usize, block: usize) -> Option<BlockCall> {
+    fn call_at(&self, way: &Way, place: usize, word: Word) -> Option<BlockCall> {
+        let Word::Call(block) = word else {
+            return None;
+        };
+        let block = usize::from(block);
         let found = self.task.blocks().get(block)?;
+        let stretch = way.stretch;
         let level = self.port(block, LEVEL_PORT);
         Some(BlockCall {
             place,
@@ -397,30 +393,19 @@ impl<'p> TaskFacts<'p> {
             kind: found.kind,
             name: found.name,
             ports: [
-                self.known(way, block, 0),
-                self.known(way, block, 1),
-                self.known(way, block, 2),
-                self.known(way, block, 3),
-                self.known(way, block, 4),
+                self.port(block, 0).known(stretch),
+                self.port(block, 1).known(stretch),
+                self.port(block, 2).known(stretch),
+                level.known(stretch),
+                self.port(block, 4).known(stretch),
             ],
-            level: if level.stretch == way.stretch {
+            level: if level.stretch == stretch {
                 level.origin
             } else {
                 None
             },
             is_always: place >= way.passed,
         })
-    }
-
-    /// The value of a port at a call, where it is known: what the straight line stored to it, or
-    /// else the one value that all words of the code store to it, which is 0 at first.
-    fn known(&self, way: &Way, block: usize, port: usize) -> Option<i64> {
-        let port = self.port(block, port);
-        if port.stretch == way.stretch {
-            port.held
-        } else {
-            port.value
-        }
     }
 }
 

@@ -1,11 +1,10 @@
 //! Notes on a scenario that is played with a text: what it says of buses that are not there, events
 //! that are of no source, and gear that it lacks.
 
-use crate::facts::House;
-use crate::kinds;
-use crate::levels::{Driven, FIRST_GROUP};
+use crate::kinds::Kind;
 use crate::note::{Added, Found, NotePlace, Notes, note_at};
 use daliframe::Frame24;
+use ilfacts::{Driven, FIRST_GROUP, House};
 use ilplan::Plan;
 use indexmap::IndexMap;
 use std::alloc::Global;
@@ -88,7 +87,7 @@ impl<'p> Comparison<'p> {
         if bus >= self.plan.buses() {
             if self.seen.insert(u64::from(bus), true)?.is_none() {
                 let bus = Found::Number(i64::from(bus));
-                notes.add(note_at(&kinds::SCENARIO_BUS, at, bus, Found::Nothing));
+                notes.add(note_at(Kind::ScenarioBus, at, bus, Found::Nothing));
             }
             return Ok(());
         }
@@ -101,7 +100,7 @@ impl<'p> Comparison<'p> {
                 let is_new = self.seen.insert(sender_of(bus, frame), true)?.is_none();
                 if is_new && !self.has_source(bus, frame) {
                     let event = Found::Event(frame.number());
-                    notes.add(note_at(&kinds::SCENARIO_SOURCE, at, event, Found::Nothing));
+                    notes.add(note_at(Kind::ScenarioSource, at, event, Found::Nothing));
                 }
             }
             _ => {}
@@ -124,7 +123,7 @@ impl<'p> Comparison<'p> {
                     if let Some(level) = house.levels.get(driven) {
                         let name = Found::Name(level.name);
                         notes.add(note_at(
-                            &kinds::SCENARIO_GEAR,
+                            Kind::ScenarioGear,
                             NotePlace::Whole,
                             name,
                             Found::Driven(driven),

@@ -1,28 +1,14 @@
-//! All notes, and how they are printed.
+//! Notes, printed as lines or as JSON.
 
-use crate::block_notes::add_block_notes;
-use crate::call_notes::{
-    add_command_notes, add_covered_levels, add_question_notes, add_shared_gear,
-};
-use crate::facts::{House, facts_of};
-use crate::global_notes::{add_global_notes, add_trigger_notes};
-use crate::knowing::ValuesText;
-use crate::levels::Levels;
-use crate::load::{Rate, add_load_notes};
-use crate::names::shown;
-use crate::note::{Added, Found, Kind, Note, NotePlace, Notes};
-use crate::number_notes::add_number_notes;
-use crate::overwritten::add_overwritten;
-use crate::own_notes::add_own_notes;
-use crate::pace_notes::add_pace_notes;
+use crate::kinds::{RULES, Rule, rule_of, text_of};
+use crate::note::{Found, Note, NotePlace, Notes};
 use crate::quoted::Quoted;
-use crate::range_notes::{add_request_notes, ranges_of};
+use crate::rules::add_all_notes;
 use crate::scenario_notes::{Played, add_scenario_notes};
-use crate::text_notes::{
-    add_function_notes, add_idle_notes, add_program_notes, add_source_notes, functions_of_tasks,
-};
-use crate::words::WordText;
 use ilcompile::Setup;
+use ilfacts::{BROADCAST, Driven, FIRST_GROUP, House, add_tenths, house_of};
+use illisting::{ValuesText, WordText};
+use ilplan::DeclaredName;
 use ilsource::{LineColumn, Source};
 use page::Page;
 use std::alloc::{AllocError, Global};
@@ -63,7 +49,14 @@ pub fn write_notes<W: Write>(
 ) -> io::Result<bool> {
     let house = house_of(alloc, &*setup, &*source)?;
     let notes = notes_on(alloc, &house, played)?;
-    print_notes(alloc, out, &house, &notes, asked)
+    let on = Printed {
+        house: &house,
+        asked,
+    };
+    let mut page = Page::new(alloc);
+    let is_denied = on.add_notes(&mut page, &notes)?;
+    page.write_to(out)?;
+    Ok(is_denied)
 }
 
 /// All notes on a house, and on the scenario that is played in it.
@@ -72,141 +65,116 @@ pub fn write_notes<W: Write>(
 ///
 /// The allocator is out of memory.
 fn notes_on(alloc: Global, house: &House, played: Option<Played>) -> Result<Notes, AllocError> {
-    let mut notes = Notes::on(alloc, house.source.text())?;
-    add_usage_notes(&mut notes, house)?;
+    let mut notes = Notes {
+        alloc,
+        all: Vec::new(alloc),
+        is_cut: false,
+    };
+    add_all_notes(&mut notes, house)?;
     if let Some(played) = played {
         add_scenario_notes(&mut notes, house, played)?;
     }
-    notes.check()?;
-    Ok(notes)
-}
-
-/// Writes these notes, or that there are none. Whether one is denied.
-///
-/// # Errors
-///
-/// The writer's.
-fn print_notes<W: Write>(
-    alloc: Global,
-    out: &mut W,
-    house: &House,
-    notes: &Notes,
-    asked: NotesAsked,
-) -> io::Result<bool> {
-    if notes.all.is_empty() && !asked.is_json {
-        writeln!(out, "no notes")?;
+    if notes.is_cut {
+        Err(AllocError)
+    } else {
+        Ok(notes)
     }
-    let mut is_denied = false;
-    for (number, note) in notes.all.iter().enumerate() {
-        let mut page = Page::new(alloc);
-        let on = Printed {
-            house,
-            notes,
-            asked,
-        };
-        on.add_note(&mut page, number, note);
-        page.write_to(out)?;
-        is_denied = is_denied || on.is_denied(note.kind);
-    }
-    Ok(is_denied)
-}
-
-/// What rules look at of a setup and its source program.
-fn house_of<'p>(
-    alloc: Global,
-    setup: &'p Setup,
-    source: &'p Source,
-) -> Result<House<'p>, AllocError> {
-    let tasks = facts_of(alloc, setup)?;
-    let levels = Levels::of(alloc, setup.plan().buses(), &tasks)?;
-    Ok(House {
-        plan: setup.plan(),
-        source,
-        tasks,
-        levels,
-    })
-}
-
-/// Adds the notes on what is used to no end, and on what goes wrong in a house.
-fn add_usage_notes(notes: &mut Notes, house: &House) -> Added {
-    let plan = house.plan;
-    let used = functions_of_tasks(notes.alloc, house)?;
-    let ranges = ranges_of(notes.alloc, house)?;
-    add_trigger_notes(notes, house);
-    add_global_notes(notes, house)?;
-    add_own_notes(notes, house, &used)?;
-    add_function_notes(notes, plan, &used);
-    add_program_notes(notes, house.source);
-    add_idle_notes(notes, house);
-    ranges.add_unreached_notes(notes);
-    add_source_notes(notes, plan)?;
-    add_block_notes(notes, house);
-    add_number_notes(notes, house);
-    add_overwritten(notes, house)?;
-    ranges.add_range_notes(notes, house);
-    add_question_notes(notes, house)?;
-    add_command_notes(notes, house);
-    add_shared_gear(notes, house)?;
-    add_covered_levels(notes, house);
-    add_pace_notes(notes, house);
-    add_request_notes(notes, house)?;
-    add_load_notes(notes, &house.tasks, plan.buses())
 }
 
 /// What notes are printed with.
 #[derive(Clone, Copy)]
-struct Printed<'h, 'p, 'n, 'a> {
+struct Printed<'h, 'p, 'a> {
     house: &'h House<'p>,
-    notes: &'n Notes,
     asked: NotesAsked<'a>,
 }
 
-impl<'h, 'p, 'n, 'a> Printed<'h, 'p, 'n, 'a> {
-    /// Whether notes of a kind are denied.
-    fn is_denied(&self, kind: &Kind) -> bool {
-        match self.asked.denied {
-            Some(name) => name == "all" || name == kind.0,
-            None => false,
+impl<'h, 'p, 'a> Printed<'h, 'p, 'a> {
+    /// Adds the notes, rule by rule, or that there are none. Whether one is denied.
+    fn add_notes(&self, page: &mut Page, notes: &Notes) -> Result<bool, AllocError> {
+        let places = self.house.source.text().len().saturating_add(1);
+        let mut noted = vec![in notes.alloc; None; places]?;
+        let mut is_first = true;
+        let mut is_denied = false;
+        let denied = self.asked.denied.unwrap_or("");
+        for rule in RULES.iter() {
+            for note in &notes.all {
+                if rule_of(note.kind) == *rule && self.is_new(&mut noted, *rule, note.place) {
+                    let text = text_of(note.kind);
+                    let (name, message) = text.split_once(": ").unwrap_or((text, ""));
+                    self.add_note(page, is_first, note, (name, message));
+                    is_first = false;
+                    is_denied = is_denied || denied == "all" || denied == name;
+                }
+            }
+        }
+        if notes.all.is_empty() && !self.asked.is_json {
+            page.text("no notes\n");
+        }
+        Ok(is_denied)
+    }
+
+    /// Whether a note of a rule is printed: where the rule notes each place once, it is the first one
+    /// there.
+    fn is_new(&self, noted: &mut Vec<Option<Rule>>, rule: Rule, place: NotePlace) -> bool {
+        let at = match place {
+            _ if !rule.notes_once() => return true,
+            NotePlace::Name(name) => name.from,
+            NotePlace::Line(line) => self.house.lines.start_of(line),
+            NotePlace::Whole | NotePlace::Scenario(_) => return true,
+        };
+        match noted.get_mut(at) {
+            Some(last) if *last != Some(rule) => {
+                *last = Some(rule);
+                true
+            }
+            _ => false,
         }
     }
 
     /// Adds a note: `FILE:LINE:COLUMN: note NAME: MESSAGE` on a line, or an object of JSON, behind
     /// a comma where it is not the first. No message has what JSON escapes.
-    fn add_note(&self, page: &mut Page, number: usize, note: &Note) {
+    fn add_note(&self, page: &mut Page, is_first: bool, note: &Note, texts: (&str, &str)) {
         let (file, at) = self.locate(note.place);
+        let (name, message) = texts;
         if self.asked.is_json {
-            page.text(if number > 0 {
-                ",{\"name\":\""
-            } else {
+            page.text(if is_first {
                 "{\"name\":\""
+            } else {
+                ",{\"name\":\""
             });
-            page.text(note.kind.0);
+            page.text(name);
             page.text("\",\"file\":");
             page.shown(&Quoted(file));
-            add_members(page, at);
+            add_place(
+                page,
+                at,
+                [
+                    ",\"line\":",
+                    ",\"column\":",
+                    ",\"line\":null,\"column\":null",
+                ],
+            );
             page.text(",\"message\":\"");
-            self.add_message(page, note);
-            page.text("\"}");
         } else {
             page.text(file);
-            add_place(page, at);
+            add_place(page, at, [":", ":", ""]);
             page.text(": note ");
-            page.text(note.kind.0);
+            page.text(name);
             page.text(": ");
-            self.add_message(page, note);
-            page.text("\n");
         }
+        self.add_message(page, message, note);
+        page.text(if self.asked.is_json { "\"}" } else { "\n" });
     }
 
     /// The file of a place, and where it is in it.
     fn locate(&self, place: NotePlace) -> (&'a str, Option<LineColumn>) {
         let file = self.asked.files.text;
+        let lines = &self.house.lines;
         match place {
             NotePlace::Whole => (file, None),
-            NotePlace::Name(name) => (file, Some(self.notes.lines.at(name))),
+            NotePlace::Name(name) => (file, Some(lines.at(name))),
             NotePlace::Line(line) => {
-                let text = self.house.source.text();
-                let col = first_column(text, self.notes.lines.start_of(line));
+                let col = first_column(self.house.source.text(), lines.start_of(line));
                 (file, Some(LineColumn { line, col }))
             }
             NotePlace::Scenario(line) => {
@@ -217,8 +185,8 @@ impl<'h, 'p, 'n, 'a> Printed<'h, 'p, 'n, 'a> {
     }
 
     /// Adds the text of a note, with what was found.
-    fn add_message(&self, page: &mut Page, note: &Note) {
-        for (number, piece) in note.kind.1.split('{').enumerate() {
+    fn add_message(&self, page: &mut Page, message: &str, note: &Note) {
+        for (number, piece) in message.split('{').enumerate() {
             if number == 0 {
                 page.text(piece);
             } else {
@@ -235,29 +203,33 @@ impl<'h, 'p, 'n, 'a> Printed<'h, 'p, 'n, 'a> {
     fn add_found(&self, page: &mut Page, found: Found) {
         match found {
             Found::Nothing => {}
-            Found::Name(name) => page.shown(&shown(self.house.source.text(), name)),
+            Found::FirstInput(kind) => {
+                if let Some(input) = kind.ports().first() {
+                    let bytes = input.name.spelling();
+                    page.shown(&DeclaredName { bytes });
+                }
+            }
+            Found::Name(name) => page.shown(&DeclaredName {
+                bytes: name.text(self.house.source.text()),
+            }),
             Found::Number(number) => page.number(number),
             Found::Count(count) => page.count(count),
             Found::Value(value) => page.shown(&value),
-            Found::Outcome(outcome) => page.text(if outcome { "TRUE" } else { "FALSE" }),
-            Found::Tenths(tenths) => page.shown(&Rate { tenths }),
-            Found::Driven(driven) => page.shown(&driven),
+            Found::Tenths(tenths) => add_tenths(page, tenths),
+            Found::Driven(driven) => add_driven(page, driven),
             Found::Known(known) => page.shown(&ValuesText { known }),
             Found::Device(driven) => {
-                page.text("device ");
-                page.count(usize::from(driven.address));
-                page.text(" of bus ");
-                page.count(usize::from(driven.bus));
+                add_numbered(page, "device ", driven.address);
+                add_numbered(page, " of bus ", driven.bus);
             }
             Found::Source { bus, source } => {
-                page.count(usize::from(bus));
-                page.text(".");
-                page.count(usize::from(source));
+                add_numbered(page, "", bus);
+                add_numbered(page, ".", source);
             }
             Found::Event(frame) => page.shown(&Hex(frame)),
             Found::Task(task) => {
-                if let Some(facts) = self.house.tasks.get(task) {
-                    page.text(facts.task.name());
+                if task < self.house.plan.tasks() {
+                    page.text(self.house.plan.task_name(task));
                 }
             }
             Found::Word { task, place } => self.add_word(page, task, place),
@@ -277,6 +249,22 @@ impl<'h, 'p, 'n, 'a> Printed<'h, 'p, 'n, 'a> {
             });
         }
     }
+}
+
+/// Adds a number behind a text.
+fn add_numbered(page: &mut Page, before: &str, number: u8) {
+    page.text(before);
+    page.count(usize::from(number));
+}
+
+/// Adds what a level or a command goes to.
+fn add_driven(page: &mut Page, driven: Driven) {
+    match driven.address.checked_sub(FIRST_GROUP) {
+        Some(_) if driven.address == BROADCAST => page.text("all gear"),
+        Some(group) => add_numbered(page, "group ", group),
+        None => add_numbered(page, "gear ", driven.address),
+    }
+    add_numbered(page, " of bus ", driven.bus);
 }
 
 /// A frame as six hexadecimal digits.
@@ -311,25 +299,16 @@ fn first_column(text: &[u8], start: usize) -> usize {
     blanks.count().saturating_add(1)
 }
 
-/// Adds a place behind a file, as `:LINE:COLUMN`, where there is one.
-fn add_place(page: &mut Page, at: Option<LineColumn>) {
-    if let Some(LineColumn { line, col }) = at {
-        page.text(":");
-        page.count(line);
-        page.text(":");
-        page.count(col);
-    }
-}
-
-/// Adds a place as members of an object of JSON.
-fn add_members(page: &mut Page, at: Option<LineColumn>) {
+/// Adds a place behind a file: texts stand before the line and before the column, and one in place
+/// of both where there is none.
+fn add_place(page: &mut Page, at: Option<LineColumn>, texts: [&str; 3]) {
     match at {
         Some(LineColumn { line, col }) => {
-            page.text(",\"line\":");
+            page.text(texts[0]);
             page.count(line);
-            page.text(",\"column\":");
+            page.text(texts[1]);
             page.count(col);
         }
-        None => page.text(",\"line\":null,\"column\":null"),
+        None => page.text(texts[2]),
     }
 }

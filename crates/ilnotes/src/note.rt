@@ -1,0 +1,94 @@
+//! Notes, as small values.
+
+use crate::kinds::Kind;
+use ilblocks::BlockKind;
+use ilfacts::Driven;
+use ilranges::Known;
+use ilsource::Name;
+use iltypes::Value;
+use std::alloc::{AllocError, Global};
+
+/// What was found, as a text of notes names it.
+#[derive(Clone, Copy)]
+pub(crate) enum Found {
+    Nothing,
+    /// The name of the first input of a block.
+    FirstInput(BlockKind),
+    /// A name of the text.
+    Name(Name),
+    /// The name of the task of this number.
+    Task(usize),
+    Number(i64),
+    Count(usize),
+    Value(Value),
+    /// A number of frames in a second, in tenths.
+    Tenths(i64),
+    Driven(Driven),
+    /// The control device with this short address.
+    Device(Driven),
+    Source { bus: u8, source: u8 },
+    /// The frame of an event.
+    Event(u32),
+    /// The word at a place of a task's code.
+    Word { task: usize, place: usize },
+    Known(Known),
+}
+
+/// Where a note stands.
+#[derive(Clone, Copy)]
+pub(crate) enum NotePlace {
+    /// Nowhere by itself: it is on the whole text.
+    Whole,
+    /// At a name of the text.
+    Name(Name),
+    /// At the first word of a line of the text, counted from 1.
+    Line(usize),
+    /// At a line of the scenario, counted from 1.
+    Scenario(usize),
+}
+
+/// A note: what it says, where it stands, and what was found.
+#[derive(Clone, Copy)]
+pub(crate) struct Note {
+    pub kind: Kind,
+    pub place: NotePlace,
+    pub found: [Found; 4],
+}
+
+/// A note that names so much.
+pub(crate) fn note_at(kind: Kind, place: NotePlace, first: Found, second: Found) -> Option<Note> {
+    note_of(kind, place, [first, second, Found::Nothing, Found::Nothing])
+}
+
+/// A note that names all this.
+pub(crate) fn note_of(kind: Kind, place: NotePlace, found: [Found; 4]) -> Option<Note> {
+    Some(Note { kind, place, found })
+}
+
+/// A note on a name, and what else it names.
+pub(crate) fn note_on(kind: Kind, name: Name, second: Found) -> Option<Note> {
+    note_at(kind, NotePlace::Name(name), Found::Name(name), second)
+}
+
+/// Whether there was memory for what a rule keeps.
+pub(crate) type Added = Result<(), AllocError>;
+
+/// The notes so far, in the order in which they were found.
+#[derive(Drop)]
+pub(crate) struct Notes {
+    pub alloc: Global,
+    pub all: Vec<Note>,
+    /// Whether a note was left out, since the allocator was out of memory.
+    pub is_cut: bool,
+}
+
+impl Notes {
+    /// Adds a note, where there is one.
+    pub fn add(&mut self, note: Option<Note>) {
+        if let Some(note) = note {
+            if self.all.push(note).is_err() {
+                self.is_cut = true;
+            }
+        }
+    }
+}

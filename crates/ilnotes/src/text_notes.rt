@@ -1,0 +1,112 @@
+//! Notes on what no task has: programs, tasks without one, and sources of the binding.
+
+use crate::kinds::Kind;
+use crate::note::{Added, Found, NotePlace, Notes, note_at, note_on};
+use ilfacts::House;
+use illisting::{is_marked, mark};
+use ilplan::{Location, Plan};
+use ilsource::{Element, Source};
+use std::alloc::{AllocError, Global};
+use wordlines::BoundSource;
+
+/// Adds a note for each program that no task runs and for each task in which no program runs, where
+/// the text has a configuration; without one the task `main` runs all.
+pub(crate) fn add_program_notes(notes: &mut Notes, source: &Source) {
+    let Some(configuration) = source.configuration() else {
+        return;
+    };
+    let (text, instances) = (source.text(), configuration.instances());
+    for element in source.elements() {
+        if let Element::Program(program) = element {
+            let name = program.name();
+            if !instances
+                .iter()
+                .any(|instance| instance.program.is_same(name, text))
+            {
+                notes.add(note_on(Kind::UnusedProgram, name, Found::Nothing));
+            }
+        }
+    }
+    for task in configuration.tasks() {
+        let has_program = instances.iter().any(|instance| match instance.task {
+            Some(name) => name.is_same(task.name, text),
+            None => false,
+        });
+        if !has_program {
+            notes.add(note_on(Kind::UnusedTask, task.name, Found::Nothing));
+        }
+    }
+}
+
+/// Adds a note where nothing runs: no task is there, or no program.
+pub(crate) fn add_idle_notes(notes: &mut Notes, house: &House) {
+    let has_program = house
+        .source
+        .elements()
+        .iter()
+        .any(|element| matches!(element, Element::Program(_)));
+    let kind = if house.plan.tasks() == 0 {
+        Kind::NoTask
+    } else if house.source.configuration().is_none() && !has_program {
+        Kind::NoProgram
+    } else {
+        return;
+    };
+    notes.add(note_at(kind, NotePlace::Whole, Found::Nothing, Found::Nothing));
+}
+
+/// Adds a note for each source of the binding that the text does not use, and for each that is
+/// bound at two places.
+pub(crate) fn add_source_notes(notes: &mut Notes, plan: &Plan) -> Added {
+    let used = sources_of(notes.alloc, plan)?;
+    for (place, bound) in plan.sources().iter().enumerate() {
+        let this = found_of(bound);
+        if !is_marked(&used, number_of(bound.bus, bound.number)) {
+            notes.add(note_at(Kind::UnusedSource, NotePlace::Whole, this, Found::Nothing));
+        }
+        let key = key_of(bound);
+        let mut before = plan.sources().iter().take(place);
+        if let Some(first) = before.find(|other| key_of(other) == key) {
+            let first = found_of(first);
+            notes.add(note_at(Kind::DoubleSource, NotePlace::Whole, first, this));
+        }
+    }
+    Ok(())
+}
+
+/// A source, as notes name it.
+fn found_of(bound: &BoundSource) -> Found {
+    Found::Source {
+        bus: bound.bus,
+        source: bound.number,
+    }
+}
+
+/// A number for where the events of a source come from.
+fn key_of(bound: &BoundSource) -> u32 {
+    let source = bound.source;
+    u32::from_le_bytes([bound.bus, source.scheme.number(), source.a, source.b])
+}
+
+/// The number of a source among those of all buses.
+fn number_of(bus: u8, source: u8) -> usize {
+    usize::from(bus)
+        .saturating_mul(usize::from(limits::MOST_SOURCES))
+        .saturating_add(usize::from(source))
+}
+
+/// For each source of each bus whether a global variable has an address of it.
+fn sources_of(alloc: Global, plan: &Plan) -> Result<Vec<bool>, AllocError> {
+    let mut used = vec![in alloc; false; number_of(limits::MOST_BUSES, 0)]?;
+    for number in 0..plan.globals() {
+        match plan.global(number).location {
+            Some(
+                Location::Trigger { bus, source }
+                | Location::Information { bus, source }
+                | Location::Count { bus, source },
+            ) => mark(&mut used, number_of(bus, source)),
+            _ => {}
+        }
+    }
+    Ok(used)
+}

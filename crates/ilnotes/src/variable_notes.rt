@@ -1,0 +1,177 @@
+//! Notes on variables: what is used to no end, levels that no task stores, and variables that are
+//! likely meant as levels. What is used is kept under the place of its name, so that the instances
+//! of a program are one.
+
+use crate::kinds::Kind;
+use crate::note::{Added, Found, Note, NotePlace, Notes, note_at, note_on};
+use ilfacts::{GlobalSlot, House, TaskFacts};
+use illisting::name_in;
+use ilplan::{Global, Location, SlotOwner, UserFunction};
+use ilsource::Name;
+use iltypes::{IlType, Range, Value};
+
+/// How a variable is used by the words of all tasks, reached or not.
+#[derive(Clone, Copy)]
+struct Use {
+    is_read: bool,
+    is_stored: bool,
+    /// How many tasks and program instances name it.
+    times: u32,
+}
+
+/// A variable that no word names.
+const UNUSED: Use = Use {
+    is_read: false,
+    is_stored: false,
+    times: 0,
+};
+
+/// The uses of variables, by the places of their names.
+type Uses = Vec<Use>;
+
+/// The numbers that a level has.
+const LEVELS: IlType = IlType::Int(Range { lo: 0, hi: 254 });
+
+/// The note on a trigger that a task reads though another event starts it, or the clock.
+pub(crate) fn note_on_trigger(facts: &TaskFacts, global: GlobalSlot) -> Option<Note> {
+    let line = facts.slot(global.slot).read;
+    let is_trigger = matches!(global.location, Some(Location::Trigger { .. }));
+    if !is_trigger || line == 0 || facts.trigger == Some(global.number) {
+        return None;
+    }
+    let (name, task) = (Found::Name(global.name), Found::Task(facts.number));
+    note_at(Kind::ForeignTrigger, NotePlace::Line(line), name, task)
+}
+
+/// Adds a note for each variable that is used to no end, for each level that no task stores, and
+/// for each variable that is likely meant as a level; and for each function that no task uses.
+pub(crate) fn add_variable_notes(notes: &mut Notes, house: &House) -> Added {
+    let mut uses = vec![in notes.alloc; UNUSED; house.source.text().len().saturating_add(1)]?;
+    for facts in &house.tasks {
+        add_task(&mut uses, house, facts);
+    }
+    for number in 0..house.plan.globals() {
+        let global = house.plan.global(number);
+        let starts = house
+            .tasks
+            .iter()
+            .any(|facts| facts.trigger == Some(number));
+        notes.add(note_on_global(&uses, global, starts));
+    }
+    for (number, function) in house.plan.functions().iter().enumerate() {
+        if house
+            .tasks
+            .iter()
+            .any(|facts| facts.functions.contains(&number))
+        {
+            let inputs = function.inputs().len();
+            for own in 0..inputs.saturating_add(function.variables().len()) {
+                notes.add(note_on_own(&uses, function, own));
+            }
+        } else {
+            notes.add(note_on(Kind::UnusedFunction, function.name(), Found::Nothing));
+        }
+    }
+    for facts in &house.tasks {
+        for slot in facts.task.slots() {
+            if let SlotOwner::Own { name, .. } = slot.variable {
+                notes.add(note_on_use(&uses, name, slot.initial));
+            }
+        }
+    }
+    Ok(())
+}
+
+/// Adds how a task uses its variables, and those of its functions. What its lines store to is what
+/// the contract of `Task::stores` says; functions have no such list, so their words are asked.
+fn add_task(uses: &mut Uses, house: &House, facts: &TaskFacts) {
+    let slots = facts.task.slots();
+    for place in 0..slots.len() {
+        let is_stored = facts.task.stores(place);
+        let name = match slots[place].variable {
+            SlotOwner::Own { name, .. } => Some(name),
+            SlotOwner::Global(_) => facts.globals.get(place).map(|global| global.name),
+        };
+        let is_read = facts.slot(place).read > 0;
+        add_use(uses, name, is_read, is_stored);
+    }
+    for (body, number) in facts.code.functions().iter().zip(&facts.functions) {
+        if let Some(function) = house.plan.functions().get(*number) {
+            for own in 0..body.slots {
+                let slot = facts.slot(body.first.saturating_add(own));
+                add_use(uses, name_in(function, own), slot.read > 0, slot.is_stored);
+            }
+        }
+    }
+}
+
+/// Adds a use of a variable, where it is there.
+fn add_use(uses: &mut Uses, name: Option<Name>, is_read: bool, is_stored: bool) {
+    let Some(name) = name else {
+        return;
+    };
+    if let Some(kept) = uses.get_mut(name.from) {
+        kept.is_read = kept.is_read || is_read;
+        kept.is_stored = kept.is_stored || is_stored;
+        kept.times = kept.times.saturating_add(1);
+    }
+}
+
+/// How a variable is used.
+fn use_of(uses: &Uses, name: Name) -> Use {
+    uses.get(name.from).copied().unwrap_or(UNUSED)
+}
+
+/// The note on a global variable that starts a task or not, where there is one. One without an
+/// address that has the numbers of a level, and that a task stores and no other task names, is
+/// likely meant as a level.
+fn note_on_global(uses: &Uses, global: &Global, starts: bool) -> Option<Note> {
+    let Global { name, initial, .. } = *global;
+    let used = use_of(uses, name);
+    match global.location {
+        None if used.is_stored && used.times == 1 && global.value_type == LEVELS => {
+            note_on(Kind::LevelWithoutAddress, name, Found::Nothing)
+        }
+        None => note_on_use(uses, name, initial),
+        Some(Location::Level { .. }) if !used.is_stored => {
+            note_on(Kind::LevelNeverStored, name, Found::Value(initial))
+        }
+        Some(Location::Level { .. }) => None,
+        Some(_) if used.is_read => None,
+        Some(Location::Trigger { .. }) if starts => None,
+        Some(Location::Trigger { .. }) => note_on(Kind::UnusedTrigger, name, Found::Nothing),
+        Some(_) => note_on(Kind::NeverRead, name, Found::Nothing),
+    }
+}
+
+/// The note on a function's variable of this number, where there is one: an input is stored by each
+/// call, and the result is read at the end of each.
+fn note_on_own(uses: &Uses, function: &UserFunction, own: usize) -> Option<Note> {
+    let name = name_in(function, own)?;
+    let used = use_of(uses, name);
+    match own.checked_sub(function.inputs().len()) {
+        None if used.is_read => None,
+        None => note_on(Kind::InputNeverRead, name, Found::Name(function.name())),
+        Some(0) if used.is_stored => None,
+        Some(other) => {
+            let first = function.variables().get(other)?.initial;
+            if other > 0 {
+                return note_on_use(uses, name, first);
+            }
+            note_on(Kind::ResultNeverStored, name, Found::Value(first))
+        }
+    }
+}
+
+/// The note on a variable without an address, by whether it is stored and whether it is read, where
+/// there is one.
+fn note_on_use(uses: &Uses, name: Name, first: Value) -> Option<Note> {
+    let used = use_of(uses, name);
+    let (kind, second) = match (used.is_stored, used.is_read) {
+        (true, true) => return None,
+        (true, false) => (Kind::StoredNeverRead, Found::Nothing),
+        (false, true) => (Kind::NeverStored, Found::Value(first)),
+        (false, false) => (Kind::Unused, Found::Nothing),
+    };
+    note_on(kind, name, second)
+}
