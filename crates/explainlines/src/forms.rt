@@ -23,83 +23,47 @@ pub(crate) struct Form(pub &'static str, pub &'static [Field], pub &'static str)
 #[derive(Clone, Copy)]
 pub(crate) struct Part(pub &'static str, pub &'static [Field], pub bool);
 
-const BUSES: Field = Field::Number("number of buses", 1, MOST_BUSES as u64);
-
-const TRIES: Field = Field::Number("number of attempts", 1, MOST_TRIES as u64);
-
 const BUS: Field = Field::Number("bus", 0, MOST_BUSES as u64 - 1);
 
 const SHORT: Field = Field::Number("short address", 0, 63);
-
-const GROUP: Field = Field::Number("group", 0, 31);
 
 const KIND: Field = Field::Number("instance type", 0, 31);
 
 const INSTANCE: Field = Field::Number("instance number", 0, 31);
 
-const SCHEME: Field = Field::Number("event scheme", 0, 4);
-
-const INPUT: Field = Field::Number("input value", 0, 255);
-
-const BANK: Field = Field::Number("bank", 0, 255);
-
-const OFFSET: Field = Field::Number("offset", 0, 255);
-
-const VALUE: Field = Field::Number("value", 0, 255);
-
-const FRAME_NUMBER: Field = Field::Number("number of the frame", 1, u64::MAX);
-
-const MOMENT: Field = Field::Number("moment", 0, u64::MAX);
-
-const FIRST: Field = Field::Number("first moment", 0, u64::MAX);
-
-const LAST: Field = Field::Number("last moment", 0, u64::MAX);
-
-const STEP: Field = Field::Number("time from one to the next", 1, u64::MAX);
-
-const FATE: Field = Field::OneOf("fate of the frame", "lost, damaged, fault");
-
-const NAMED_SCHEME: Field = Field::OneOf(
-    "event scheme",
-    "instance, device, device-instance,\ndevice-group, instance-group",
-);
+/// Lines with their words, each with one as it could read.
+macro_rules! forms {
+    ($($word:literal [$($field:expr),+] $line:literal;)+) => {
+        &[$(Form($word, &[$($field),+], $line)),+]
+    };
+}
 
 /// The lines of a binding.
-pub(crate) const BINDING: &[Form] = &[
-    Form("buses", &[BUSES], "buses 1"),
-    Form(
-        "source",
-        &[Field::Place, NAMED_SCHEME],
-        "source 0.0 device-instance 5 2",
-    ),
-    Form("tries", &[BUS, TRIES], "tries 0 5"),
-];
+pub(crate) const BINDING: &[Form] = forms! {
+    "buses" [Field::Number("number of buses", 1, MOST_BUSES as u64)] "buses 1";
+    "source" [Field::Place, Field::OneOf("event scheme",
+        "instance, device, device-instance,\ndevice-group, instance-group")]
+        "source 0.0 device-instance 5 2";
+    "tries" [BUS, Field::Number("number of attempts", 1, MOST_TRIES as u64)] "tries 0 5";
+};
 
 /// The lines of a scenario.
-pub(crate) const SCENARIO: &[Form] = &[
-    Form("gear", &[BUS, SHORT], "gear 0 5"),
-    Form("lampfailure", &[BUS, SHORT], "lampfailure 0 5"),
-    Form(
-        "memory",
-        &[BUS, SHORT, BANK, OFFSET, VALUE],
-        "memory 0 5 0 3 17",
-    ),
-    Form("device", &[BUS, SHORT], "device 0 3"),
-    Form(
-        "instance",
-        &[BUS, SHORT, INSTANCE, KIND, SCHEME, INPUT],
-        "instance 0 3 2 1 2 0",
-    ),
-    Form("reply", &[BUS, FRAME_NUMBER, FATE], "reply 0 3 lost"),
-    Form("hearfault", &[BUS], "hearfault 0"),
-    Form("tick", &[MOMENT], "tick 1000"),
-    Form("ticks", &[FIRST, LAST, STEP], "ticks 0 60000 1000"),
-    Form("event", &[BUS, Field::Frame], "event 0 048402"),
-];
-
-const LEVEL: Field = Field::Number("level", 0, 254);
-
-const MEMBER: Field = Field::Number("group", 0, 15);
+pub(crate) const SCENARIO: &[Form] = forms! {
+    "gear" [BUS, SHORT] "gear 0 5";
+    "lampfailure" [BUS, SHORT] "lampfailure 0 5";
+    "memory" [BUS, SHORT, Field::Number("bank", 0, 255), Field::Number("offset", 0, 255),
+        Field::Number("value", 0, 255)] "memory 0 5 0 3 17";
+    "device" [BUS, SHORT] "device 0 3";
+    "instance" [BUS, SHORT, INSTANCE, KIND, Field::Number("event scheme", 0, 4),
+        Field::Number("input value", 0, 255)] "instance 0 3 2 1 2 0";
+    "reply" [BUS, Field::Number("number of the frame", 1, u64::MAX),
+        Field::OneOf("fate of the frame", "lost, damaged, fault")] "reply 0 3 lost";
+    "hearfault" [BUS] "hearfault 0";
+    "tick" [Field::Number("moment", 0, u64::MAX)] "tick 1000";
+    "ticks" [Field::Number("first moment", 0, u64::MAX), Field::Number("last moment", 0, u64::MAX),
+        Field::Number("time from one to the next", 1, u64::MAX)] "ticks 0 60000 1000";
+    "event" [BUS, Field::Frame] "event 0 048402";
+};
 
 const SCENE: Field = Field::Number("scene", 0, 15);
 
@@ -107,8 +71,8 @@ const SCENE_LEVEL: Field = Field::Number("level of the scene", 0, 255);
 
 /// How control gear begins.
 const GEAR_PARTS: &[Part] = &[
-    Part("level", &[LEVEL], false),
-    Part("group", &[MEMBER], true),
+    Part("level", &[Field::Number("level", 0, 254)], false),
+    Part("group", &[Field::Number("group", 0, 15)], true),
     Part("scene", &[SCENE, SCENE_LEVEL], true),
 ];
 
@@ -123,7 +87,7 @@ pub(crate) fn fields_behind(word: &[u8]) -> &'static [Field] {
         b"instance" => &[KIND, INSTANCE],
         b"device" => &[SHORT, KIND],
         b"device-instance" => &[SHORT, INSTANCE],
-        b"device-group" | b"instance-group" => &[GROUP, KIND],
+        b"device-group" | b"instance-group" => &[Field::Number("group", 0, 31), KIND],
         _ => &[],
     }
 }

@@ -23,48 +23,39 @@ pub struct BadLine {
 }
 
 impl LineFile {
-    /// Its lines.
-    fn forms(self) -> &'static [Form] {
+    /// Its lines, and one that is shown where a line is of none of their kinds.
+    fn forms(self) -> (&'static [Form], &'static str) {
         match self {
-            LineFile::Binding => BINDING,
-            LineFile::Scenario => SCENARIO,
+            LineFile::Binding => (BINDING, "source 0.0 device-instance 5 2"),
+            LineFile::Scenario => (SCENARIO, "event 0 048402"),
         }
     }
 
-    /// Why it is bad where it has too many bytes.
-    fn too_long(self) -> (Reason, &'static str) {
-        match self {
-            LineFile::Binding => {
+    /// Why the line of a number is bad, or a file that is too long, and a line of its kind.
+    fn reason(self, bytes: &[u8], number: usize, is_long: bool) -> (Reason, &'static str) {
+        let line = line_at(bytes, number);
+        let (forms, other) = self.forms();
+        let reason = match (self, bad_words(line, forms)) {
+            (LineFile::Binding, _) if is_long => {
                 let what = "a binding of over 1,048,576 bytes";
-                (Reason::of(what, "leave comments out"), "buses 1")
+                return (Reason::of(what, "leave comments out"), "buses 1");
             }
-            LineFile::Scenario => {
+            (LineFile::Scenario, _) if is_long => {
                 let what = "a scenario of over 1,048,576 bytes";
-                (Reason::of(what, "play it in two parts"), "tick 1000")
+                return (Reason::of(what, "play it in two parts"), "tick 1000");
             }
-        }
-    }
-
-    /// A line of the kind that a line is of; another one where it is of none.
-    fn example(self, line: &[u8]) -> &'static str {
-        match (form_of(self.forms(), first_word(line)), self) {
-            (Some(form), _) => form.2,
-            (None, LineFile::Binding) => "source 0.0 device-instance 5 2",
-            (None, LineFile::Scenario) => "event 0 048402",
-        }
-    }
-
-    /// Why the line of a number is bad.
-    fn reason(self, bytes: &[u8], number: usize, line: &[u8]) -> Reason {
-        if is_skipped(line) && matches!(self, LineFile::Binding) {
-            let what = "no line says how many buses there are";
-            let reason = Reason::of(what, "write the line `buses N`, of 1 to 64");
-            return reason.meaning(Meant::With("buses 1\n"));
-        }
-        match (bad_words(line, self.forms()), self) {
-            (Err(reason), _) => reason,
-            (Ok(form), LineFile::Binding) => Said::of(number, line, form).bad_in_binding(bytes),
-            (Ok(form), LineFile::Scenario) => Said::of(number, line, form).bad_in_scenario(bytes),
+            (LineFile::Binding, _) if is_skipped(line) => {
+                let what = "no line says how many buses there are";
+                let reason = Reason::of(what, "write the line `buses N`, of 1 to 64");
+                reason.meaning(Meant::With("buses 1\n"))
+            }
+            (_, Err(reason)) => reason,
+            (LineFile::Binding, Ok(form)) => Said::of(bytes, number, form).bad_in_binding(),
+            (LineFile::Scenario, Ok(form)) => Said::of(bytes, number, form).bad_in_scenario(),
+        };
+        match form_of(forms, first_word(line)) {
+            Some(form) => (reason, form.2),
+            None => (reason, other),
         }
     }
 
@@ -82,23 +73,18 @@ impl LineFile {
         let more = lines.iter().filter(|byte| **byte == b'\n').count();
         let last = number.saturating_add(more);
         match self {
-            LineFile::Binding => match Binding::parse(alloc, &all) {
-                Ok(_) => Ok(true),
-                Err(fault) => is_behind(&fault, last),
-            },
-            LineFile::Scenario => match parse(alloc, &all) {
-                Ok(_) => Ok(true),
-                Err(fault) => is_behind(&fault, last),
-            },
+            LineFile::Binding => is_good(&Binding::parse(alloc, &all), last),
+            LineFile::Scenario => is_good(&parse(alloc, &all), last),
         }
     }
 }
 
-/// Whether the bad line is behind another one.
-fn is_behind<Of>(fault: &LineFault<Of>, last: usize) -> Result<bool, AllocError> {
-    match fault {
-        LineFault::Memory => Err(AllocError),
-        LineFault::At { line, .. } => Ok(line.number() > last),
+/// Whether a file that was read has no fault up to a line.
+fn is_good<Of>(file: &Result<Of, LineFault<Of>>, last: usize) -> Result<bool, AllocError> {
+    match file {
+        Ok(_) => Ok(true),
+        Err(LineFault::Memory) => Err(AllocError),
+        Err(LineFault::At { line, .. }) => Ok(line.number() > last),
     }
 }
 
@@ -115,30 +101,15 @@ pub fn bad_line(
     cause: LineCause,
 ) -> Result<BadLine, AllocError> {
     let line = line_at(bytes, number);
-    if cause == LineCause::TooLong {
-        let (reason, example) = file.too_long();
-        let example = Example::Other(String::from_str(alloc, example)?);
-        return answer(alloc, &reason, line, file, example);
-    }
-    let reason = file.reason(bytes, number, line);
+    let (forms, _) = file.forms();
+    let is_long = cause == LineCause::TooLong;
+    let (reason, other) = file.reason(bytes, number, is_long);
     let meant = reason.meant_line(alloc, line)?;
-    let example = if file.is_cured(alloc, bytes, number, &meant)? {
+    let example = if !is_long && file.is_cured(alloc, bytes, number, &meant)? {
         Example::Tried(shown_text(alloc, &meant)?)
     } else {
-        Example::Other(String::from_str(alloc, file.example(line))?)
+        Example::Other(String::from_str(alloc, other)?)
     };
-    answer(alloc, &reason, line, file, example)
-}
-
-/// What is said for a reason, with an example.
-fn answer(
-    alloc: Global,
-    reason: &Reason,
-    line: &[u8],
-    file: LineFile,
-    example: Example,
-) -> Result<BadLine, AllocError> {
-    let forms = file.forms();
     Ok(BadLine {
         col: reason.from.saturating_add(1),
         answer: FaultAnswer {

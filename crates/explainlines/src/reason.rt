@@ -3,6 +3,7 @@
 use crate::forms::Form;
 use explaincures::{part, shown_text};
 use std::alloc::{AllocError, Global};
+use wordlines::number_of;
 
 /// Why a line is bad: two texts, and what fills their slots.
 #[derive(Clone, Copy)]
@@ -70,33 +71,20 @@ impl Reason {
     ) -> Result<String, AllocError> {
         let mut filled = String::new(alloc);
         for (index, piece) in text.split(['{', '}']).enumerate() {
-            if index % 2 == 0 {
-                filled.push_str(piece)?;
-            } else {
-                filled.push_str(&self.slot(alloc, piece, line, forms)?)?;
+            match piece {
+                _ if index % 2 == 0 => filled.push_str(piece)?,
+                "word" => filled.push_str(&shown_text(alloc, part(line, self.from, self.to))?)?,
+                "name" => filled.push_str(self.name)?,
+                "list" => filled.push_str(self.list)?,
+                "words" => push_words(&mut filled, forms)?,
+                _ => {
+                    let digit = number_of(piece.as_bytes(), 3).unwrap_or(0);
+                    let number = self.numbers.get(digit as usize).unwrap_or(&0);
+                    filled.push_str(&format!(in alloc; "{number}")?)?;
+                }
             }
         }
         Ok(filled)
-    }
-
-    /// What a slot stands for.
-    fn slot(
-        &self,
-        alloc: Global,
-        slot: &str,
-        line: &[u8],
-        forms: &[Form],
-    ) -> Result<String, AllocError> {
-        match slot {
-            "word" => shown_text(alloc, part(line, self.from, self.to)),
-            "name" => String::from_str(alloc, self.name),
-            "list" => String::from_str(alloc, self.list),
-            "words" => first_words(alloc, forms),
-            "1" => digits(alloc, self.numbers[1]),
-            "2" => digits(alloc, self.numbers[2]),
-            "3" => digits(alloc, self.numbers[3]),
-            _ => digits(alloc, self.numbers[0]),
-        }
     }
 
     /// The line as it is meant.
@@ -115,14 +103,8 @@ impl Reason {
     }
 }
 
-/// A number in decimal digits.
-fn digits(alloc: Global, number: u64) -> Result<String, AllocError> {
-    format!(in alloc; "{number}")
-}
-
-/// The words with which lines begin, six on the first line.
-fn first_words(alloc: Global, forms: &[Form]) -> Result<String, AllocError> {
-    let mut text = String::new(alloc);
+/// Adds the words with which lines begin, six on the first line.
+fn push_words(text: &mut String, forms: &[Form]) -> Result<(), AllocError> {
     for (index, form) in forms.iter().enumerate() {
         text.push_str(match index {
             0 => "",
@@ -131,7 +113,7 @@ fn first_words(alloc: Global, forms: &[Form]) -> Result<String, AllocError> {
         })?;
         text.push_str(form.0)?;
     }
-    Ok(text)
+    Ok(())
 }
 
 /// The words of a line with one blank between two.

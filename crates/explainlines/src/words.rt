@@ -32,10 +32,7 @@ pub(crate) fn bad_words(line: &[u8], forms: &'static [Form]) -> Result<&'static 
 
 /// The first word of a line.
 pub(crate) fn first_word(line: &[u8]) -> &[u8] {
-    match line.split(|byte| *byte == b' ').next() {
-        Some(word) => word,
-        None => line,
-    }
+    line.split(|byte| *byte == b' ').next().unwrap_or(line)
 }
 
 /// Why the blanks of a line are bad.
@@ -72,17 +69,13 @@ fn unknown(word: &[u8], forms: &'static [Form]) -> Reason {
         word.eq_ignore_ascii_case(other) || is_near(word, other)
     });
     let is_large = word.iter().any(|byte| byte.is_ascii_uppercase());
-    let what = if meant.is_some() && is_large {
-        "{word} is not in small letters"
-    } else {
-        "no line begins with {word}"
+    let (what, meant) = match meant {
+        Some(form) if is_large => ("{word} is not in small letters", Meant::With(form.0)),
+        Some(form) => ("no line begins with {word}", Meant::With(form.0)),
+        None => ("no line begins with {word}", Meant::InSmallLetters),
     };
     let reason = Reason::of(what, "lines begin with {words}, or # for a comment");
-    let reason = reason.at(0, word.len());
-    match meant {
-        Some(form) => reason.meaning(Meant::With(form.0)),
-        None => reason,
-    }
+    reason.at(0, word.len()).meaning(meant)
 }
 
 /// Why the words behind the first are bad: one is not what it has to be, is too much, or is
@@ -95,7 +88,7 @@ fn bad_fields(line: &[u8], form: &Form) -> Option<Reason> {
         let to = from.saturating_add(word.len());
         match fields {
             [field, ..] if !is_met(*field, word) => {
-                return Some(wanted(*field, unmet(*field, word)).at(from, to));
+                return Some(unmet(*field, word).at(from, to));
             }
             [Field::OneOf(..), ..] => fields = fields_behind(word),
             [_, rest @ ..] => fields = rest,
@@ -110,7 +103,7 @@ fn bad_fields(line: &[u8], form: &Form) -> Option<Reason> {
         from = to.saturating_add(1);
     }
     let end = line.len();
-    Some(wanted(*fields.first()?, "the {name} is missing").at(end, end))
+    Some(unmet(*fields.first()?, b"").at(end, end))
 }
 
 /// The part that a word begins, with those that may stand behind it.
@@ -123,27 +116,6 @@ fn part_at(parts: &'static [Part], word: &[u8]) -> Option<(&'static Part, &'stat
     Some((part, if part.2 { left } else { rest }))
 }
 
-/// What is said of a word that is not as its field says.
-fn unmet(field: Field, word: &[u8]) -> &'static str {
-    match field {
-        Field::Number(_, _, most) if number_of(word, u64::MAX).is_some() => {
-            if most == u64::MAX {
-                "the {name} is {word}, and not {0} or more"
-            } else {
-                "the {name} is {word}, and not {0} to {1}"
-            }
-        }
-        Field::Number(..) => "{word} is no number",
-        Field::OneOf(_, list)
-            if list
-                .split(SIGNS)
-                .any(|one| one.as_bytes().eq_ignore_ascii_case(word)) => {
-            "{word} is not in small letters"
-        }
-        _ => "{word} is no {name}",
-    }
-}
-
 /// What helps where a number, a place or a frame is wanted.
 const UPWARD: &str = "the {name} is a number of decimal digits alone, {0} or more";
 
@@ -153,20 +125,28 @@ const PLACE: &str = "a place is the number of a bus, a dot and a number of 0 to 
 
 const FRAME: &str = "a frame is six hexadecimal digits, such as 048402";
 
-/// A reason of a field, with what the field may be.
-fn wanted(field: Field, what: &'static str) -> Reason {
-    let (name, list, cure) = match field {
-        Field::Number(name, _, u64::MAX) => (name, "", UPWARD),
-        Field::Number(name, ..) => (name, "", WITHIN),
-        Field::OneOf(name, list) => (name, list, "the {name} is {list}"),
-        Field::Place => ("place", "", PLACE),
-        Field::Frame => ("frame", "", FRAME),
+/// Why a word is not as its field says, or is missing where it is empty: with what the field may
+/// be.
+fn unmet(field: Field, word: &[u8]) -> Reason {
+    let (name, list, cure, least, most) = match field {
+        Field::Number(name, least, u64::MAX) => (name, "", UPWARD, least, 0),
+        Field::Number(name, least, most) => (name, "", WITHIN, least, most),
+        Field::OneOf(name, list) => (name, list, "the {name} is {list}", 0, 0),
+        Field::Place => ("place", "", PLACE, 0, 0),
+        Field::Frame => ("frame", "", FRAME, 0, 0),
     };
-    let numbers = match field {
-        Field::Number(_, least, most) => [least, most, 0, 0],
-        _ => [0; 4],
+    let is_number = number_of(word, u64::MAX).is_some();
+    let mut words = list.split(SIGNS);
+    let is_listed = words.any(|one| one.as_bytes().eq_ignore_ascii_case(word));
+    let what = match field {
+        _ if word.is_empty() => "the {name} is missing",
+        Field::Number(_, _, u64::MAX) if is_number => "the {name} is {word}, and not {0} or more",
+        Field::Number(..) if is_number => "the {name} is {word}, and not {0} to {1}",
+        Field::Number(..) => "{word} is no number",
+        Field::OneOf(..) if is_listed => "{word} is not in small letters",
+        _ => "{word} is no {name}",
     };
-    let reason = Reason::of(what, cure).with(numbers);
+    let reason = Reason::of(what, cure).with([least, most, 0, 0]);
     Reason {
         name,
         list,
@@ -178,20 +158,12 @@ fn wanted(field: Field, what: &'static str) -> Reason {
 fn is_met(field: Field, word: &[u8]) -> bool {
     match field {
         Field::Number(_, least, most) => number_of(word, most).is_some_and(|one| one >= least),
-        Field::Place => is_place(word),
-        Field::OneOf(_, list) => list.split(SIGNS).any(|one| one.as_bytes() == word),
-        Field::Frame => hex_of(word).is_some(),
-    }
-}
-
-/// Whether a word is `B.K`.
-fn is_place(word: &[u8]) -> bool {
-    match parts_around_dot(word) {
-        Some((bus, number)) => {
+        Field::Place => parts_around_dot(word).is_some_and(|(bus, number)| {
             number_of(bus, u64::from(MOST_BUSES - 1)).is_some()
                 && number_of(number, u64::from(MOST_SOURCES - 1)).is_some()
-        }
-        None => false,
+        }),
+        Field::OneOf(_, list) => list.split(SIGNS).any(|one| one.as_bytes() == word),
+        Field::Frame => hex_of(word).is_some(),
     }
 }
 
