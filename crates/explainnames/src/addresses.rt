@@ -1,86 +1,58 @@
 //! What is said of an address of something that does not exist.
 
-use crate::name_causes::BAD_ADDRESS;
-use crate::said::{Change, Fact, Said, Slot};
+use crate::said::{Change, Fact, Said, Slot, advice};
 use crate::standing::FaultPlace;
 use crate::tokens::what_at;
 use explaincures::Advice;
 use iltokens::{AddressKind, What};
 
-/// The first number of the information of a source, and that of a count.
-const INFORMATION: u64 = 128;
+const NO_TRIGGER: Advice = advice!("a variable that is not a trigger";
+    "SINGLE names a variable of VAR_GLOBAL that has an address %IX; for a task\n\
+        that runs again and again write INTERVAL";
+    "VAR_GLOBAL pressed AT %IX0.0 : BOOL; END_VAR\n\
+        TASK push (SINGLE := pressed, PRIORITY := 1);");
 
-const COUNT: u64 = 192;
+/// An address of something that does not exist, where no more is known.
+const BAD_ADDRESS: Advice = advice!("an address of something that does not exist";
+    "compare it with the binding: buses count from 0, and %IX names a source\n\
+        that is bound; without --bind there is one bus and no source";
+    "pressed AT %IX0.0 : BOOL;");
 
-const NO_TRIGGER: Advice = Advice {
-    what: "a variable that is not a trigger",
-    cure: "SINGLE names a variable of VAR_GLOBAL that has an address %IX; for a task\n\
-        that runs again and again write INTERVAL",
-    line: "VAR_GLOBAL pressed AT %IX0.0 : BOOL; END_VAR\n\
-        TASK push (SINGLE := pressed, PRIORITY := 1);",
-};
-
-/// Of these `{0}` is the word of the address, `{1}` the bus, `{2}` a number and `{3}` what helps.
-const NO_BUS: Advice = Advice {
-    what: "there is no bus {1}",
-    cure: "{3}",
-    line: "{0}0.{2}",
-};
-
-const NO_PLACE: Advice = Advice {
-    what: "the number behind the dot of {0} is at most {2}",
-    cure: "{3}",
-    line: "{0}{1}.{2}",
-};
-
-const NO_SOURCE: Advice = Advice {
-    what: "there is no source {1}.{2}",
-    cure: "{3}",
-    line: "source {1}.{2} device-instance 5 2",
-};
-
-/// What is said of an address of something that does not exist.
-pub(crate) fn said_of_address(place: &FaultPlace) -> Said {
-    let Some(
-        What::Address {
-            kind,
-            bus,
-            place: number,
-        },
-    ) = what_at(place.spot.text, place.spot.at)
-    else {
-        return Said::of(&NO_TRIGGER);
+/// What is said of an address of something that does not exist. In the texts `{0}` is the word of
+/// the address, `{1}` the bus and `{2}` a number.
+pub(crate) fn said_of_address(fault: &FaultPlace) -> Said {
+    let FaultPlace { asked, spot, .. } = fault;
+    let Some(What::Address { kind, bus, place }) = what_at(spot.text, spot.at) else {
+        return Said::of(NO_TRIGGER);
     };
     let (word, most, place_cure) = of_kind(kind);
-    let (bus_cure, source_cure) = cures(place.asked.is_bound);
-    if bus >= u64::from(place.asked.binding.buses()) {
-        return said_with(&NO_BUS, word, bus, number, bus_cure).with_fact(Fact::Buses);
+    let (bus_cure, source_cure) = cures(asked.is_bound);
+    let slots = |number| [Slot::Word(word), Slot::Number(bus), Slot::Number(number)];
+    if bus >= u64::from(asked.binding.buses()) {
+        let said = with_cure("there is no bus {1}", bus_cure, "{0}0.{2}");
+        return said.with_slots(slots(place)).with_fact(Fact::Buses);
     }
-    if number > most {
-        return said_with(&NO_PLACE, word, bus, most, place_cure);
+    if place > most {
+        let what = "the number behind the dot of {0} is at most {2}";
+        return with_cure(what, place_cure, "{0}{1}.{2}").with_slots(slots(most));
     }
-    let Some(added) = added_to_source(kind, number) else {
-        return Said::of(&BAD_ADDRESS);
+    // The information of a source stands at 128 and on, and its count at 192 and on.
+    let added = match kind {
+        AddressKind::InputBit => 0,
+        AddressKind::InputWord if place >= 192 => 192,
+        AddressKind::InputWord if place >= 128 => 128,
+        _ => return Said::of(BAD_ADDRESS),
     };
-    let source = number.saturating_sub(added);
-    said_with(&NO_SOURCE, word, bus, source, source_cure)
+    let line = "source {1}.{2} device-instance 5 2";
+    with_cure("there is no source {1}.{2}", source_cure, line)
+        .with_slots(slots(place.saturating_sub(added)))
         .with_fact(Fact::Sources)
         .with_change(Change::Source(word, added))
 }
 
-/// What a row says of an address: its word, a bus, a number, and what helps.
-fn said_with(
-    advice: &'static Advice,
-    word: &'static str,
-    bus: u64,
-    number: u64,
-    cure: &'static str,
-) -> Said {
-    let (word, bus, cure) = (Slot::Word(word), Slot::Number(bus), Slot::Word(cure));
-    Said {
-        slots: [word, bus, Slot::Number(number), cure],
-        ..Said::of(advice)
-    }
+/// What a row says, of which the cure is known only here.
+fn with_cure(what: &'static str, cure: &'static str, line: &'static str) -> Said {
+    Said::of(Advice { what, cure, line })
 }
 
 /// What helps against a bus, and against a source, that is not there.
@@ -119,15 +91,5 @@ fn of_kind(kind: AddressKind) -> (&'static str, u64, &'static str) {
             63,
             "triggers are 0 to 63, as the sources of the binding",
         ),
-    }
-}
-
-/// What is added to the number of a source in an address of this kind, where it is of one.
-fn added_to_source(kind: AddressKind, number: u64) -> Option<u64> {
-    match kind {
-        AddressKind::InputBit => Some(0),
-        AddressKind::InputWord if number >= COUNT => Some(COUNT),
-        AddressKind::InputWord if number >= INFORMATION => Some(INFORMATION),
-        _ => None,
     }
 }

@@ -12,7 +12,8 @@ use std::alloc::AllocError;
 const MOST_TRIED: usize = 8;
 
 impl FaultPlace<'_, '_> {
-    /// What is said as an answer, with the first change that helps.
+    /// What is said as an answer, with the first change that helps: after it the names of the text
+    /// have no fault up to the change.
     pub(crate) fn answer(&self, said: &Said) -> Result<FaultAnswer, AllocError> {
         let answer = FaultAnswer {
             what: self.filled(said, said.advice.what)?,
@@ -20,29 +21,40 @@ impl FaultPlace<'_, '_> {
             cure: self.filled(said, said.advice.cure)?,
             example: Example::Other(self.filled(said, said.advice.line)?),
         };
-        match self.first_cure(self.edits(said)?)? {
-            Some(edit) => answer.with_tried(self.alloc, self.spot.text, &edit),
-            None => Ok(answer),
+        for edit in &self.edits(said)? {
+            match edit.outcome(self.alloc, self.asked)? {
+                EditOutcome::Text
+                | EditOutcome::Name {
+                    is_later: false,
+                    ..
+                } => {}
+                _ => return answer.with_tried(self.alloc, self.spot.text, edit),
+            }
         }
+        Ok(answer)
     }
 
     /// A text of the row, with what stands for its slots.
     pub(crate) fn filled(&self, said: &Said, row: &str) -> Result<String, AllocError> {
         let mut text = String::new(self.alloc);
-        for piece in row.split('{') {
-            match piece.split_once('}') {
-                Some((number, rest)) => {
-                    self.push_slot(&mut text, slot_of(said, number))?;
-                    text.push_str(rest)?;
-                }
-                None => text.push_str(piece)?,
+        for (index, piece) in row.split(['{', '}']).enumerate() {
+            if index % 2 == 0 {
+                text.push_str(piece)?;
+            } else {
+                self.push_slot(&mut text, said, piece)?;
             }
         }
         Ok(text)
     }
 
-    /// Adds what stands for a slot.
-    fn push_slot(&self, text: &mut String, slot: Slot) -> Result<(), AllocError> {
+    /// Adds what stands for the slot of a number.
+    fn push_slot(&self, text: &mut String, said: &Said, number: &str) -> Result<(), AllocError> {
+        let [first, second, third] = said.slots;
+        let slot = match number {
+            "0" => first,
+            "1" => second,
+            _ => third,
+        };
         match slot {
             Slot::Nothing => Ok(()),
             Slot::Word(word) => text.push_str(word),
@@ -52,21 +64,6 @@ impl FaultPlace<'_, '_> {
                 text.push_str(&shown_text(self.alloc, self.spot.part(from, to))?)
             }
         }
-    }
-
-    /// The first change that helps: after it the names of the text have no fault up to the change.
-    fn first_cure(&self, edits: Vec<Edit>) -> Result<Option<Edit>, AllocError> {
-        for edit in edits {
-            match edit.outcome(self.alloc, self.asked)? {
-                EditOutcome::Text
-                | EditOutcome::Name {
-                    is_later: false,
-                    ..
-                } => {}
-                _ => return Ok(Some(edit)),
-            }
-        }
-        Ok(None)
     }
 
     /// The changes that may help.
@@ -79,7 +76,13 @@ impl FaultPlace<'_, '_> {
                 let with = self.filled(said, with)?;
                 edits.push(Edit::new(self.alloc, from, to, with.as_bytes())?)?;
             }
-            Change::Source(word, added) => self.add_sources(&mut edits, word, added)?,
+            Change::Source(word, added) => {
+                for bound in self.asked.binding.sources().iter().take(MOST_TOLD) {
+                    let (bus, number) = (bound.bus, u64::from(bound.number).saturating_add(added));
+                    let with = format!(in self.alloc; "{word}{bus}.{number}")?;
+                    self.add_edit(&mut edits, with.as_bytes())?;
+                }
+            }
         }
         Ok(edits)
     }
@@ -90,60 +93,28 @@ impl FaultPlace<'_, '_> {
         Ok(())
     }
 
-    /// Adds the addresses of sources of the binding: a word, the bus, and the source's number with
-    /// what is added to it.
-    fn add_sources(&self, edits: &mut Vec<Edit>, word: &str, added: u64) -> Result<(), AllocError> {
-        for bound in self.asked.binding.sources().iter().take(MOST_TOLD) {
-            let bus = bound.bus;
-            let number = u64::from(bound.number).saturating_add(added);
-            let with = format!(in self.alloc; "{word}{bus}.{number}")?;
-            self.add_edit(edits, with.as_bytes())?;
-        }
-        Ok(())
-    }
-
-    /// Adds the reserved word, and the names of the text, that are near to what was found.
+    /// Adds the reserved word, and the names of the text, each once, that are near to what was
+    /// found.
     fn add_near(&self, edits: &mut Vec<Edit>) -> Result<(), AllocError> {
         if let Some(word) = near_word(self.spot.token()) {
             self.add_edit(edits, word.as_bytes())?;
         }
-        for name in &self.near_names()? {
-            self.add_edit(edits, name)?;
-        }
-        Ok(())
-    }
-
-    /// The names of the text that are near to what was found, each once.
-    fn near_names(&self) -> Result<Vec<&[u8]>, AllocError> {
-        let text = self.spot.text;
-        let mut near: Vec<&[u8]> = Vec::new(self.alloc);
+        let most = edits.len().saturating_add(MOST_TRIED);
         let mut at: usize = 0;
-        for _ in 0..text.len() {
-            let Some(found) = token_at(text, at) else {
-                return Ok(near);
+        for _ in 0..self.spot.text.len() {
+            let Some(found) = token_at(self.spot.text, at) else {
+                break;
             };
             at = found.to;
             let name = self.spot.part(found.from, found.to);
-            if found.what == What::Name && is_near(name, self.spot.token()) && is_new(&near, name) {
-                near.push(name)?;
+            let is_new = !edits
+                .iter()
+                .any(|edit| edit.with.eq_ignore_ascii_case(name));
+            let is_meant = found.what == What::Name && is_near(name, self.spot.token());
+            if is_meant && is_new && edits.len() < most {
+                self.add_edit(edits, name)?;
             }
         }
-        Ok(near)
+        Ok(())
     }
-}
-
-/// What stands for a number in braces.
-fn slot_of(said: &Said, number: &str) -> Slot {
-    let [first, second, third, fourth] = said.slots;
-    match number.as_bytes() {
-        b"0" => first,
-        b"1" => second,
-        b"2" => third,
-        _ => fourth,
-    }
-}
-
-/// Whether a name is none of those that were found, and there is room for it.
-fn is_new(near: &[&[u8]], name: &[u8]) -> bool {
-    near.len() < MOST_TRIED && !near.iter().any(|other| other.eq_ignore_ascii_case(name))
 }

@@ -1,82 +1,15 @@
 //! What is said of bad declarations.
 
-use crate::name_causes::advice_at;
-use crate::said::{Change, Fact, Said, Slot};
+use crate::name_causes::bad_declaration;
+use crate::said::{Change, Fact, Said, Slot, advice};
 use crate::standing::{FaultPlace, Standing};
 use crate::tokens::type_behind;
 use explaincures::Advice;
-use ilscope::NameCause;
 use ilsource::{Constant, Declared, Specification, TaskDeclaration};
 
-const DIFFERENT: Advice = Advice {
-    what: "a type that is not that of VAR_GLOBAL",
-    cure: "write the same type in both",
-    line: "VAR_EXTERNAL lamp : USINT (0..254); END_VAR",
-};
-
-const NEITHER: Advice = Advice {
-    what: "a task that nothing starts",
-    cure: "write SINGLE with a trigger, or INTERVAL with a time, before PRIORITY",
-    line: "TASK clock (INTERVAL := T#100ms, PRIORITY := 1);",
-};
-
-const BOTH: Advice = Advice {
-    what: "a task with SINGLE and INTERVAL",
-    cure: "write one of the two: SINGLE for a task that events start, INTERVAL for one\n\
-        that runs again and again",
-    line: "TASK push (SINGLE := pressed, PRIORITY := 1);",
-};
-
-const NO_INTERVAL: Advice = Advice {
-    what: "an interval of 0",
-    cure: "an interval is 1 ms or more",
-    line: "TASK clock (INTERVAL := T#100ms, PRIORITY := 1);",
-};
-
-const PRIORITIES: Advice = Advice {
-    what: "a priority outside 0 to 65535",
-    cure: "write one of 0 to 65535; a task with 0 comes before all others",
-    line: "TASK clock (INTERVAL := T#100ms, PRIORITY := 1);",
-};
-
-const EXCHANGED: Advice = Advice {
-    what: "a range whose lower limit is above the upper one",
-    cure: "write the lower limit first",
-    line: "level : INT (0..254);",
-};
-
-const OUTSIDE: Advice = Advice {
-    what: "a range or a first value outside its type",
-    cure: "SINT is -128..127, INT -32768..32767, DINT -2147483648..2147483647, USINT\n\
-        0..255, UINT 0..65535 and UDINT 0..4294967295; a first value lies in the range",
-    line: "level : USINT (0..254) := 100;",
-};
-
-const NO_TRUTH: Advice = Advice {
-    what: "a first value that is not a truth value",
-    cure: "write TRUE, FALSE, 1 or 0",
-    line: "is_on : BOOL := TRUE;",
-};
-
-const NO_NUMBER: Advice = Advice {
-    what: "a first value that is not a number",
-    cure: "write a number, or a time",
-    line: "level : USINT (0..254) := 100;",
-};
-
-const LOCATED: Advice = Advice {
-    what: "a type that does not fit the address",
-    cure: "a level %QB is USINT or a range of 0 to 255, an answer, an information and a\n\
-        count %IW are numbers, a trigger %IX is BOOL",
-    line: "lamp AT %QB0.5 : USINT (0..254);",
-};
-
-/// A first value outside its range.
-const OUTSIDE_RANGE: Advice = Advice {
-    what: "{0} is outside {1}..{2}",
-    cure: "write a first value of the range, or a wider range",
-    line: "level : USINT (0..254) := 100;",
-};
+const EXCHANGED: Advice = advice!("a range whose lower limit is above the upper one";
+    "write the lower limit first";
+    "level : INT (0..254);");
 
 /// What is said of a bad declaration, or of a call that does not fit it.
 pub(crate) fn said_of_declaration(place: &FaultPlace) -> Said {
@@ -94,30 +27,39 @@ pub(crate) fn said_of_declaration(place: &FaultPlace) -> Said {
         | Standing::Declared(declared) => of_declared(declared),
         _ => None,
     };
-    match said {
-        Some(said) => said,
-        None => Said::of(advice_at(place, NameCause::BadDeclaration)).with_fact(Fact::Inputs),
-    }
+    said.unwrap_or(Said::of(bad_declaration(place.standing)).with_fact(Fact::Inputs))
 }
 
 /// What is said of a task.
-fn of_task(task: TaskDeclaration) -> &'static Advice {
+fn of_task(task: TaskDeclaration) -> Advice {
     match (task.single, task.interval) {
-        (None, None) => &NEITHER,
-        (Some(_), Some(_)) => &BOTH,
-        (None, Some(0)) => &NO_INTERVAL,
-        _ => &PRIORITIES,
+        (None, None) => advice!("a task that nothing starts";
+            "write SINGLE with a trigger, or INTERVAL with a time, before PRIORITY";
+            "TASK clock (INTERVAL := T#100ms, PRIORITY := 1);"),
+        (Some(_), Some(_)) => advice!("a task with SINGLE and INTERVAL";
+            "write one of the two: SINGLE for a task that events start, INTERVAL for one\n\
+                that runs again and again";
+            "TASK push (SINGLE := pressed, PRIORITY := 1);"),
+        (None, Some(0)) => advice!("an interval of 0";
+            "an interval is 1 ms or more";
+            "TASK clock (INTERVAL := T#100ms, PRIORITY := 1);"),
+        _ => advice!("a priority outside 0 to 65535";
+            "write one of 0 to 65535; a task with 0 comes before all others";
+            "TASK clock (INTERVAL := T#100ms, PRIORITY := 1);"),
     }
 }
 
 /// What is said of a global variable with an address.
-fn of_located(declared: Declared) -> &'static Advice {
+fn of_located(declared: Declared) -> Advice {
     match declared {
         Declared::Variables {
             specification: Specification::Subrange { low, high, .. },
             ..
-        } if low > high => &EXCHANGED,
-        _ => &LOCATED,
+        } if low > high => EXCHANGED,
+        _ => advice!("a type that does not fit the address";
+            "a level %QB is USINT or a range of 0 to 255, an answer, an information and a\n\
+                count %IW are numbers, a trigger %IX is BOOL";
+            "lamp AT %QB0.5 : USINT (0..254);"),
     }
 }
 
@@ -131,22 +73,28 @@ fn of_declared(declared: Declared) -> Option<Said> {
         return None;
     };
     let advice = match (specification, initial) {
-        (Specification::Subrange { low, high, .. }, _) if low > high => &EXCHANGED,
-        (Specification::Bool, Some(_)) => &NO_TRUTH,
+        (Specification::Subrange { low, high, .. }, _) if low > high => EXCHANGED,
+        (Specification::Bool, Some(_)) => advice!("a first value that is not a truth value";
+            "write TRUE, FALSE, 1 or 0";
+            "is_on : BOOL := TRUE;"),
         (Specification::Bool, None) | (Specification::Named(_), None) => return None,
-        (_, Some(Constant::Bool(_))) => &NO_NUMBER,
+        (_, Some(Constant::Bool(_))) => advice!("a first value that is not a number";
+            "write a number, or a time";
+            "level : USINT (0..254) := 100;"),
         (Specification::Subrange { low, high, .. }, Some(Constant::Number(first)))
             if first < low || first > high => {
-            let slots = [
-                Slot::Limit(first),
-                Slot::Limit(low),
-                Slot::Limit(high),
-                Slot::Nothing,
-            ];
-            let said = Said::of(&OUTSIDE_RANGE);
-            return Some(Said { slots, ..said });
+            let outside = Said::of(advice!("{0} is outside {1}..{2}";
+                "write a first value of the range, or a wider range";
+                "level : USINT (0..254) := 100;"));
+            let slots = [Slot::Limit(first), Slot::Limit(low), Slot::Limit(high)];
+            return Some(outside.with_slots(slots));
         }
-        (Specification::Subrange { .. }, _) | (_, Some(_)) => &OUTSIDE,
+        (Specification::Subrange { .. }, _) | (_, Some(_)) => {
+            advice!("a range or a first value outside its type";
+                "SINT is -128..127, INT -32768..32767, DINT -2147483648..2147483647, USINT\n\
+                    0..255, UINT 0..65535 and UDINT 0..4294967295; a first value lies in the range";
+                "level : USINT (0..254) := 100;")
+        }
         _ => return None,
     };
     Some(Said::of(advice))
@@ -158,7 +106,10 @@ fn different(place: &FaultPlace) -> Option<Said> {
     let global = place.global_named()?;
     let (from, to) = type_behind(place.spot.text, place.spot.at);
     let (first, last) = type_behind(place.spot.text, global.from);
-    let said = Said::of(&DIFFERENT).with_pair(Slot::Part(first, last), Slot::Nothing);
+    let said = Said::of(advice!("a type that is not that of VAR_GLOBAL";
+        "write the same type in both";
+        "VAR_EXTERNAL lamp : USINT (0..254); END_VAR"));
+    let said = said.with_slots([Slot::Part(first, last), Slot::Nothing, Slot::Nothing]);
     let said = said.with_change(Change::Put(from, to, "{0}"));
     Some(said.with_fact(Fact::Global(global.from)))
 }

@@ -14,9 +14,15 @@ pub(crate) const MOST_TOLD: usize = 8;
 pub(crate) fn fact_text(place: &FaultPlace, fact: Fact) -> Result<String, AllocError> {
     match fact {
         Fact::Nothing => Ok(String::new(place.alloc)),
-        Fact::GivenFirst(at) => line_told(place, "first given", at),
-        Fact::Label(at) => line_told(place, "the label stands", at),
-        Fact::Global(at) => global_line(place, at),
+        Fact::Line(what, at) => {
+            let line = line_number(place.spot.text, at);
+            format!(in place.alloc; "{what} in line {line}\n")
+        }
+        Fact::Global(at) => {
+            let line = line_number(place.spot.text, at);
+            let found = shown_text(place.alloc, line_of(place.spot.text, line))?;
+            format!(in place.alloc; "in VAR_GLOBAL:\n{line:>6} | {found}\n")
+        }
         Fact::Stores => lines_of_stores(place),
         Fact::Inputs => inputs_told(place),
         Fact::Ports(kind) => ports_told(place.alloc, kind),
@@ -25,36 +31,23 @@ pub(crate) fn fact_text(place: &FaultPlace, fact: Fact) -> Result<String, AllocE
     }
 }
 
-/// What stands in the line of a place.
-fn line_told(place: &FaultPlace, what: &str, at: usize) -> Result<String, AllocError> {
-    let line = line_number(place.spot.text, at);
-    format!(in place.alloc; "{what} in line {line}\n")
-}
-
-/// The line of a global variable.
-fn global_line(place: &FaultPlace, at: usize) -> Result<String, AllocError> {
-    let line = line_number(place.spot.text, at);
-    let found = shown_text(place.alloc, line_of(place.spot.text, line))?;
-    format!(in place.alloc; "in VAR_GLOBAL:\n{line:>6} | {found}\n")
-}
-
-/// Adds one of a list, of which so many stand there already.
-fn push_listed(text: &mut String, count: usize, listed: &str) -> Result<(), AllocError> {
-    text.push_str(if count == 0 { "" } else { ", " })?;
-    text.push_str(listed)
+/// Adds one to a list.
+fn push_listed(list: &mut String, one: &str) -> Result<(), AllocError> {
+    list.push_str(if list.is_empty() { "" } else { ", " })?;
+    list.push_str(one)
 }
 
 /// The lines that store to a variable.
 fn lines_of_stores(place: &FaultPlace) -> Result<String, AllocError> {
     let mut lines = String::new(place.alloc);
     let mut at: usize = 0;
-    for count in 0..MOST_TOLD {
+    for _ in 0..MOST_TOLD {
         let Some(found) = next_same(&place.spot, at, Role::Stored) else {
             break;
         };
         at = found.to;
         let line = line_number(place.spot.text, found.from);
-        push_listed(&mut lines, count, &format!(in place.alloc; "{line}")?)?;
+        push_listed(&mut lines, &format!(in place.alloc; "{line}")?)?;
     }
     if lines.is_empty() {
         return Ok(lines);
@@ -75,7 +68,7 @@ fn inputs_told(place: &FaultPlace) -> Result<String, AllocError> {
     for declaration in function.inputs() {
         for name in declaration.names() {
             let shown = shown_text(place.alloc, name.text(place.spot.text))?;
-            push_listed(&mut names, count, &shown)?;
+            push_listed(&mut names, &shown)?;
             count = count.saturating_add(1);
         }
     }
@@ -85,8 +78,8 @@ fn inputs_told(place: &FaultPlace) -> Result<String, AllocError> {
 /// The ports of a block.
 fn ports_told(alloc: Global, kind: BlockKind) -> Result<String, AllocError> {
     let mut ports = String::new(alloc);
-    for (count, port) in kind.ports().iter().enumerate() {
-        push_listed(&mut ports, count, &shown_text(alloc, port.name.spelling())?)?;
+    for port in kind.ports() {
+        push_listed(&mut ports, &shown_text(alloc, port.name.spelling())?)?;
     }
     format!(in alloc; "its ports: {ports}\n")
 }
@@ -105,31 +98,17 @@ fn buses_told(place: &FaultPlace) -> Result<String, AllocError> {
 
 /// The sources that there are.
 fn sources_told(place: &FaultPlace) -> Result<String, AllocError> {
-    let fixed = match (place.asked.is_bound, place.asked.binding.sources()) {
-        (false, _) => "without --bind there is no source of events\n",
-        (true, []) => "the binding has no source of events\n",
-        _ => return sources_listed(place),
-    };
-    String::from_str(place.alloc, fixed)
-}
-
-/// The sources of the binding.
-fn sources_listed(place: &FaultPlace) -> Result<String, AllocError> {
-    let sources = place.asked.binding.sources();
-    let mut listed = String::new(place.alloc);
-    for (count, bound) in sources.iter().take(MOST_TOLD).enumerate() {
-        let bus = bound.bus;
-        let number = bound.number;
-        push_listed(
-            &mut listed,
-            count,
-            &format!(in place.alloc; "{bus}.{number}")?,
-        )?;
+    let (alloc, sources) = (place.alloc, place.asked.binding.sources());
+    let mut listed = String::new(alloc);
+    for bound in sources.iter().take(MOST_TOLD) {
+        let (bus, number) = (bound.bus, bound.number);
+        push_listed(&mut listed, &format!(in alloc; "{bus}.{number}")?)?;
     }
-    let more = if sources.len() > MOST_TOLD {
-        " and more"
-    } else {
-        ""
-    };
-    format!(in place.alloc; "the binding has the sources {listed}{more}\n")
+    let is_cut = sources.len() > MOST_TOLD;
+    let more = if is_cut { " and more" } else { "" };
+    match (place.asked.is_bound, sources) {
+        (false, _) => String::from_str(alloc, "without --bind there is no source of events\n"),
+        (true, []) => String::from_str(alloc, "the binding has no source of events\n"),
+        _ => format!(in alloc; "the binding has the sources {listed}{more}\n"),
+    }
 }

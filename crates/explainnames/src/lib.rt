@@ -14,7 +14,6 @@
 mod addresses;
 mod answers;
 mod declarations;
-mod depths;
 mod facts;
 mod name_answers;
 mod name_causes;

@@ -2,17 +2,18 @@
 
 use crate::addresses::said_of_address;
 use crate::declarations::said_of_declaration;
-use crate::depths::depth_at;
 use crate::name_causes::{
-    BACKWARD_JUMP, NO_TASK, SHARED_ADDRESS, UNKNOWN_LABEL, WRITTEN_TWICE, advice_at, too_many,
+    BACKWARD_JUMP, INPUT_RANGE_TOO_SMALL, NO_TASK, UNKNOWN_LABEL, WRITTEN_TWICE, given_twice,
+    too_many, writes_input,
 };
 use crate::said::{Change, Fact, Said, Slot};
 use crate::standing::FaultPlace;
 use crate::tokens::{Role, same_before};
 use crate::unknown_names::said_of_unknown;
-use explaincures::{AskedText, FaultAnswer, Surroundings};
+use explaincures::{Advice, AskedText, FaultAnswer, Surroundings};
 use ilscope::{NameCause, Scope};
-use ilsource::Source;
+use ilsource::{Operand, Source, Symbol};
+use iluses::uses_of;
 use std::alloc::{AllocError, Global};
 
 /// What is said of a cause at a place of a text with this source program.
@@ -32,64 +33,42 @@ pub fn answer_name(
     place.answer(&said_of(&place, cause)?)
 }
 
-/// What is wrong, of a cause at a place of a text.
-pub(crate) fn what_of(place: &FaultPlace, cause: NameCause) -> Result<String, AllocError> {
-    let said = said_of(place, cause)?;
-    place.filled(&said, said.advice.what)
-}
-
 /// What is said of a cause at a place.
-fn said_of(place: &FaultPlace, cause: NameCause) -> Result<Said, AllocError> {
-    if cause != NameCause::TooMany {
-        return Ok(said_at(place, cause));
-    }
-    let (number, depth) = depth_at(place.alloc, place.scope, place.spot.at)?;
-    Ok(Said::of(too_many(place.standing, number, depth)))
-}
-
-/// What is said of a cause at a place, where it is not that something is too much.
-fn said_at(place: &FaultPlace, cause: NameCause) -> Said {
-    match cause {
+pub(crate) fn said_of(place: &FaultPlace, cause: NameCause) -> Result<Said, AllocError> {
+    Ok(match cause {
         NameCause::Unknown => said_of_unknown(place),
-        NameCause::Twice => twice(place),
-        NameCause::UnknownLabel => Said::of(&UNKNOWN_LABEL).with_change(Change::Near),
-        NameCause::BackwardJump => backward_jump(place),
+        NameCause::Twice => said_before(place, given_twice(place), "first given", Role::Given),
+        NameCause::UnknownLabel => Said::of(UNKNOWN_LABEL).with_change(Change::Near),
+        NameCause::BackwardJump => {
+            said_before(place, BACKWARD_JUMP, "the label stands", Role::Label)
+        }
         NameCause::BadAddress => said_of_address(place),
-        NameCause::WrittenTwice => Said::of(&WRITTEN_TWICE).with_fact(Fact::Stores),
+        NameCause::InputRangeTooSmall => Said::of(INPUT_RANGE_TOO_SMALL),
+        NameCause::WrittenTwice => Said::of(WRITTEN_TWICE).with_fact(Fact::Stores),
+        NameCause::WritesInput => Said::of(writes_input(place.standing)),
         NameCause::NoTask => without_task(place),
+        NameCause::TooMany => {
+            let (number, depth) = depth_at(place.alloc, place.scope, place.spot.at)?;
+            Said::of(too_many(place.standing, number, depth))
+        }
         NameCause::BadDeclaration => said_of_declaration(place),
-        _ => Said::of(advice_at(place, cause)),
-    }
+    })
 }
 
-/// What is said of a jump that does not lead forward: where the label stands in what is open there.
-fn backward_jump(place: &FaultPlace) -> Said {
-    let start = Surroundings::of(place.spot.text, place.spot.at).from;
-    match same_before(&place.spot, start, Role::Label) {
-        Some(at) => Said::of(&BACKWARD_JUMP).with_fact(Fact::Label(at)),
-        None => Said::of(&BACKWARD_JUMP),
-    }
-}
-
-/// What is said of a name or an address that is given twice: where it was given first, in what is
-/// open there, or else anywhere.
-fn twice(place: &FaultPlace) -> Said {
+/// What a row says of a name or an address, with the line in which it has a role before: first in
+/// what is open there, or else anywhere.
+fn said_before(place: &FaultPlace, row: Advice, what: &'static str, role: Role) -> Said {
     let spot = &place.spot;
     let start = Surroundings::of(spot.text, spot.at).from;
-    let said = if spot.token().starts_with(b"%") {
-        Said::of(&SHARED_ADDRESS)
-    } else {
-        Said::of(advice_at(place, NameCause::Twice))
-    };
-    match same_before(spot, start, Role::Given).or(same_before(spot, 0, Role::Given)) {
-        Some(at) => said.with_fact(Fact::GivenFirst(at)),
-        None => said,
+    match same_before(spot, start, role).or(same_before(spot, 0, role)) {
+        Some(at) => Said::of(row).with_fact(Fact::Line(what, at)),
+        None => Said::of(row),
     }
 }
 
 /// What is said of an instance without a task: it could have the first.
 fn without_task(place: &FaultPlace) -> Said {
-    let said = Said::of(&NO_TASK);
+    let said = Said::of(NO_TASK);
     let tasks = match place.scope.source().configuration() {
         Some(configuration) => configuration.tasks(),
         None => &[],
@@ -98,6 +77,29 @@ fn without_task(place: &FaultPlace) -> Said {
         return said;
     };
     let to = place.spot.found_to();
-    said.with_pair(Slot::Part(task.name.from, task.name.to), Slot::Nothing)
+    let name = Slot::Part(task.name.from, task.name.to);
+    said.with_slots([name, Slot::Nothing, Slot::Nothing])
         .with_change(Change::Put(to, to, " WITH {0}"))
+}
+
+/// How many functions stand above the one whose name stands at a place, and how deep it is: one
+/// more than the deepest that it calls.
+fn depth_at(alloc: Global, scope: &Scope, at: usize) -> Result<(usize, usize), AllocError> {
+    let mut depths: Vec<usize> = Vec::new(alloc);
+    for (number, function) in scope.functions().iter().enumerate() {
+        let function = function.function();
+        let mut deepest: usize = 0;
+        for used in &uses_of(alloc, function.lines())? {
+            if let Operand::Name(Symbol::Function(called)) = used.operand {
+                let number = scope.function_number(called).unwrap_or(depths.len());
+                deepest = deepest.max(*depths.get(number).unwrap_or(&0));
+            }
+        }
+        let depth = deepest.saturating_add(1);
+        if function.name().from == at {
+            return Ok((number, depth));
+        }
+        depths.push(depth)?;
+    }
+    Ok((0, 0))
 }

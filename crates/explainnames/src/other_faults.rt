@@ -1,6 +1,6 @@
 //! The faults of names of a text besides the one that is explained.
 
-use crate::name_answers::what_of;
+use crate::name_answers::said_of;
 use crate::standing::FaultPlace;
 use crate::told::Told;
 use explaincures::AskedText;
@@ -51,34 +51,27 @@ impl OtherFaults {
         cause: NameCause,
     ) -> Result<OtherFaults, AllocError> {
         let scope = Scope::of(alloc, source, asked.binding)?;
-        OtherFaults::behind(alloc, asked, &scope, Found { at, cause })
-    }
-
-    /// Those of a text behind this fault.
-    fn behind(
-        alloc: Global,
-        asked: &AskedText,
-        scope: &Scope,
-        first: Found,
-    ) -> Result<OtherFaults, AllocError> {
         let mut all = OtherFaults {
             named: Vec::new(alloc),
             more: 0,
             is_cut: false,
         };
-        let mut told = Told::of(&FaultPlace::of(alloc, asked, scope, first.at)?, first);
-        let mut next = next_fault(alloc, scope, Some(first))?;
-        for _ in 0..most_found(asked.text) {
-            let Some(found) = next else {
+        let mut told = Told::nothing();
+        let mut found = Found { at, cause };
+        told.add(&FaultPlace::of(alloc, asked, &scope, at)?, found);
+        // How many faults are looked at.
+        let most = (MOST_READ / asked.text.len().max(1)).max(MOST_NAMED);
+        for _ in 0..most {
+            let Some(next) = next_fault(alloc, &scope, Some(found))? else {
                 return Ok(all);
             };
-            let place = FaultPlace::of(alloc, asked, scope, found.at)?;
+            found = next;
+            let place = FaultPlace::of(alloc, asked, &scope, found.at)?;
             if told.add(&place, found) {
                 all.add(&place, found)?;
             }
-            next = next_fault(alloc, scope, Some(found))?;
         }
-        all.is_cut = next.is_some();
+        all.is_cut = next_fault(alloc, &scope, Some(found))?.is_some();
         Ok(all)
     }
 
@@ -89,7 +82,8 @@ impl OtherFaults {
             return Ok(());
         }
         if let NameFault::At { line, col, cause } = report_of(place.asked.text, found) {
-            let what = what_of(place, cause)?;
+            let said = said_of(place, cause)?;
+            let what = place.filled(&said, said.advice.what)?;
             self.named.push(NamedFault {
                 line,
                 col,
@@ -99,9 +93,4 @@ impl OtherFaults {
         }
         Ok(())
     }
-}
-
-/// How many faults of a text are looked at.
-fn most_found(text: &[u8]) -> usize {
-    (MOST_READ / text.len().max(1)).max(MOST_NAMED)
 }

@@ -3,12 +3,25 @@
 use explaincures::Advice;
 use ilblocks::BlockKind;
 
+/// A row of what is said: what is wrong, what helps, and lines of another text.
+macro_rules! advice {
+    ($what:literal; $cure:literal; $line:literal) => {
+        Advice {
+            what: $what,
+            cure: $cure,
+            line: $line,
+        }
+    };
+}
+
+pub(crate) use advice;
+
 /// What is said of a fault of names.
 #[derive(Clone, Copy)]
 pub(crate) struct Said {
-    /// A row of texts, in which `{0}` to `{3}` stand for the slots.
-    pub advice: &'static Advice,
-    pub slots: [Slot; 4],
+    /// A row of texts, in which `{0}` to `{2}` stand for the slots.
+    pub advice: Advice,
+    pub slots: [Slot; 3],
     pub fact: Fact,
     pub change: Change,
 }
@@ -29,10 +42,8 @@ pub(crate) enum Slot {
 #[derive(Clone, Copy)]
 pub(crate) enum Fact {
     Nothing,
-    /// The name or the address was given first at this place.
-    GivenFirst(usize),
-    /// The label stands at this place.
-    Label(usize),
+    /// What is in the line of this place.
+    Line(&'static str, usize),
     /// The line of VAR_GLOBAL at this place.
     Global(usize),
     /// The lines that store to the variable.
@@ -61,18 +72,17 @@ pub(crate) enum Change {
 
 impl Said {
     /// What a row says, and nothing else.
-    pub(crate) fn of(advice: &'static Advice) -> Said {
+    pub(crate) fn of(advice: Advice) -> Said {
         Said {
             advice,
-            slots: [Slot::Nothing, Slot::Nothing, Slot::Nothing, Slot::Nothing],
+            slots: [Slot::Nothing; 3],
             fact: Fact::Nothing,
             change: Change::Nothing,
         }
     }
 
-    /// The same, with what stands for the first two slots.
-    pub(crate) fn with_pair(self, first: Slot, second: Slot) -> Said {
-        let slots = [first, second, Slot::Nothing, Slot::Nothing];
+    /// The same, with what stands for the slots.
+    pub(crate) fn with_slots(self, slots: [Slot; 3]) -> Said {
         Said { slots, ..self }
     }
 

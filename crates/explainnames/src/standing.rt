@@ -1,11 +1,8 @@
 //! What stands at a place of a text.
 
-ghost use Rattle.std.specs.Prelude.{IsSome, IsTrue};
-ghost use Rattle.ilscope.specs.Declarations.{body_at};
-
 use explaincures::{AskedText, Spot};
 use ilblocks::BlockKind;
-use ilscope::{BodyNumber, Scope};
+use ilscope::Scope;
 use ilsource::{
     Configuration, Constant, Declaration, Declared, Element, Line, Name, Operand, Program, Purpose,
     Source, SourceFunction, Specification, Symbol, TaskDeclaration,
@@ -42,15 +39,20 @@ pub(crate) enum Standing {
     Own(Declared),
     /// A name that a program declares.
     Declared(Declared),
-    /// What a line uses.
-    Used {
-        is_in_function: bool,
-        /// Where its instruction stands, in or out of parentheses.
-        instruction: usize,
-        purpose: Purpose,
-        symbol: Symbol,
-    },
+    Used(Used),
     Other,
+}
+
+/// What a line uses.
+#[derive(Clone, Copy)]
+pub(crate) struct Used {
+    pub symbol: Symbol,
+    /// Where its instruction stands, in or out of parentheses.
+    pub instruction: usize,
+    pub is_in_function: bool,
+    /// Whether it is a function that is invoked, or the port of an argument.
+    pub is_invoked: bool,
+    pub is_passed: bool,
 }
 
 impl<'a, 's> FaultPlace<'a, 's> {
@@ -80,48 +82,52 @@ impl<'a, 's> FaultPlace<'a, 's> {
 
     /// The kind of the block instance that has a name in the program in which the place stands.
     pub(crate) fn block_named(&self, name: Name) -> Option<BlockKind> {
-        let program = self.program()?;
-        if !is_there(self.scope, program) {
-            return None;
-        }
-        let (_, kind) = self.scope.block(program, name)?;
-        Some(kind)
+        let mut declarations = self.declarations().iter();
+        declarations.find_map(|one| match one.declared_kind() {
+            Declared::Blocks(kind) if self.has_name(one, name) => Some(kind),
+            _ => None,
+        })
     }
 
     /// Whether a variable has a name in the program in which the place stands, or an external.
     pub(crate) fn is_variable(&self, name: Name) -> bool {
-        let Some(program) = self.program() else {
-            return false;
-        };
-        is_there(self.scope, program)
-            && (self.scope.variable_number(program, name).is_some()
-                || self.scope.external_number(program, name).is_some())
+        let mut declarations = self.declarations().iter();
+        declarations.any(|one| {
+            !matches!(one.declared_kind(), Declared::Blocks(_)) && self.has_name(one, name)
+        })
     }
 
     /// Whether the program in which the place stands declares a name with a type that there is not,
     /// so that a function block may be meant.
     pub(crate) fn has_unknown_type(&self, name: Name) -> bool {
-        let Some(Element::Program(program)) = element_at(self.scope.source(), self.spot.at) else {
-            return false;
-        };
-        program.declarations().iter().any(|declaration| {
-            let mut names = declaration.names().iter();
-            names.any(|one| one.is_same(name, self.spot.text))
-                && self.is_of_unknown_type(declaration.declared_kind())
+        let mut declarations = self.declarations().iter();
+        declarations.any(|one| match one.declared_kind() {
+            Declared::Variables {
+                specification: Specification::Named(kind),
+                ..
+            } => self.has_name(one, name) && !self.has_type(kind),
+            _ => false,
         })
     }
 
-    /// Whether the text has no type of the name that variables are declared with.
-    fn is_of_unknown_type(&self, declared: Declared) -> bool {
-        let Declared::Variables {
-            specification: Specification::Named(name),
-            ..
-        } = declared
-        else {
-            return false;
-        };
+    /// What the program in which the place stands declares.
+    fn declarations(&self) -> &'s [Declaration] {
+        match element_at(self.scope.source(), self.spot.at) {
+            Some(Element::Program(program)) => program.declarations(),
+            _ => &[],
+        }
+    }
+
+    /// Whether a declaration has a name.
+    fn has_name(&self, declaration: &Declaration, name: Name) -> bool {
+        let mut names = declaration.names().iter();
+        names.any(|one| one.is_same(name, self.spot.text))
+    }
+
+    /// Whether the text has a type of a name.
+    fn has_type(&self, name: Name) -> bool {
         let mut elements = self.scope.source().elements().iter();
-        !elements.any(|element| match element {
+        elements.any(|element| match element {
             Element::DerivedType(one) => one.name.is_same(name, self.spot.text),
             _ => false,
         })
@@ -138,35 +144,6 @@ impl<'a, 's> FaultPlace<'a, 's> {
         let number = self.scope.function_number(self.name())?;
         Some(self.scope.functions().get(number)?.function())
     }
-
-    /// Whether the first function that has the name at the place has no input.
-    pub(crate) fn lacks_inputs(&self) -> bool {
-        match self.function_named() {
-            Some(function) => function.inputs().is_empty(),
-            None => false,
-        }
-    }
-
-    /// The program in which the place stands.
-    fn program(&self) -> Option<BodyNumber> {
-        let Some(Element::Program(program)) = element_at(self.scope.source(), self.spot.at) else {
-            return None;
-        };
-        let from = program.name().from;
-        let mut programs = self.scope.programs().iter();
-        let number = programs.position(|one| one.program().name().from == from)?;
-        Some(BodyNumber::Program(number))
-    }
-}
-
-/// Whether there is a program or a function of this number.
-fn is_there(scope: &Scope, body: BodyNumber) -> bool
-    ensures { IsTrue result → IsSome (body_at scope.now.tree body) }
-{
-    match body {
-        BodyNumber::Program(number) => scope.programs().get(number).is_some(),
-        BodyNumber::Function(number) => scope.functions().get(number).is_some(),
-    }
 }
 
 /// What stands at a place.
@@ -176,35 +153,38 @@ fn standing_at(alloc: Global, source: &Source, at: usize) -> Result<Standing, Al
             return Ok(found);
         }
     }
-    match element_at(source, at) {
+    let (declared, is_in_function, lines) = match element_at(source, at) {
         Some(Element::DerivedType(one)) => {
-            Ok(Standing::Type(variables_of(one.specification, one.initial)))
+            return Ok(Standing::Type(variables_of(one.specification, one.initial)));
         }
-        Some(Element::Function(function)) => in_function(alloc, function, at),
-        Some(Element::Program(program)) => in_program(alloc, program, at),
-        None => Ok(Standing::Other),
+        Some(Element::Function(function)) => (in_function(function, at), true, function.lines()),
+        Some(Element::Program(program)) if program.name().from == at => {
+            return Ok(Standing::Program);
+        }
+        Some(Element::Program(program)) => {
+            let declared = declared_at(program.declarations(), at);
+            (
+                declared.map(|one| Standing::Declared(one.1)),
+                false,
+                program.lines(),
+            )
+        }
+        None => return Ok(Standing::Other),
+    };
+    match declared {
+        Some(declared) => Ok(declared),
+        None => used_at(alloc, is_in_function, lines, at),
     }
 }
 
 /// The function or the program in which a place stands, or the type whose name stands there.
 fn element_at(source: &Source, at: usize) -> Option<&Element> {
-    let mut found: Option<&Element> = None;
-    for element in source.elements() {
-        let from = name_of(element).from;
-        if from == at || from < at && !matches!(element, Element::DerivedType(_)) {
-            found = Some(element);
-        }
-    }
-    found
-}
-
-/// The name of a type, a function or a program.
-fn name_of(element: &Element) -> Name {
-    match element {
-        Element::DerivedType(declared) => declared.name,
-        Element::Function(function) => function.name(),
-        Element::Program(program) => program.name(),
-    }
+    let mut elements = source.elements().iter().rev();
+    elements.find(|element| match *element {
+        Element::DerivedType(declared) => declared.name.from == at,
+        Element::Function(function) => function.name().from <= at,
+        Element::Program(program) => program.name().from <= at,
+    })
 }
 
 /// What is declared of these parts.
@@ -215,34 +195,17 @@ fn variables_of(specification: Specification, initial: Option<Constant>) -> Decl
     }
 }
 
-/// What stands at a place of a function.
-fn in_function(
-    alloc: Global,
-    function: &SourceFunction,
-    at: usize,
-) -> Result<Standing, AllocError> {
+/// What is declared at a place of a function.
+fn in_function(function: &SourceFunction, at: usize) -> Option<Standing> {
     if function.name().from == at {
         let result = variables_of(function.result_type(), None);
-        return Ok(Standing::Function(!function.inputs().is_empty(), result));
+        return Some(Standing::Function(!function.inputs().is_empty(), result));
     }
     if let Some((number, declared)) = declared_at(function.inputs(), at) {
-        return Ok(Standing::Input(number, declared));
+        return Some(Standing::Input(number, declared));
     }
-    match declared_at(function.variables(), at) {
-        Some((_, declared)) => Ok(Standing::Own(declared)),
-        None => used_at(alloc, true, function.lines(), at),
-    }
-}
-
-/// What stands at a place of a program.
-fn in_program(alloc: Global, program: &Program, at: usize) -> Result<Standing, AllocError> {
-    if program.name().from == at {
-        return Ok(Standing::Program);
-    }
-    match declared_at(program.declarations(), at) {
-        Some((_, declared)) => Ok(Standing::Declared(declared)),
-        None => used_at(alloc, false, program.lines(), at),
-    }
+    let (_, declared) = declared_at(function.variables(), at)?;
+    Some(Standing::Own(declared))
 }
 
 /// What the name at a place is declared as, and how many names stand before it.
@@ -272,12 +235,13 @@ fn used_at(
     for used in &uses_of(alloc, lines)? {
         if let Operand::Name(symbol) = used.operand {
             if stands_at(symbol, at) {
-                return Ok(Standing::Used {
-                    is_in_function,
-                    instruction: used.at,
-                    purpose: used.purpose,
+                return Ok(Standing::Used(Used {
                     symbol,
-                });
+                    instruction: used.at,
+                    is_in_function,
+                    is_invoked: matches!(used.purpose, Purpose::Invoke),
+                    is_passed: matches!(used.purpose, Purpose::Pass),
+                }));
             }
         }
     }

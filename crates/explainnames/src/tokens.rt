@@ -51,7 +51,14 @@ pub(crate) fn next_same(spot: &Spot, start: usize, role: Role) -> Option<Token> 
     for _ in 0..spot.text.len() {
         let found = token_at(spot.text, at)?;
         at = found.to;
-        if is_same(spot, found) && has_role(role, before, what_at(spot.text, at)) {
+        let is_same = match found.what {
+            What::Name => spot
+                .part(found.from, found.to)
+                .eq_ignore_ascii_case(spot.token()),
+            What::Address { .. } => what_at(spot.text, spot.at) == Some(found.what),
+            _ => false,
+        };
+        if is_same && has_role(role, before, what_at(spot.text, at)) {
             return Some(found);
         }
         before = Some(found.what);
@@ -59,41 +66,28 @@ pub(crate) fn next_same(spot: &Spot, start: usize, role: Role) -> Option<Token> 
     None
 }
 
-/// Whether a token is the name or the address that was found.
-fn is_same(spot: &Spot, found: Token) -> bool {
-    match found.what {
-        What::Name => spot
-            .part(found.from, found.to)
-            .eq_ignore_ascii_case(spot.token()),
-        What::Address { .. } => what_at(spot.text, spot.at) == Some(found.what),
-        _ => false,
-    }
-}
-
 /// Whether what stands between these two tokens has a role.
 fn has_role(role: Role, before: Option<What>, behind: Option<What>) -> bool {
-    let before = word_of(before);
-    match (role, behind) {
-        (Role::Label, behind) => behind == Some(What::Delimiter(Delimiter::Colon)),
-        (Role::Stored, _) => matches!(
-            before,
-            Some(Keyword::St | Keyword::Stn | Keyword::S | Keyword::R)
-        ),
-        (Role::Given, Some(What::Delimiter(Delimiter::Colon | Delimiter::Comma)))
-        | (Role::Given, Some(What::Delimiter(Delimiter::Assign)))
-        | (Role::Given, Some(What::Keyword(Keyword::At | Keyword::With))) => true,
-        (Role::Given, _) => matches!(
-            before,
-            Some(Keyword::Program | Keyword::Function | Keyword::Task | Keyword::At)
-        ),
-    }
-}
-
-/// The reserved word that a token is.
-fn word_of(what: Option<What>) -> Option<Keyword> {
-    match what {
+    let word = match before {
         Some(What::Keyword(word)) => Some(word),
         _ => None,
+    };
+    match role {
+        Role::Label => behind == Some(What::Delimiter(Delimiter::Colon)),
+        Role::Stored => matches!(
+            word,
+            Some(Keyword::St | Keyword::Stn | Keyword::S | Keyword::R)
+        ),
+        Role::Given => {
+            matches!(
+                behind,
+                Some(What::Delimiter(Delimiter::Colon | Delimiter::Comma | Delimiter::Assign))
+                    | Some(What::Keyword(Keyword::At | Keyword::With))
+            ) || matches!(
+                word,
+                Some(Keyword::Program | Keyword::Function | Keyword::Task | Keyword::At)
+            )
+        }
     }
 }
 
@@ -104,7 +98,7 @@ pub(crate) fn type_behind(text: &[u8], place: usize) -> (usize, usize) {
     let mut at = place;
     for _ in 0..text.len() {
         let Some(found) = token_at(text, at) else {
-            return (last, last);
+            break;
         };
         at = found.to;
         match (found.what, from) {

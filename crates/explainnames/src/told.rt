@@ -3,7 +3,7 @@
 
 use crate::standing::{FaultPlace, Standing};
 use ilscope::{Found, NameCause};
-use ilsource::{Purpose, Symbol};
+use ilsource::Symbol;
 
 /// What was told of a text up to a place.
 #[derive(Clone, Copy)]
@@ -15,64 +15,48 @@ pub(crate) struct Told {
 }
 
 impl Told {
-    /// What is told where this fault is the first.
-    pub(crate) fn of(place: &FaultPlace, found: Found) -> Told {
-        let mut told = Told {
+    /// Nothing.
+    pub(crate) fn nothing() -> Told {
+        Told {
             place: None,
             call: None,
-        };
-        told.add(place, found);
-        told
+        }
     }
 
-    /// Tells of the next fault, and whether it is told. Too many of something is left out.
+    /// Tells of the next fault, and whether it is told. Left out is too much of something, and an
+    /// operand of a function that there is not: such a line may be meant to be another instruction.
     pub(crate) fn add(&mut self, place: &FaultPlace, found: Found) -> bool {
-        let is_known = self.place == Some(found.at) || self.has_operand(place);
+        let (is_operand, call) = match place.standing {
+            Standing::Used(used) if used.is_invoked && found.cause == NameCause::Unknown => {
+                (self.call == Some(used.instruction), Some(used.instruction))
+            }
+            Standing::Used(used) => (self.call == Some(used.instruction), self.call),
+            _ => (false, self.call),
+        };
+        let is_known = self.place == Some(found.at) || is_operand;
         if is_known || found.cause == NameCause::TooMany || follows(place, found.cause) {
             return false;
         }
-        self.place = Some(found.at);
-        if let Standing::Used {
-            instruction,
-            purpose: Purpose::Invoke,
-            ..
-        } = place.standing
-        {
-            if found.cause == NameCause::Unknown {
-                self.call = Some(instruction);
-            }
-        }
+        (self.place, self.call) = (Some(found.at), call);
         true
-    }
-
-    /// Whether an operand stands there of a function that there is not: such a line may be meant to
-    /// be another instruction.
-    fn has_operand(&self, place: &FaultPlace) -> bool {
-        match place.standing {
-            Standing::Used { instruction, .. } => self.call == Some(instruction),
-            _ => false,
-        }
     }
 }
 
 /// Whether a fault only follows from one before it.
 fn follows(place: &FaultPlace, cause: NameCause) -> bool {
-    let Standing::Used {
-        purpose,
-        symbol,
-        ..
-    } = place.standing
-    else {
+    let Standing::Used(used) = place.standing else {
         return false;
     };
-    match (cause, symbol) {
+    match (cause, used.symbol) {
         (NameCause::Unknown, Symbol::Block(block)) => place.has_unknown_type(block),
+        // A call of what is no instance is at fault itself.
         (NameCause::Unknown, Symbol::Port { block, .. }) => {
-            // A call of what is no instance is at fault itself.
-            let is_passed = matches!(purpose, Purpose::Pass);
-            place.has_unknown_type(block) || is_passed && place.block_named(block).is_none()
+            place.has_unknown_type(block) || used.is_passed && place.block_named(block).is_none()
         }
-        (NameCause::BadDeclaration, Symbol::Function(_)) => place.lacks_inputs(),
+        (NameCause::BadDeclaration, Symbol::Function(_)) => match place.function_named() {
+            Some(function) => function.inputs().is_empty(),
+            None => false,
+        },
         _ => false,
     }
 }
