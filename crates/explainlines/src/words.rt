@@ -1,10 +1,13 @@
 //! Why a line is bad, where its words alone say it.
 
-use crate::forms::{Field, Form, Part, fields_behind, form_of, parts_of};
+use crate::forms::{BINDING, Field, Form, Part, SCENARIO, fields_behind, form_of, parts_of};
 use crate::reason::{Meant, Reason};
-use explaincures::is_near;
+use explaincures::{is_near, is_one_of};
 use limits::{MOST_BUSES, MOST_SOURCES};
 use wordlines::{hex_of, number_of, parts_around_dot};
+
+/// Words with which a text begins.
+const TEXT: &[&str] = &["(*", "TYPE", "FUNCTION", "PROGRAM", "CONFIGURATION"];
 
 /// What stands between the words of a list.
 const SIGNS: [char; 3] = [',', ' ', '\n'];
@@ -22,7 +25,7 @@ pub(crate) fn bad_words(line: &[u8], forms: &'static [Form]) -> Result<&'static 
     }
     let word = first_word(line);
     let Some(form) = form_of(forms, word) else {
-        return Err(unknown(word, forms));
+        return Err(foreign(word).unwrap_or(unknown(word, forms)));
     };
     match bad_fields(line, form) {
         Some(reason) => Err(reason),
@@ -60,6 +63,22 @@ fn empty_word(line: &[u8]) -> Option<usize> {
         at = at.saturating_add(word.len()).saturating_add(1);
     }
     None
+}
+
+/// Why a first word is none, where lines of another file begin with it.
+fn foreign(word: &[u8]) -> Option<Reason> {
+    let what = if form_of(BINDING, word).is_some() {
+        "{word} begins a line of a binding"
+    } else if form_of(SCENARIO, word).is_some() {
+        "{word} begins a line of a scenario"
+    } else if is_one_of(word, TEXT) {
+        "{word} begins a text, or a line of one"
+    } else {
+        return None;
+    };
+    let cure = "the text comes first, the binding second and the scenario third; a comment of\n\
+        a binding or a scenario has # before it";
+    Some(Reason::of(what, cure).at(0, word.len()))
 }
 
 /// Why a first word is none: with the one that is meant, which is near, or differs in letter case.
@@ -171,6 +190,8 @@ fn is_met(field: Field, word: &[u8]) -> bool {
 fn left_out(form: &Form, word: &[u8]) -> &'static str {
     if word.starts_with(b"#") {
         "give a comment a line of its own"
+    } else if word.starts_with(b"(*") || word.starts_with(b"//") || word.starts_with(b";") {
+        "give a comment a line of its own, with # before it"
     } else if parts_of(form).iter().any(|part| part.0.as_bytes() == word) {
         "give the level once, then the groups, and then the scenes"
     } else {

@@ -11,11 +11,19 @@ const EXCHANGED: Advice = advice!("a range whose lower limit is above the upper 
     "write the lower limit first";
     "level : INT (0..254);");
 
+const LOCATED: Advice = advice!("a type that does not fit the address";
+    "a level %QB is USINT or a range of 0 to 255, an answer, an information and a\n\
+        count %IW are numbers, a trigger %IX is BOOL";
+    "lamp AT %QB0.5 : USINT (0..254);");
+
 /// What is said of a bad declaration, or of a call that does not fit it.
 pub(crate) fn said_of_declaration(place: &FaultPlace) -> Said {
     let said = match place.standing {
         Standing::Task(_, task) => Some(Said::of(of_task(task))),
-        Standing::Global(true, declared) => Some(Said::of(of_located(declared))),
+        Standing::Global(true, declared) => match of_declared(declared) {
+            Some(said) if is_outside(declared) => Some(said),
+            _ => Some(Said::of(LOCATED)),
+        },
         Standing::Declared(Declared::External(_)) => different(place),
         // Without an input, that is what is at fault there.
         Standing::Function(false, _) => None,
@@ -49,17 +57,18 @@ fn of_task(task: TaskDeclaration) -> Advice {
     }
 }
 
-/// What is said of a global variable with an address.
-fn of_located(declared: Declared) -> Advice {
+/// Whether a range is none, or a first value stands outside it.
+fn is_outside(declared: Declared) -> bool {
     match declared {
         Declared::Variables {
             specification: Specification::Subrange { low, high, .. },
-            ..
-        } if low > high => EXCHANGED,
-        _ => advice!("a type that does not fit the address";
-            "a level %QB is USINT or a range of 0 to 255, an answer, an information and a\n\
-                count %IW are numbers, a trigger %IX is BOOL";
-            "lamp AT %QB0.5 : USINT (0..254);"),
+            initial,
+        } => {
+            let is_first =
+                |one| matches!(one, Constant::Number(first) if first < low || first > high);
+            low > high || initial.is_some_and(is_first)
+        }
+        _ => false,
     }
 }
 

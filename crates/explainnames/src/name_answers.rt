@@ -3,12 +3,12 @@
 use crate::addresses::said_of_address;
 use crate::declarations::said_of_declaration;
 use crate::name_causes::{
-    BACKWARD_JUMP, INPUT_RANGE_TOO_SMALL, NO_TASK, UNKNOWN_LABEL, WRITTEN_TWICE, given_twice,
-    too_many, writes_input,
+    BACKWARD_JUMP, INPUT_RANGE_TOO_SMALL, NO_TASK, OTHER_LABEL, UNKNOWN_LABEL, WRITTEN_TWICE,
+    given_twice, too_many, writes_input,
 };
 use crate::said::{Change, Fact, Said, Slot};
 use crate::standing::FaultPlace;
-use crate::tokens::{Role, same_before};
+use crate::tokens::{Role, next_same, same_before};
 use crate::unknown_names::said_of_unknown;
 use explaincures::{Advice, AskedText, FaultAnswer, Surroundings};
 use ilscope::{NameCause, Scope};
@@ -38,7 +38,7 @@ pub(crate) fn said_of(place: &FaultPlace, cause: NameCause) -> Result<Said, Allo
     Ok(match cause {
         NameCause::Unknown => said_of_unknown(place),
         NameCause::Twice => said_before(place, given_twice(place), "first given", Role::Given),
-        NameCause::UnknownLabel => Said::of(UNKNOWN_LABEL).with_change(Change::Near),
+        NameCause::UnknownLabel => unknown_label(place),
         NameCause::BackwardJump => {
             said_before(place, BACKWARD_JUMP, "the label stands", Role::Label)
         }
@@ -53,6 +53,17 @@ pub(crate) fn said_of(place: &FaultPlace, cause: NameCause) -> Result<Said, Allo
         }
         NameCause::BadDeclaration => said_of_declaration(place),
     })
+}
+
+/// What is said of a label that is not there: where it stands in another program, if it does.
+fn unknown_label(place: &FaultPlace) -> Said {
+    match next_same(&place.spot, 0, Role::Label) {
+        // A name with a colon behind it is declared elsewhere.
+        Some(label) if Surroundings::of(place.spot.text, label.from).is_in_body() => {
+            Said::of(OTHER_LABEL).with_fact(Fact::Line("the label stands", label.from))
+        }
+        _ => Said::of(UNKNOWN_LABEL).with_change(Change::Near),
+    }
 }
 
 /// What a row says of a name or an address, with the line in which it has a role before: first in

@@ -3,11 +3,15 @@
 use crate::said::advice;
 use crate::standing::{FaultPlace, Standing};
 use explaincures::Advice;
-use ilsource::Declared;
+use ilsource::{Declared, Purpose};
 use limits::{MOST_CALLS, MOST_FUNCTIONS, MOST_INPUTS, MOST_INSTANCES, MOST_TASKS};
 
 pub(crate) const UNKNOWN_LABEL: Advice = advice!("a label that does not exist";
     "write the label further on, or correct the name";
+    "skip:");
+
+pub(crate) const OTHER_LABEL: Advice = advice!("a label of another program or function";
+    "a jump stays in its program or function: write a label further on in it";
     "skip:");
 
 pub(crate) const BACKWARD_JUMP: Advice = advice!("a jump that does not lead forward";
@@ -38,7 +42,7 @@ const SHARED_NAME: Advice = advice!("a name that a type, a function or a program
 /// What is said of a name that is not declared, where nothing else is known of it.
 pub(crate) fn unknown(standing: Standing) -> Advice {
     match standing {
-        Standing::Used(used) if used.is_invoked => {
+        Standing::Used(used) if matches!(used.purpose, Purpose::Invoke) => {
             advice!("no instruction, and no function that is declared above";
                 "correct the name, or declare the function above the line that calls it; no\n\
                     function calls itself";
@@ -101,7 +105,7 @@ pub(crate) fn bad_declaration(standing: Standing) -> Advice {
             "a function keeps nothing from call to call: declare the instance in the\n\
                 program, and hand in what it gives as an input";
             "VAR_INPUT pressed : BOOL; END_VAR"),
-        Standing::Used(used) if used.is_invoked => {
+        Standing::Used(used) if matches!(used.purpose, Purpose::Invoke) => {
             advice!("a call with too few or too many operands";
                 "the current result goes to the first input: write an operand for each\n\
                     other one, in their order";

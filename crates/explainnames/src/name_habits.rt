@@ -123,6 +123,11 @@ const INSTRUCTIONS: &[NameHabit] = habits! {
             END_FUNCTION";
         "VAR button, light : BOOL; END_VAR\nLD button\nST light\nEND_PROGRAM") =>
         "" ["begin" "end" "network"];
+    advice!("a comparison as machines have it";
+        "EQ, NE, GT, GE, LE and LT compare, and leave TRUE or FALSE, which JMPC and\n\
+            JMPCN look at";
+        "LD level\nGT 5\nJMPC out") =>
+        "" ["cmp" "cp" "jz" "jnz" "je" "jne" "jg" "jl" "jge" "jle" "jmpz" "jmpnz" "beq" "bne" "bz" "bnz"];
 };
 
 /// What Siemens' lists have.

@@ -50,9 +50,8 @@ pub(crate) struct Used {
     /// Where its instruction stands, in or out of parentheses.
     pub instruction: usize,
     pub is_in_function: bool,
-    /// Whether it is a function that is invoked, or the port of an argument.
-    pub is_invoked: bool,
-    pub is_passed: bool,
+    /// For what it stands there.
+    pub purpose: Purpose,
 }
 
 impl<'a, 's> FaultPlace<'a, 's> {
@@ -239,8 +238,7 @@ fn used_at(
                     symbol,
                     instruction: used.at,
                     is_in_function,
-                    is_invoked: matches!(used.purpose, Purpose::Invoke),
-                    is_passed: matches!(used.purpose, Purpose::Pass),
+                    purpose: used.purpose,
                 }));
             }
         }

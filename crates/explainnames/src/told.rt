@@ -1,9 +1,9 @@
 //! Which faults of names are told of, one after the other: no two at one place, and none that only
 //! follows from another.
 
-use crate::standing::{FaultPlace, Standing};
+use crate::standing::{FaultPlace, Standing, Used};
 use ilscope::{Found, NameCause};
-use ilsource::Symbol;
+use ilsource::{Purpose, Symbol};
 
 /// What was told of a text up to a place.
 #[derive(Clone, Copy)]
@@ -27,7 +27,7 @@ impl Told {
     /// operand of a function that there is not: such a line may be meant to be another instruction.
     pub(crate) fn add(&mut self, place: &FaultPlace, found: Found) -> bool {
         let (is_operand, call) = match place.standing {
-            Standing::Used(used) if used.is_invoked && found.cause == NameCause::Unknown => {
+            Standing::Used(used) if is_invoked(used, found) => {
                 (self.call == Some(used.instruction), Some(used.instruction))
             }
             Standing::Used(used) => (self.call == Some(used.instruction), self.call),
@@ -42,6 +42,11 @@ impl Told {
     }
 }
 
+/// Whether what was found is a function that there is not.
+fn is_invoked(used: Used, found: Found) -> bool {
+    matches!(used.purpose, Purpose::Invoke) && found.cause == NameCause::Unknown
+}
+
 /// Whether a fault only follows from one before it.
 fn follows(place: &FaultPlace, cause: NameCause) -> bool {
     let Standing::Used(used) = place.standing else {
@@ -51,7 +56,8 @@ fn follows(place: &FaultPlace, cause: NameCause) -> bool {
         (NameCause::Unknown, Symbol::Block(block)) => place.has_unknown_type(block),
         // A call of what is no instance is at fault itself.
         (NameCause::Unknown, Symbol::Port { block, .. }) => {
-            place.has_unknown_type(block) || used.is_passed && place.block_named(block).is_none()
+            let is_passed = matches!(used.purpose, Purpose::Pass);
+            place.has_unknown_type(block) || is_passed && place.block_named(block).is_none()
         }
         (NameCause::BadDeclaration, Symbol::Function(_)) => match place.function_named() {
             Some(function) => function.inputs().is_empty(),

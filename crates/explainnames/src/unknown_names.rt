@@ -7,7 +7,7 @@ use crate::said::{Change, Fact, Said, Slot, advice};
 use crate::standing::{FaultPlace, Standing};
 use crate::tokens::type_behind;
 use explaincures::{Advice, Spot, Surroundings, content_len, is_one_of};
-use ilsource::Symbol;
+use ilsource::{Purpose, Symbol};
 use iltokens::Keyword;
 
 const NO_VARIABLE: Advice = advice!("a block instance where a variable is asked for";
@@ -25,6 +25,23 @@ const NO_BLOCK: Advice = advice!("a variable where a block instance is asked for
 const NO_INSTRUCTION: Advice = advice!("a variable where an instruction is asked for";
     "a line begins with an instruction: LD loads the variable, ST stores to it";
     "LD light");
+
+const CALLED_FUNCTION: Advice = advice!("a function where a block instance is asked for";
+    "a line begins with the function's name, without CAL: the current result is its\n\
+        first argument, and the others stand behind the name";
+    "LD level\nhalf\nST level");
+
+const LOADED_FUNCTION: Advice = advice!("a function where a variable is asked for";
+    "load the first argument, and write the function's name on a line of its own\n\
+        below: what it gives is the current result then";
+    "LD level\nhalf\nST level");
+
+/// A name that is given to an input of a block that sends.
+const INPUT: Advice = advice!("a name that is not declared";
+    "correct or declare the name, or write a number: ADR is 0 to 63 for a short\n\
+        address, 64 to 79 for the groups 0 to 15, and 80 for all gear; CMD counts the\n\
+        commands of the block from 0";
+    "CAL all(ADR := 80, CMD := 0)");
 
 /// An instruction of logic where nothing stands that it could go on with.
 const LOADED: Advice = advice!("an instruction that has another word here";
@@ -113,9 +130,43 @@ fn undeclared(place: &FaultPlace) -> Option<Said> {
         (Some(_), _) => return Some(Said::of(NO_VARIABLE)),
         (None, true) if is_first => (NO_INSTRUCTION, "LD "),
         (None, true) => return Some(Said::of(NO_BLOCK)),
-        (None, false) => return no_external(place),
+        (None, false) => {
+            return of_function(place)
+                .or(no_external(place))
+                .or(of_input(place));
+        }
     };
     Some(Said::of(advice).with_change(Change::Put(spot.at, spot.at, word)))
+}
+
+/// What is said of a function in a program, where no function can stand: without CAL, where nothing
+/// stands behind it.
+fn of_function(place: &FaultPlace) -> Option<Said> {
+    let spot = &place.spot;
+    place.function_named()?;
+    let Standing::Used(used) = place.standing else {
+        return None;
+    };
+    match used.purpose {
+        _ if used.is_in_function => None,
+        Purpose::Call => {
+            let (from, _) = spot.first_place();
+            Some(Said::of(CALLED_FUNCTION).with_change(Change::Put(from, spot.at, "")))
+        }
+        Purpose::Read => Some(Said::of(LOADED_FUNCTION)),
+        _ => None,
+    }
+}
+
+/// What is said of a name that an address or a command is given by.
+fn of_input(place: &FaultPlace) -> Option<Said> {
+    let front = place.spot.front().trim_ascii_end();
+    let named = front.strip_suffix(b":=".as_slice())?.trim_ascii_end();
+    let is_number = matches!(
+        named,
+        [.., b'A' | b'a', b'D' | b'd', b'R' | b'r'] | [.., b'C' | b'c', b'M' | b'm', b'D' | b'd']
+    );
+    is_number.then_some(Said::of(INPUT).with_change(Change::Near))
 }
 
 /// What is said of a name of the configuration, or of a type: another one may be near.

@@ -145,6 +145,13 @@ fn of_other(cause: TextCause, spot: &Spot) -> Said {
             ..said.put((spot.line_to, spot.line_to), " *)")
         },
         TextCause::NotAscii if is_marked(spot) => said.put((0, 3), ""),
+        TextCause::NotAscii => match spot.rest() {
+            [0xc2, 0xa0, ..] => said.put((spot.at, spot.at.saturating_add(2)), " "),
+            [0xe2, 0x80 | 0x88, 0x90..=0x95, ..] => {
+                said.put((spot.at, spot.at.saturating_add(3)), "-")
+            }
+            _ => said,
+        },
         _ => said,
     }
 }
@@ -159,6 +166,17 @@ fn row_of(cause: TextCause, spot: &Spot) -> Advice {
     match (cause, spot.token()) {
         (TextCause::NotAscii, _) if is_marked(spot) => advice!("a byte order mark";
             "save the file without one: as ASCII, or as UTF-8 without a mark";
+            "PROGRAM stairs"),
+        (TextCause::NotAscii, _) if spot.rest().starts_with(b"\xc2\xa0") => advice!(
+            "a blank that is not the one of the keyboard";
+            "write a blank or a tab";
+            "LD lamp"),
+        (TextCause::NotAscii, _) if spot.rest().starts_with(b"\xe2\x80") => advice!(
+            "a sign of typesetting";
+            "write - for a dash, and names without quotation marks";
+            "ADD -5"),
+        (TextCause::NotAscii, [0xfe | 0xff, ..]) => advice!("a text in UTF-16";
+            "save the file as ASCII, or as UTF-8 without a mark";
             "PROGRAM stairs"),
         (TextCause::NotAscii, _) => advice!("a character that is not ASCII";
             "write names without accents; in comments any character may stand";

@@ -48,6 +48,12 @@ fn in_body(word: &[u8]) -> Example {
             "the inputs stand in parentheses, each with := and its value",
             "CAL rest(IN := pressed, PT := T#3m)",
         )
+    } else if is_one_of(word, &["LIMIT"]) {
+        (
+            "LIMIT takes the lower limit, a comma and the upper one, and keeps the current\n\
+                result between them",
+            "LD level\nLIMIT 0, 200",
+        )
     } else {
         (
             "an instruction stands on a line of its own, with its operand behind it",

@@ -83,7 +83,8 @@ impl Said {
         let is_open = !around.is_in_body() || around.open > 0 || edit.with.contains(&b'(');
         // What was found stands on a line behind the change: that line shows whether it helps.
         let is_shown = edit.to <= standing.spot.line_from;
-        let with_next = self.trial == Trial::NextLine && is_open && !is_shown;
+        let is_bold = self.trial == Trial::NextLine && is_open;
+        let with_next = (is_bold || self.trial == Trial::Behind) && !is_shown;
         edit.is_read(alloc, &standing.spot, around.from, with_next)
     }
 

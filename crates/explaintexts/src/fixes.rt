@@ -1,9 +1,28 @@
 //! What people write, changed to what is meant.
 
 use crate::habit::Fix;
-use crate::habits::is_name;
+use crate::habits::{is_apart, is_name};
 use crate::said::{Change, Said, Standing};
-use explaincures::{Advice, Spot, content_len, near_word, part};
+use explaincures::{Advice, Spot, content_len, is_one_of, near_word, part};
+
+/// Operators of Structured Text, and their words.
+const OPERATORS: &[(&str, &str)] = &[
+    ("AND", "AND"),
+    ("&", "AND"),
+    ("OR", "OR"),
+    ("XOR", "XOR"),
+    ("+", "ADD"),
+    ("-", "SUB"),
+    ("*", "MUL"),
+    ("/", "DIV"),
+    ("MOD", "MOD"),
+    ("=", "EQ"),
+    ("<>", "NE"),
+    ("<", "LT"),
+    ("<=", "LE"),
+    (">", "GT"),
+    (">=", "GE"),
+];
 
 /// What is said of a habit, with the change that is meant.
 pub(crate) fn meant(standing: &Standing, row: Advice, fix: Fix) -> Said {
@@ -26,6 +45,16 @@ pub(crate) fn meant(standing: &Standing, row: Advice, fix: Fix) -> Said {
         Fix::Call => call(said, spot, before.0),
         Fix::Milliseconds => with_milliseconds(said, spot),
         Fix::LoadAndStore => load_and_store(said, spot),
+        Fix::JoinedBefore => said.put((content_len(spot.part(0, before.0)), before.0), "_"),
+        Fix::Pair(with) => {
+            let found = (spot.at, spot.found_to());
+            said.put_parts((before.0, found.1), with, [before, found])
+        }
+        Fix::Broken => {
+            let from = spot.line_from.saturating_add(content_len(spot.front()));
+            said.put((from, spot.at), "\n")
+        }
+        Fix::Found(..) | Fix::Rest(..) | Fix::Turned | Fix::Again => behind(said, spot, fix),
         Fix::Comment | Fix::Bare => within(said, spot, fix),
         Fix::Unquoted => {
             let to = spot.at.saturating_add(quoted_len(spot.rest()).unwrap_or(0));
@@ -35,10 +64,38 @@ pub(crate) fn meant(standing: &Standing, row: Advice, fix: Fix) -> Said {
     }
 }
 
+/// What stands from the place up to the end of the line, changed.
+fn behind(said: Said, spot: &Spot, fix: Fix) -> Said {
+    let content = |len: usize| spot.trimmed(spot.at.saturating_add(len), spot.line_to);
+    let line = (spot.at, spot.line_to);
+    match fix {
+        Fix::Found(len, word) => {
+            let to = spot.at.saturating_add(usize::from(len));
+            said.put((spot.at, to), word)
+        }
+        Fix::Rest(len, with) => said.put_parts(line, with, [content(usize::from(len)); 2]),
+        Fix::Turned => {
+            let name = content(spot.token().len());
+            said.put_parts(line, "{1} : {0}", [(spot.at, spot.found_to()), name])
+        }
+        _ => {
+            let word = spot.first_place();
+            let said = said.put((word.0, spot.line_to), "{0} {1}\n{i}{0} {2}");
+            let first = spot.trimmed(word.1, spot.at);
+            let second = content(1);
+            Said {
+                parts: [word, first, second, second, second],
+                ..said
+            }
+        }
+    }
+}
+
 /// What stands up to the end of the line, without the parentheses around it; or as a comment,
 /// without the signs that begin and end one; nothing where they do not end with the line.
 fn within(said: Said, spot: &Spot, fix: Fix) -> Said {
     let (first, last, with) = match (fix, spot.rest()) {
+        (Fix::Bare, [b'(', .., b')']) if is_apart(spot) => (1, 1, "{0}"),
         (Fix::Bare, [b'(', .., b')']) => (1, 1, " {0}"),
         (Fix::Bare, _) => return said,
         (_, [b'/', b'*', .., b'*', b'/']) => (2, 2, "(* {0} *)"),
@@ -91,13 +148,48 @@ fn with_milliseconds(said: Said, spot: &Spot) -> Said {
     said.put_parts((from, to), with, [(from, dot), behind])
 }
 
-/// `a := b;` as `LD b` and `ST a`.
+/// `a := b;` as `LD b` and `ST a`, `a := NOT b;` with LDN, and `a := b OP c;` with the operator's
+/// word and `c` on a line between; behind ST too.
 fn load_and_store(said: Said, spot: &Spot) -> Said {
-    let name = spot.trimmed(spot.line_from, spot.at);
-    let (first, last) = spot.trimmed(spot.at.saturating_add(2), spot.line_to);
-    let value = match spot.part(first, last) {
-        [.., b';'] => spot.trimmed(first, last.saturating_sub(1)),
-        _ => (first, last),
+    let sign = spot
+        .rest()
+        .windows(2)
+        .position(|pair| pair == b":=".as_slice());
+    let sign = spot.at.saturating_add(sign.unwrap_or(0));
+    let line = spot.first_place();
+    let is_store = is_one_of(spot.first_word(), &["ST"]);
+    let name = spot.trimmed(if is_store { line.1 } else { line.0 }, sign);
+    let (first, last) = spot.trimmed(sign.saturating_add(2), spot.line_to);
+    let last = first.saturating_add(match spot.part(first, last) {
+        [value @ .., b';'] => content_len(value),
+        value => value.len(),
+    });
+    let one = (first, Spot::of(spot.text, first).literal().1);
+    let (from, _) = spot.trimmed(one.1, last);
+    let operator = Spot::of(spot.text, from).token();
+    let behind = spot.trimmed(from.saturating_add(operator.len()), last);
+    let is_turned = is_one_of(spot.part(first, one.1), &["NOT"]);
+    let word = word_of(operator);
+    let (with, parts) = if is_turned {
+        ("LDN {2}\n{i}ST {1}", [one, name, (from, last)])
+    } else if word.is_empty() {
+        ("LD {0}\n{i}ST {1}", [(first, last), name, name])
+    } else {
+        ("LD {0}\n{i}{w} {2}\n{i}ST {1}", [one, name, behind])
     };
-    said.put_parts((name.0, spot.line_to), "LD {0}\n{i}ST {1}", [value, name])
+    let [value, name, second] = parts;
+    let said = Said {
+        parts: [value, name, second, second, second],
+        ..said
+    };
+    said.with_words((word, ""))
+        .put((line.0, spot.line_to), with)
+}
+
+/// The word of an operator of Structured Text; empty where it is none.
+fn word_of(operator: &[u8]) -> &'static str {
+    match OPERATORS.iter().find(|row| is_one_of(operator, &[row.0])) {
+        Some((_, word)) => word,
+        None => "",
+    }
 }

@@ -36,6 +36,7 @@ pub(crate) enum Part {
     Before, // the word before it
     Line, // the first word of the line
     Block, // the word of other languages that begins the block of variables
+    Any,
     Literal, // the number, time or address begins with it
     Whole, // the number, time or address
     Unit, // what stands behind the number
@@ -47,6 +48,8 @@ pub(crate) enum Part {
 pub(crate) enum Where {
     Anywhere,
     InBody, // among instructions
+    InCall,
+    InBlock, // in a block of variables or of types
     InFunction,
     InProgram,
     Outside, // outside programs, functions and configurations
@@ -54,6 +57,11 @@ pub(crate) enum Where {
     InOther, // in another block of variables than VAR_GLOBAL
     Names, // in VAR_GLOBAL, behind a name
     Types, // where a variable begins
+    Begins, // where a name is declared, behind its word, a semicolon or a comma
+    Titled, // where a function is named
+    Declares, // among instructions, where a type stands behind a colon of the line
+    Starts, // behind the type of a variable, as its first value
+    Behind, // a name behind the word VAR and a word on its line
     Qualifies, // where a name is declared
     Lists, // behind a colon
     Bounds, // behind a type of whole numbers
@@ -61,6 +69,16 @@ pub(crate) enum Where {
     Called, // behind a name
     Invoked, // the same, with inputs behind it
     Ends, // among instructions and not in a call
+    Goes, // the same, with something behind it that is no comment
+    Assigned, // behind the first name of a line with `:=` in it
+    Grouped, // behind an instruction that takes no parenthesis
+    Closes, // before `)`
+    Counted, // behind a number
+    Stored, // in a line that stores
+    Signed, // before a name, behind an instruction
+    Labels, // a label behind something else
+    Trails, // a name behind a word that ends something
+    Sole, // with no second one on the line
     Takes, // before a name or a number, as an instruction
     Opened, // before a parenthesis, first on its line
     Leads, // first on its line
@@ -74,6 +92,7 @@ pub(crate) enum Where {
     Bit, // before a number
     Unitless, // where it is no time
     Dotted, // where it has a dot in it
+    Parted, // where a comma and a digit stand behind it
     Address, // where it is one
     Absolute, // where it is one as Siemens' lists have it
 }
@@ -86,6 +105,9 @@ pub(crate) enum Fix {
     LeaveOutBefore, // the word before what was found
     Replace(&'static str), // the first word of the line
     Front(u8, &'static str), // so many characters at the number's front
+    Found(u8, &'static str), // so many characters at the place
+    Rest(u8, &'static str), // the rest of the line: `{0}` is what stands behind so many characters
+    Pair(&'static str), // what was found with the word before it, which are `{1}` and `{0}`
     Literal(&'static str), // the number
     Block(&'static str), // the word that begins the block of variables
     Comment, // the rest of the line becomes one
@@ -95,4 +117,8 @@ pub(crate) enum Fix {
     Call, // with CAL before the instance
     Unquoted,
     Joined, // with the word before it
+    JoinedBefore, // the word before it with that before
+    Turned, // the word and what stands behind it, with a colon between
+    Again, // the first word of the line before each of two operands
+    Broken, // on a line of its own
 }

@@ -31,6 +31,11 @@ const NAMED: Advice = advice!("an address where a name is asked for";
     "give the address a name in VAR_GLOBAL, and write that name";
     "VAR_GLOBAL lamp AT %QB0.5 : USINT (0..254); END_VAR");
 
+pub(crate) const PERCENT: Advice = advice!("a percent sign";
+    "a share of a value is a multiplication, and then a division; a level is a\n\
+        number of 0 to 254";
+    "MUL 50\nDIV 100");
+
 const TRUTH_SIGN: Advice = advice!("a sign that is not an operator";
     "operators are words: AND, OR, XOR and NOT combine truth values";
     "OR button");
@@ -41,11 +46,16 @@ const UNIT: Advice = advice!("a time without T# before it";
 
 /// Comments, arrays and quotes.
 pub(crate) const QUOTES: &[Habit] = habits! {
+    advice!("a rung of a ladder diagram";
+        "LD loads the first contact, AND takes the next one in its row, OR that of a\n\
+            branch, with an N where it is closed at rest; ST is the coil";
+        "LD button\nANDN off\nST light") =>
+        Rest Anywhere ["--|", "--[", "--(", "|--", "[--", "|-|", "-|", "-["] Nothing;
     advice!("a comment as other languages have it";
         "a comment begins with (* and ends with *)";
         "(* the stairs *)") =>
         Rest Anywhere ["//", "/*", "--"] Comment, Rest Plain ["{"] Comment,
-        Rest Apart ["# "] Comment,
+        Rest Apart ["# "] Comment, Rest Sole ["'"] Comment,
         Rest Leads ["#"] Comment;
     advice!("# before a name"; "write the name alone"; "LD level") =>
         Rest Prefix ["#"] Front(1, "");
@@ -82,7 +92,12 @@ pub(crate) const STATEMENTS: &[Habit] = habits! {
             Nothing;
     advice!("an assignment of Structured Text";
         "load the value, and store it: each instruction has a line of its own";
-        "LD 200\nST lamp") => Rest InBody [":="] LoadAndStore;
+        "LD 200\nST lamp") =>
+        Rest InBody [":="] LoadAndStore, Rest Assigned ["."] LoadAndStore;
+    advice!("a semicolon behind an instruction";
+        "leave it out: an instruction ends with its line; what stands behind it has a\n\
+            line of its own, or is a comment between (* and *)";
+        "ST lamp  (* the lamp *)") => Rest Goes [";"] Nothing;
     advice!("a semicolon behind an instruction";
         "leave it out: an instruction ends with its line";
         "ST lamp") => Rest Ends [";"] LeaveOut;
@@ -90,6 +105,11 @@ pub(crate) const STATEMENTS: &[Habit] = habits! {
 
 /// What the language has, where it cannot stand.
 pub(crate) const PLACES: &[Habit] = habits! {
+    advice!("VAR apart from its word";
+        "write both as one word, with _ between them";
+        "VAR_EXTERNAL lamp : USINT (0..254); END_VAR") =>
+        Before Behind ["external", "input", "global"] JoinedBefore,
+        Rest Anywhere ["var external", "var input", "var global"] Found(4, "VAR_");
     advice!("variables behind the first instruction";
         "declare all of them above it, behind the line of PROGRAM or FUNCTION";
         "PROGRAM hall\nVAR count : UINT; END_VAR\nLD count") =>
@@ -109,6 +129,32 @@ pub(crate) const PLACES: &[Habit] = habits! {
         "the name stands first, and the type behind a colon";
         "button : BOOL;") =>
         Token Types ["bool", "time", "sint", "int", "dint", "usint", "uint", "udint"] Nothing;
+    advice!("the type of a function before its name";
+        "the name stands first, and the type of the result behind a colon";
+        "FUNCTION half : INT (0..127)") =>
+        Token Titled ["bool", "time", "sint", "int", "dint", "usint", "uint", "udint"] Turned;
+    advice!("a name that begins with a digit";
+        "a name begins with a letter or _, here and wherever it is meant";
+        "lamp2 : BOOL;") =>
+        Rest Begins ["0", "1", "2", "3", "4", "5", "6", "7", "8", "9"] Nothing;
+    advice!("a first value of a block";
+        "an instance has none: its inputs are given in the call, or stored before";
+        "VAR rest : TON; END_VAR\nCAL rest(IN := pressed, PT := T#3m)") =>
+        Before Starts ["ton", "ctu", "r_trig", "gear_level", "gear_do", "gear_set", "gear_pair",
+            "gear_ask", "gear_read", "dev_do", "dev_scheme", "dev_ask"] Nothing;
+    advice!("a label behind an instruction";
+        "a label stands first on its line";
+        "ST lamp\nbelow: LD button") => Any Labels [""] Broken;
+    advice!("a colon before a label"; "the colon stands behind the name"; "below: LD lamp") =>
+        Rest LeadsInBody [":"] Rest(1, "{0}:");
+    advice!("a number first on its line";
+        "a line begins with an instruction or with a label, which is a name with a colon\n\
+            behind it";
+        "below: LD lamp") =>
+        Rest LeadsInBody ["0", "1", "2", "3", "4", "5", "6", "7", "8", "9"] Nothing;
+    advice!("a name behind the word that ends it";
+        "END_PROGRAM and the like stand alone: the name stands where it begins";
+        "PROGRAM hall\nEND_PROGRAM") => Any Trails [""] Nothing;
     advice!("a block where an instance of it is asked for";
         "declare an instance of the block in VAR, and write its name";
         "VAR rest : TON; END_VAR\nCAL rest(IN := pressed, PT := T#3m)") =>
@@ -131,6 +177,19 @@ pub(crate) const PLACES: &[Habit] = habits! {
         "their operands stand behind the word, without a parenthesis; what is computed\n\
             has to be stored before";
         "LIMIT 0, 200") => Rest Opens ["("] Bare;
+    advice!("parentheses around an operand";
+        "write the operand alone: a parenthesis stands behind an operator of two values";
+        "LD button") => Rest Grouped ["("] Bare;
+    advice!("a comma too many"; "leave it out: no input stands behind it"; "") =>
+        Before Closes [","] LeaveOutBefore;
+    advice!("-> before a port"; "a port stands behind a dot"; "LD rest.Q") =>
+        Rest InBody ["->"] Found(2, ".");
+    advice!("an expression for an input";
+        "an input takes a variable, a port or a value: compute before the call, and\n\
+            store to the input";
+        "LD pressed\nAND door\nST rest.IN\nCAL rest(PT := T#3m)") =>
+        Token InCall ["and", "or", "xor", "not", "add", "sub", "mul", "div", "mod", "&"] Nothing,
+        Rest InCall ["=", "<", ">", "*", "/", "+", "-"] Nothing;
     advice!("there are no enumerations";
         "give each state a number, and say in a comment what it means";
         "state : USINT (0..2);  (* off, low, high *)") => Rest Lists ["("] Nothing;
@@ -143,6 +202,9 @@ pub(crate) const OPERANDS: &[Habit] = habits! {
         "divide by 2 for each bit below it, and take what is left of a division by 2;\n\
             this is bit 3";
         "LD level\nDIV 8\nMOD 2\nEQ 1") => Before Bit ["."] Nothing;
+    advice!("a store to two variables";
+        "write it once for each, on a line of its own: the current result stays";
+        "ST lamp\nST lamp2") => Second Stored [","] Again;
     advice!("an instruction with two operands";
         "it takes one: the other value is the current result, which is loaded before";
         "LD level\nADD 10") => Second Anywhere [","] Nothing;
@@ -187,7 +249,8 @@ pub(crate) const SIGNS: &[Habit] = habits! {
 /// Numbers and times, and values with a type before them or a unit behind them.
 pub(crate) const NUMBERS: &[Habit] = habits! {
     BASED => Literal Anywhere ["0x"] Front(2, "16#"), Literal Anywhere ["0b"] Front(2, "2#");
-    DOTTED => Literal Dotted ["t#", "time#"] Milliseconds;
+    DOTTED =>
+        Literal Dotted ["t#", "time#"] Milliseconds, Literal Parted ["t#", "time#"] Nothing;
     advice!("a time with no unit, or with another one";
         "behind each number stands one of the units d, h, m, s and ms, in this order";
         "T#1m30s") =>
@@ -203,7 +266,12 @@ pub(crate) const NUMBERS: &[Habit] = habits! {
         Whole Anywhere ["bool#0", "bool#false"] Literal("FALSE"),
         Literal Anywhere ["bool#"] Nothing;
     FRACTION => Literal Anywhere ["real#", "lreal#"] Nothing;
+    PERCENT => Whole Anywhere ["%"] Nothing;
     UNIT =>
+        Token Counted ["ms", "s", "m", "h", "d"] Pair("T#{0}{1}"),
+        Token Counted ["min", "mins", "minute", "minutes"] Pair("T#{0}m"),
+        Token Counted ["sec", "secs", "second", "seconds"] Pair("T#{0}s"),
+        Token Counted ["hour", "hours"] Pair("T#{0}h"),
         Unit Anywhere ["ms", "s", "m", "h", "d"] Front(0, "T#"),
         Literal Anywhere ["s5time#"] Front(7, "T#"),
         Literal Anywhere ["s5t#"] Front(4, "T#");
@@ -211,6 +279,9 @@ pub(crate) const NUMBERS: &[Habit] = habits! {
 
 /// Addresses, words that say more of variables, and blocks that are not there.
 pub(crate) const ADDRESSES: &[Habit] = habits! {
+    advice!("AT is missing before an address";
+        "AT stands between the name and its address";
+        "lamp AT %QB0.5 : USINT (0..254);") => Literal Names ["%"] Front(0, "AT ");
     NAMED => Literal Address ["%"] Nothing;
     advice!("an address that this language does not have";
         "a level is %QB with bus.address, an answer, an information or a count %IW,\n\
@@ -236,14 +307,20 @@ pub(crate) const ADDRESSES: &[Habit] = habits! {
         Token Anywhere ["var_output", "var_in_out"] Nothing,
         Line Anywhere ["var_output", "var_in_out"] Nothing,
         Line Anywhere ["var_temp"] Replace("VAR"),
-        Block Anywhere ["var_output", "var_in_out"] Nothing;
+        Block Anywhere ["var_output", "var_in_out"] Nothing,
+        Before Behind ["output", "in_out"] Nothing;
     advice!("there is no VAR_TEMP";
         "write VAR; its variables keep their values from scan to scan, so store to them\n\
             before you load them";
-        "VAR share : UINT; END_VAR") => Block Anywhere ["var_temp"] Block("VAR");
+        "VAR share : UINT; END_VAR") =>
+        Block Anywhere ["var_temp"] Block("VAR"), Before Behind ["temp"] Nothing;
     advice!("there are no structures";
         "give each value a variable of its own";
         "VAR level : USINT (0..254); is_on : BOOL; END_VAR") => Before Anywhere ["struct"] Nothing;
+    advice!("a declaration among instructions";
+        "variables stand between VAR, VAR_INPUT or VAR_EXTERNAL and END_VAR, above the\n\
+            first instruction";
+        "VAR count : UINT; END_VAR\nLD count") => Any Declares [""] Nothing;
 };
 
 /// What Siemens' lists have that is no name, and other signs.
@@ -257,6 +334,14 @@ pub(crate) const SIEMENS: &[Habit] = habits! {
     advice!("= as an instruction"; "write ST"; "ST lamp") => Rest LeadsInBody ["= "] Front(1, "ST");
     advice!("ON as an instruction"; "write ORN"; "ORN button") => Rest LeadsInBody ["on "] Nothing;
     TRUTH_SIGN => Rest LeadsInBody ["||"] Front(2, "OR"), Rest LeadsInBody ["|"] Front(1, "OR");
+    advice!("a minus before a name";
+        "SUB takes away what ADD would add; MUL -1 turns the sign of the current result";
+        "LD level\nMUL -1") => Rest Signed ["-"] Nothing;
+    advice!("a sign in a declaration";
+        "a declaration has names of letters, digits and _, a colon, a type, and behind :=\n\
+            one number or truth value if need be: nothing is computed there";
+        "lamp, lamp2 : USINT (0..254) := 100;") =>
+        Rest InBlock ["=", "<", ">", "*", "/", "+", "-"] Nothing;
     LOGIC_SIGN =>
         Rest Anywhere ["=", "<", ">", "*", "/"] Nothing, Rest InBody ["+", "-", "!="] Nothing;
     TRUTH_SIGN => Rest InBody ["|"] Nothing;

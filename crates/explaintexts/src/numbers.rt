@@ -2,7 +2,7 @@
 //! does not have, or letters.
 
 use crate::decimals::Decimal;
-use crate::habit_rows::{BASED, DOTTED, FRACTION, GROUPED};
+use crate::habit_rows::{BASED, DOTTED, FRACTION, GROUPED, PERCENT};
 use crate::said::{Place, Said, Standing, advice};
 use explaincures::{Advice, Spot, content_len, part};
 
@@ -13,11 +13,6 @@ const NO_TIME: Advice = advice!("a number with a fraction where a time is asked 
 
 /// What is said where that helps.
 const TIMED: Advice = advice!("a time without T# before it"; "a time begins with T#"; "");
-
-const PERCENT: Advice = advice!("a percent sign";
-    "a share of a value is a multiplication, and then a division; a level is a\n\
-        number of 0 to 254";
-    "MUL 50\nDIV 100");
 
 const LETTERS: Advice = advice!("a number with letters in it";
     "a number has the digits 0 to 9, and hexadecimal ones behind 16#; a name begins\n\

@@ -2,9 +2,10 @@
 //! that could stand there is put in place of what was found or before it, the line is broken, or a
 //! sign is left out.
 
-use crate::said::{Change, Place, Said, Standing, advice};
+use crate::said::{Change, Place, Said, Standing, Trial, advice};
 use explaincures::{
-    Advice, Group, Possible, Spot, content_len, is_one_of, line_number, near_word, part, sign_name,
+    Advice, Group, OpenConstruct, Possible, Spot, content_len, is_one_of, line_number, near_word,
+    part, sign_name,
 };
 use iltokens::keyword_of;
 
@@ -26,20 +27,21 @@ const TIMED: Advice = advice!("a number where a time is asked for";
     "");
 
 /// The changes that are tried at a place, of which the first that helps is shown.
-pub(crate) fn proposals(standing: &Standing, possible: &Possible) -> [Option<Said>; 22] {
+pub(crate) fn proposals(standing: &Standing, possible: &Possible) -> [Option<Said>; 25] {
     let spot = &standing.spot;
     let found = (spot.at, spot.found_to());
     let last = standing.around.before;
     let is_timed = is_timed(spot, possible).then_some("");
     let is_renamed = is_renamed(spot, possible).then_some("");
     [
+        put(NEAR, last, meant_end(standing, possible), "{w}"),
         end(standing, possible),
         close(standing),
-        put(ASKED, found, other_end(standing, possible), "{w}"),
+        ended(put(ASKED, found, other_end(standing, possible), "{w}")),
         put(NEAR, found, near_word(spot.token()), "{w}"),
         put(NEAR, last, near_word(spot.part(last.0, last.1)), "{w}"),
         put(TIMED, found, is_timed, "T#{0}ms"),
-        put(ASKED, found, only(spot, possible), "{w}"),
+        ended(put(ASKED, found, only(spot, possible), "{w}")),
         put(RESERVED, found, is_renamed, "{0}_1"),
         before(standing, possible, ";"),
         before(standing, possible, ":"),
@@ -49,13 +51,44 @@ pub(crate) fn proposals(standing: &Standing, possible: &Possible) -> [Option<Sai
         before(standing, possible, "("),
         before(standing, possible, ")"),
         broken(standing, possible),
+        inner(standing, possible),
         without(spot, possible),
         instead(spot, possible, ":"),
         instead(spot, possible, ";"),
         instead(spot, possible, ","),
         instead(spot, possible, ":="),
         instead(spot, possible, ".."),
+        unopened(standing),
     ]
+}
+
+/// The same, where the next line reads too.
+fn ended(said: Option<Said>) -> Option<Said> {
+    let trial = Trial::Behind;
+    Some(Said { trial, ..said? })
+}
+
+/// The end of what is open, where the word before the place is near to it.
+fn meant_end(standing: &Standing, possible: &Possible) -> Option<&'static str> {
+    let (_, word) = standing.around.innermost()?.words();
+    let is_meant = near_word(standing.before()) == Some(word) && possible.has_word(word);
+    is_meant.then_some(word)
+}
+
+/// What is said of a word that ends something where nothing is open that it ends.
+fn unopened(standing: &Standing) -> Option<Said> {
+    let Standing { spot, around, .. } = standing;
+    let word = spot.token();
+    let is_its = |open: &Option<OpenConstruct>| {
+        open.is_some_and(|one| is_one_of(word, &[one.words().1]))
+    };
+    let row = advice!("{0} ends nothing that is open here";
+        "leave it out, or begin above it what it ends";
+        "VAR count : UINT; END_VAR");
+    let is_open = [around.unit, around.resource, around.block]
+        .iter()
+        .any(is_its);
+    (is_end(word) && !is_open).then_some(Said::of(row, (spot.at, spot.found_to())))
 }
 
 /// A text in place of a part, where there is a word for it.
@@ -119,7 +152,7 @@ fn other_end(standing: &Standing, possible: &Possible) -> Option<&'static str> {
 /// The one word that could stand where another one was found.
 fn only(spot: &Spot, possible: &Possible) -> Option<&'static str> {
     let word = possible.only_word()?;
-    is_bracket(spot.token()).then_some(word)
+    (is_bracket(spot.token()) && is_bracket(word.as_bytes())).then_some(word)
 }
 
 /// Whether a number stands where a time is asked for.
@@ -172,6 +205,22 @@ fn broken(standing: &Standing, possible: &Possible) -> Option<Said> {
     let from = spot.line_from.saturating_add(content_len(spot.front()));
     let said = Said::of(row, (spot.at, spot.found_to())).put((from, spot.at), "\n");
     (is_begun && is_apart).then_some(said)
+}
+
+/// What stands in a parenthesis of an instruction, where it is written in one line: the operator
+/// that was found, and the end, each on a line of its own.
+fn inner(standing: &Standing, possible: &Possible) -> Option<Said> {
+    let Standing { spot, around, .. } = standing;
+    let (from, to) = spot.trimmed(spot.at, spot.line_to);
+    let content = spot.part(from, to).strip_suffix(b")".as_slice())?;
+    let row = advice!("an expression in parentheses";
+        "write each of its instructions on a line of its own, and the ) too";
+        "");
+    let is_apart = possible.is_line_end && around.is_in_body() && around.open > 0;
+    let front_to = spot.line_from.saturating_add(content_len(spot.front()));
+    let inner = spot.trimmed(from, from.saturating_add(content.len()));
+    let said = Said::of(row, inner).put((front_to, spot.line_to), "\n{0}\n)");
+    (is_apart && keyword_of(spot.token()).is_some()).then_some(said)
 }
 
 /// The line without the sign that was found.

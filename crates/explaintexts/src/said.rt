@@ -69,6 +69,8 @@ pub(crate) enum Trial {
     /// To the end of the next one, where a line does not end what it says: the change may take away
     /// what the next line needs.
     NextLine,
+    /// To the end of the next one in any case.
+    Behind,
     /// To its end.
     Text,
 }
