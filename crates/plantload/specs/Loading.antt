@@ -75,3 +75,10 @@ IsLoadFaultOrMemory Faults Memory = ⊤
 IsLoadFaultOrMemory Faults (Text fault) = Faults (Text fault)
 IsLoadFaultOrMemory Faults (Name fault) = Faults (Name fault)
 IsLoadFaultOrMemory Faults (Code refused) = Faults (Code refused)
+
+-- the fault stands behind those of the text itself: the text reads whole
+abbrev pub IsBehindText : LoadFault → Type 0
+IsBehindText (Name fault) = ⊤
+IsBehindText (Code refused) = ⊤
+IsBehindText (Text fault) = ⊥
+IsBehindText Memory = ⊥

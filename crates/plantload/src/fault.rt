@@ -1,6 +1,7 @@
 //! Why a text is not loaded.
 
 use ilplan::Plan;
+use ilsource::Source;
 use ilsyms::NameFault;
 use iltext::TextFault;
 use ilverify::Refusal;
@@ -108,6 +109,15 @@ pub enum LoadFault {
     Name(NameFault),
     /// The first of its tasks whose code is refused.
     Code(RefusedTask),
+}
+
+/// Why a text is not loaded, with what was read of it.
+#[derive(Drop)]
+pub struct NotLoaded {
+    /// Its first fault, as it is reported.
+    pub fault: LoadFault,
+    /// Its source program, where it reads whole.
+    pub source: Option<Source>,
 }
 
 impl Error for LoadFault {}

@@ -1,29 +1,30 @@
 //! Loading, step by step.
 
-ghost use Rattle.std.specs.Prelude.{◌≡◌, ℕ, ◌<◌, length, Result, IfErr, IfOk, IfSome, slice_get};
+ghost use Rattle.std.specs.Prelude.{◌≡◌, ℕ, ◌<◌, List, length, Result, None, IfErr, IfOk, IfSome, IsSome};
+ghost use Rattle.std.specs.Prelude.{slice_get};
 ghost use Rattle.std.specs.Arc.{arc_value};
 ghost use Rattle.ilblocks.specs.Stores.{Store};
 ghost use Rattle.ilsource.specs.SourceTrees.{Tree};
 ghost use Rattle.iltext.specs.Parsing.{IsText};
 ghost use Rattle.ilplan.specs.PlanMeaning.{plan_scan};
-ghost use Rattle.ilsyms.specs.Faults.{IsWellNamed};
 ghost use Rattle.ilsyms.specs.Meaning.{source_scan};
-ghost use Rattle.ilsyms.specs.Resolved.{plan_of_tree, planned_functions, planned_task};
+ghost use Rattle.ilsyms.specs.Resolved.{planned_functions, planned_task};
 ghost use Rattle.ilsyms.specs.Tasks.{SourceTask};
 ghost use Rattle.ilcode.specs.Paths.{IsBound};
 ghost use Rattle.ilverify.specs.Certificates.{IsError};
 ghost use Rattle.ilcompile.specs.Loaded.{AreCodes, IsCodeOf, Loaded, listing_for};
 ghost use Rattle.plantload.specs.Loading.{IsCodeFault, IsLoadFault, IsLoaded, IsPlanFault};
-ghost use Rattle.plantload.specs.Loading.{AreMeant, IsLoadFaultOrMemory, IsPlanOfText, IsSetup};
-ghost use Rattle.plantload.specs.PrintedFaults.{of_error};
+ghost use Rattle.plantload.specs.Loading.{AreMeant, IsBehindText, IsLoadFaultOrMemory, IsPlanOfText};
+ghost use Rattle.plantload.specs.Loading.{IsSetup};
+ghost use Rattle.plantload.specs.PrintedFaults.{of_error, of_text};
 ghost use Rattle.plantload.specs.declared.fault.LoadFault.{LoadFault};
 
-use crate::fault::{LoadFault, RefusedTask};
+use crate::fault::{LoadFault, NotLoaded, RefusedTask};
 use ilcompile::{Setup, compile};
 use ilplan::Plan;
 use ilsource::Source;
 use ilsyms::resolve;
-use iltext::parse;
+use iltext::{TextFault, parse};
 use ilverify::{Verified, VerifyError, verify};
 use std::alloc::{AllocError, Global};
 use std::sync::Arc;
@@ -62,29 +63,66 @@ pub fn plan_of(alloc: Global, text: &[u8], binding: &Binding) -> Result<Plan, Lo
     ensures plan { IfOk result (IsPlanOfText binding.now text.now) }
     ensures fault { IfErr result (IsLoadFaultOrMemory (IsPlanFault binding.now text.now)) }
 {
-    let (_source, plan) = source_and_plan(alloc, text, binding)?;
+    let source = parse(alloc, text)?;
+    let plan = resolve(alloc, &source, binding)?;
     Ok(plan)
 }
 
-/// The source program of a text and its plan, or the text's first fault, else the least fault of
-/// its names.
+/// The setup of a text and its source program, which is read once; or the fault that [`load`] gives,
+/// with the source program of a text that reads whole. The source program takes memory while codes
+/// are verified.
 ///
 /// # Errors
 ///
 /// That fault, or that the allocator is out of memory.
-pub fn source_and_plan(
+pub fn load_with_source(
     alloc: Global,
     text: &[u8],
     binding: &Binding,
-) -> Result<(Source, Plan), LoadFault>
-    ensures spelled { IfOk result (λ read. IsText text.now read.0) }
-    ensures named { IfOk result (λ read. IsWellNamed read.0 binding.now) }
-    ensures resolved { IfOk result (λ read. read.1 ≡ plan_of_tree read.0 binding.now) }
-    ensures fault { IfErr result (IsLoadFaultOrMemory (IsPlanFault binding.now text.now)) }
+) -> Result<(Setup, Source), NotLoaded>
+    ensures setup { IfOk result (λ loaded. IsSetup binding.now text.now loaded.0) }
+    ensures spelled { IfOk result (λ loaded. IsText text.now loaded.1) }
+    ensures fault { IfErr result (λ stop.
+        IsLoadFaultOrMemory (IsLoadFault binding.now text.now) stop.fault) }
+    ensures read { IfErr result (λ stop. IfSome stop.source (IsText text.now)) }
+    // Of what stands behind the text's own faults, its source program comes with the fault.
+    ensures whole { IfErr result (λ stop. IsBehindText stop.fault → IsSome stop.source) }
 {
-    let source = parse(alloc, text)?;
-    let plan = resolve(alloc, &source, binding)?;
-    Ok((source, plan))
+    let source = match parse(alloc, text) {
+        Ok(source) => source,
+        Err(fault) => return Err(unread(fault)),
+    };
+    match setup_of_source(alloc, &source, binding) {
+        Ok(setup) => Ok((setup, source)),
+        Err(fault) => Err(NotLoaded {
+            fault,
+            source: Some(source),
+        }),
+    }
+}
+
+/// Why a text is not loaded that does not read whole.
+fn unread(fault: TextFault) -> NotLoaded
+    ensures fault { result.fault ≡ of_text fault }
+    ensures source { result.source ≡ None }
+    ensures front { ¬ IsBehindText result.fault }
+{
+    NotLoaded {
+        fault: LoadFault::from(fault),
+        source: None,
+    }
+}
+
+/// The setup of a source program, or the least fault of its names, else the first task whose code
+/// is refused.
+fn setup_of_source(alloc: Global, source: &Source, binding: &Binding) -> Result<Setup, LoadFault>
+    ensures setup { (bytes : List ℕ) → IsText bytes source.now
+        → IfOk result (IsSetup binding.now bytes) }
+    ensures fault { (bytes : List ℕ) → IsText bytes source.now
+        → IfErr result (IsLoadFaultOrMemory (IsLoadFault binding.now bytes)) }
+{
+    let plan = resolve(alloc, source, binding)?;
+    setup_of(alloc, plan)
 }
 
 /// A plan with the verified code of each of its tasks, or the first task whose code is refused.
