@@ -69,22 +69,22 @@ impl FaultAnswer {
         text: &[u8],
         edit: &Edit,
     ) -> Result<FaultAnswer, AllocError> {
-        let mut answer = self;
-        answer.example = Example::TriedLines(edit.lines(alloc, text)?);
-        Ok(answer)
+        let lines = edit.lines(alloc, text)?;
+        Ok(FaultAnswer {
+            example: Example::TriedLines(lines),
+            ..self
+        })
     }
 
     /// The same, with more that is known.
     pub fn with_facts(self, facts: String) -> FaultAnswer {
-        let mut answer = self;
-        answer.facts = facts;
-        answer
+        FaultAnswer { facts, ..self }
     }
 }
 
 /// Writes what is known, what helps, and the lines, of a fault on this line.
 pub fn write_answer<W: Write>(out: &mut W, answer: &FaultAnswer, line: usize) -> io::Result<()> {
-    write!(out, "{}", answer.facts.as_str())?;
+    out.write_all(answer.facts.as_bytes())?;
     write_lines(out, ["cure: ", "      "], answer.cure.as_str())?;
     let lines = match &answer.example {
         Example::Tried(lines) | Example::Other(lines) => lines.as_str(),

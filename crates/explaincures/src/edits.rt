@@ -77,7 +77,7 @@ impl Edit {
             last.line_to
         };
         let mut bytes = self.apply(alloc, spot.text, start, to)?;
-        bytes.push(b'\n')?;
+        bytes.extend_from_slice(b"\n")?;
         Ok(read_to(alloc, &bytes)? >= bytes.len())
     }
 
@@ -126,7 +126,7 @@ pub struct TriedLines {
 }
 
 /// What stands against a text with a change.
-#[derive(Clone, Copy, PartialEq, Eq)]
+#[derive(Clone, Copy)]
 pub enum EditOutcome {
     Accepted,
     Text,

@@ -28,10 +28,13 @@ pub fn is_near(one: &[u8], other: &[u8]) -> bool {
 
 /// With how many letters in common two words begin.
 fn common(one: &[u8], other: &[u8]) -> usize {
-    let pairs = one.iter().zip(other);
-    pairs
-        .take_while(|(letter, found)| letter.eq_ignore_ascii_case(found))
-        .count()
+    for (index, letter) in one.iter().enumerate() {
+        match other.get(index) {
+            Some(found) if found.eq_ignore_ascii_case(letter) => {}
+            _ => return index,
+        }
+    }
+    one.len()
 }
 
 /// The first reserved word that is near to another word, which is none. An instruction begins as
@@ -64,17 +67,24 @@ fn near_among(
 /// Whether an instruction and another word begin with the same letter, and both have an N at the
 /// end, or as many letters C and N. In a conversion, which has a `_`, these change nothing.
 fn is_alike(instruction: &[u8], other: &[u8]) -> bool {
-    let is_turned = |word: &[u8]| matches!(word, [.., b'n' | b'N']);
-    let is_counted = |letter: u8| count(instruction, letter) == count(other, letter);
-    let is_kept = is_turned(instruction) && is_turned(other)
-        || is_counted(b'C') && is_counted(b'N')
-        || instruction.contains(&b'_');
+    let is_kept = match (instruction, other) {
+        ([.., b'N'], [.., b'n' | b'N']) => true,
+        _ => {
+            count(instruction, b'C') == count(other, b'C')
+                && count(instruction, b'N') == count(other, b'N')
+                || instruction.contains(&b'_')
+        }
+    };
     is_kept && common(instruction, other) > 0
 }
 
 /// How often a word has a letter, letter case aside.
 fn count(word: &[u8], letter: u8) -> usize {
-    word.iter()
-        .filter(|byte| byte.eq_ignore_ascii_case(&letter))
-        .count()
+    let mut times: usize = 0;
+    for byte in word {
+        if byte.eq_ignore_ascii_case(&letter) {
+            times = times.saturating_add(1);
+        }
+    }
+    times
 }

@@ -3,7 +3,6 @@
 use crate::edits::read_to;
 use crate::spots::part;
 use crate::words::{ASKED, Group, sign_name};
-use iltext::parse;
 use std::alloc::{AllocError, Global};
 
 /// The most bytes up to a place at which it is asked for each word.
@@ -35,32 +34,52 @@ impl Possible {
         if front.len() > MOST_ASKED {
             return Ok(None);
         }
-        let mut bytes = Vec::from_slice(alloc, front)?;
-        bytes.push(b' ')?;
-        let mut found = Vec::new(alloc);
+        let mut possible = Possible {
+            found: Vec::new(alloc),
+            is_line_end: false,
+            is_text_end: read_to(alloc, front)? > front.len(),
+        };
+        possible.ask(alloc, front)?;
+        Ok(Some(possible))
+    }
+
+    /// Asks the parser for each word behind a text, and for the end of the line.
+    fn ask(&mut self, alloc: Global, front: &[u8]) -> Result<(), AllocError> {
         for (group, _, words) in ASKED {
             for spelled in *words {
-                if can_stand(alloc, &mut bytes, spelled.as_bytes())? {
-                    found.push((*group, *spelled))?;
+                if can_stand(alloc, front, spelled.as_bytes())? {
+                    self.found.push((*group, *spelled))?;
                 }
             }
         }
-        Ok(Some(Possible {
-            found,
-            is_line_end: can_stand(alloc, &mut bytes, b"\n")?,
-            is_text_end: parse(alloc, front).is_ok(),
-        }))
+        self.is_line_end = can_stand(alloc, front, b"\n")?;
+        Ok(())
+    }
+
+    /// How many words of a group could stand there.
+    fn count(&self, group: Group) -> usize {
+        let mut count: usize = 0;
+        for (one, _) in &self.found {
+            if *one == group {
+                count = count.saturating_add(1);
+            }
+        }
+        count
     }
 
     /// Whether something of a group could stand there.
     pub fn has(&self, group: Group) -> bool {
-        self.found.iter().any(|(one, _)| *one == group)
+        self.count(group) > 0
     }
 
     /// Whether a word could stand there.
     pub fn has_word(&self, spelled: &str) -> bool {
-        let is_spelled = |one: &str| one.as_bytes() == spelled.as_bytes();
-        self.found.iter().any(|(_, one)| is_spelled(one))
+        for (_, one) in &self.found {
+            if one.as_bytes() == spelled.as_bytes() {
+                return true;
+            }
+        }
+        false
     }
 
     /// The word that could stand there, where that is all.
@@ -74,8 +93,10 @@ impl Possible {
     /// What could stand there, in words; the end of the line where that says something.
     pub fn words(&self, alloc: Global, with_end: bool) -> Result<Vec<&'static str>, AllocError> {
         let mut told: Vec<&'static str> = Vec::new(alloc);
-        for (group, name, words) in ASKED {
-            self.push_told(&mut told, *group, (*name, words.len()))?;
+        for (group, spelled) in &self.found {
+            if let Some(word) = self.told(*group, spelled) {
+                told.push(word)?;
+            }
         }
         if self.is_line_end && with_end {
             told.push("the end of the line")?;
@@ -86,38 +107,31 @@ impl Possible {
         Ok(told)
     }
 
-    /// Adds what is told of a group: its name, where all of so many words could stand there, or each
-    /// of those that could; instructions in parentheses are told by all instructions.
-    fn push_told(
-        &self,
-        told: &mut Vec<&'static str>,
-        group: Group,
-        (name, len): (&'static str, usize),
-    ) -> Result<(), AllocError> {
-        let count = self.found.iter().filter(|(one, _)| *one == group).count();
+    /// What is told of a word that could stand there: that, or the name of its group, with the
+    /// first, where all of that could; instructions in parentheses are told by all instructions.
+    fn told(&self, group: Group, spelled: &'static str) -> Option<&'static str> {
         if group == Group::Operator && self.has(Group::Outer) {
-            return Ok(());
+            return None;
         }
-        if count == len && !name.is_empty() {
-            told.push(name)?;
-            return Ok(());
-        }
-        for (one, spelled) in &self.found {
-            if *one == group {
-                told.push(sign_name(spelled))?;
+        for (one, name, words) in ASKED {
+            if *one == group && !name.is_empty() && self.count(group) == words.len() {
+                return match words {
+                    [first, ..] if first.as_bytes() == spelled.as_bytes() => Some(*name),
+                    _ => None,
+                };
             }
         }
-        Ok(())
+        Some(sign_name(spelled))
     }
 }
 
 /// Whether a word can stand behind a text: the first fault is not there, but at the end.
-fn can_stand(alloc: Global, bytes: &mut Vec<u8>, word: &[u8]) -> Result<bool, AllocError> {
+fn can_stand(alloc: Global, front: &[u8], word: &[u8]) -> Result<bool, AllocError> {
+    let mut bytes = Vec::from_slice(alloc, front)?;
+    bytes.extend_from_slice(b" ")?;
     let len = bytes.len();
     bytes.extend_from_slice(word)?;
-    let can = read_to(alloc, bytes.as_slice())? > len;
-    bytes.truncate(len);
-    Ok(can)
+    Ok(read_to(alloc, &bytes)? > len)
 }
 
 /// Writes words one after another, at most so many, with `or` before the last.
@@ -125,14 +139,14 @@ pub fn list_words(alloc: Global, words: &[&'static str]) -> Result<String, Alloc
     let mut text = String::new(alloc);
     let last = words.len().saturating_sub(1);
     for (index, word) in words.iter().enumerate() {
-        if index >= MOST_TOLD {
-            text.push_str(", and more")?;
-            return Ok(text);
-        }
-        if index > 0 {
-            let is_last = index == last && words.len() <= MOST_TOLD;
-            text.push_str(if is_last { " or " } else { ", " })?;
-        }
+        let (before, word) = match index {
+            0 => ("", *word),
+            MOST_TOLD => (", and ", "more"),
+            _ if index > MOST_TOLD => ("", ""),
+            _ if index == last => (" or ", *word),
+            _ => (", ", *word),
+        };
+        text.push_str(before)?;
         text.push_str(word)?;
     }
     Ok(text)

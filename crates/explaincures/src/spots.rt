@@ -22,7 +22,7 @@ impl<'a> Spot<'a> {
         Spot {
             text,
             at,
-            line_from: line_start(text, at),
+            line_from: up_to_last(part(text, 0, at), Sought::LineFeed),
             line_to: line_end(text, at),
         }
     }
@@ -61,17 +61,18 @@ impl<'a> Spot<'a> {
     /// Where the letters, digits, dots and signs of numbers begin and end that stand around the
     /// place.
     pub fn literal(&self) -> (usize, usize) {
-        let last = self.front().iter().rposition(|byte| !is_literal(*byte));
-        let from = self.line_from.saturating_add(behind(last));
-        let len = self.rest().iter().take_while(|byte| is_literal(**byte));
-        (from, self.at.saturating_add(len.count()))
+        let from = up_to_last(self.front(), Sought::NoLiteral);
+        let len = before_first(self.rest(), Sought::NoLiteral);
+        (
+            self.line_from.saturating_add(from),
+            self.at.saturating_add(len),
+        )
     }
 
     /// Where what stands between two places begins and ends, without the blanks around it.
     pub fn trimmed(&self, from: usize, to: usize) -> (usize, usize) {
         let bytes = self.part(from, to);
-        let blanks = bytes.iter().take_while(|byte| is_blank(**byte)).count();
-        let first = from.saturating_add(blanks);
+        let first = from.saturating_add(before_first(bytes, Sought::NoBlank));
         (first, from.saturating_add(content_len(bytes)).max(first))
     }
 
@@ -90,10 +91,11 @@ impl<'a> Spot<'a> {
     /// Where the next line ends that is not empty; the end of this one where there is none.
     pub fn next_line_to(&self) -> usize {
         let rest = self.part(self.line_to, self.text.len());
-        let is_content = |byte: &u8| !is_blank(*byte) && *byte != b'\n' && *byte != b'\r';
-        match rest.iter().position(is_content) {
-            Some(place) => line_end(self.text, self.line_to.saturating_add(place)),
-            None => self.line_to,
+        let blanks = before_first(rest, Sought::Content);
+        if blanks < rest.len() {
+            line_end(self.text, self.line_to.saturating_add(blanks))
+        } else {
+            self.line_to
         }
     }
 
@@ -103,17 +105,50 @@ impl<'a> Spot<'a> {
     }
 }
 
-/// How many bytes there are up to the last one that is no blank.
-pub fn content_len(bytes: &[u8]) -> usize {
-    behind(bytes.iter().rposition(|byte| !is_blank(*byte)))
+/// What is looked for among bytes.
+#[derive(Clone, Copy)]
+pub(crate) enum Sought {
+    LineFeed,
+    /// What may not stand in a number, a time or an address.
+    NoLiteral,
+    NoBlank,
+    /// What is neither a blank nor the end of a line.
+    Content,
 }
 
-/// The place behind another one; the first where there is none.
-fn behind(place: Option<usize>) -> usize {
-    match place {
+impl Sought {
+    /// Whether a byte is looked for.
+    fn is_met(self, byte: u8) -> bool {
+        match self {
+            Sought::LineFeed => byte == b'\n',
+            Sought::NoLiteral => !is_word(byte) && !matches!(byte, b'#' | b'.' | b'%'),
+            Sought::NoBlank => !matches!(byte, b' ' | b'\t'),
+            Sought::Content => !matches!(byte, b' ' | b'\t' | b'\n' | b'\r'),
+        }
+    }
+}
+
+/// How many bytes stand before the first one that is looked for; all where there is none.
+pub(crate) fn before_first(bytes: &[u8], sought: Sought) -> usize {
+    for (index, byte) in bytes.iter().enumerate() {
+        if sought.is_met(*byte) {
+            return index;
+        }
+    }
+    bytes.len()
+}
+
+/// How many bytes there are up to the last one that is looked for; none where there is none.
+fn up_to_last(bytes: &[u8], sought: Sought) -> usize {
+    match bytes.iter().rposition(|byte| sought.is_met(*byte)) {
         Some(place) => place.saturating_add(1),
         None => 0,
     }
+}
+
+/// How many bytes there are up to the last one that is no blank.
+pub fn content_len(bytes: &[u8]) -> usize {
+    up_to_last(bytes, Sought::NoBlank)
 }
 
 /// The bytes from one place up to another; fewer where there are fewer.
@@ -125,23 +160,14 @@ pub fn part(bytes: &[u8], from: usize, to: usize) -> &[u8]
     found
 }
 
-/// Where the line of a place begins.
-fn line_start(text: &[u8], at: usize) -> usize {
-    behind(part(text, 0, at).iter().rposition(|byte| *byte == b'\n'))
-}
-
 /// Where the line of a place ends, without its line end.
 fn line_end(text: &[u8], at: usize) -> usize {
     let rest = part(text, at, text.len());
-    let line = match rest.iter().position(|byte| *byte == b'\n') {
-        Some(len) => part(rest, 0, len),
-        None => rest,
-    };
-    let len = match line {
-        [content @ .., b'\r'] => content.len(),
-        _ => line.len(),
-    };
-    at.saturating_add(len)
+    let len = before_first(rest, Sought::LineFeed);
+    match part(rest, 0, len) {
+        [content @ .., b'\r'] => at.saturating_add(content.len()),
+        _ => at.saturating_add(len),
+    }
 }
 
 /// How many bytes a sign has that stands first.
@@ -153,27 +179,28 @@ fn sign_len(bytes: &[u8]) -> usize {
     }
 }
 
-/// How many bytes a word, a number or an address has that stands first.
+/// How many bytes a word, a number or an address has that stands first. A dot is one of a number or
+/// an address, where no other stands beside it.
 fn token_len(bytes: &[u8]) -> usize {
     let has_head = matches!(bytes, [b'%', ..] | [b'+' | b'-', b'0'..=b'9', ..]);
     let mut is_dotted = has_head || matches!(bytes, [b'0'..=b'9', ..]);
+    let mut before = b'.';
     for (index, byte) in bytes.iter().enumerate() {
-        let is_head = index == 0 && has_head;
-        let is_base = *byte == b'#' && index > 0;
-        let is_dot = *byte == b'.' && is_dotted && !is_dot_at(bytes, index);
-        if !is_head && !is_word(*byte) && !is_dot && !is_base {
+        let is_kept = match byte {
+            b'.' => {
+                let next = bytes.get(index.saturating_add(1));
+                is_dotted && before != b'.' && !matches!(next, Some(b'.'))
+            }
+            b'#' => index > 0,
+            _ => is_word(*byte) || index == 0 && has_head,
+        };
+        if !is_kept {
             return index;
         }
-        is_dotted = is_dotted || is_base;
+        is_dotted = is_dotted || *byte == b'#';
+        before = *byte;
     }
     bytes.len()
-}
-
-/// Whether two dots stand around a place.
-fn is_dot_at(bytes: &[u8], place: usize) -> bool {
-    let after = bytes.get(place.saturating_add(1)) == Some(&b'.');
-    let before = place > 0 && bytes.get(place.saturating_sub(1)) == Some(&b'.');
-    after || before
 }
 
 /// Whether a byte may stand in a name.
@@ -181,24 +208,17 @@ fn is_word(byte: u8) -> bool {
     byte.is_ascii_alphanumeric() || byte == b'_'
 }
 
-/// Whether a byte may stand in a number, a time or an address.
-fn is_literal(byte: u8) -> bool {
-    is_word(byte) || byte == b'#' || byte == b'.' || byte == b'%'
-}
-
-/// Whether a byte is a blank.
-fn is_blank(byte: u8) -> bool {
-    byte == b' ' || byte == b'\t'
-}
-
 /// Where something stands in a text, counted from 0, of which the line and the column count from 1.
 pub fn place_of(bytes: &[u8], line: usize, col: usize) -> usize {
-    let mut place: usize = 0;
-    for (index, found) in bytes.split(|byte| *byte == b'\n').enumerate() {
-        if index.saturating_add(1) >= line {
-            return place.saturating_add(col.saturating_sub(1));
+    let before = col.saturating_sub(1);
+    let mut number: usize = 1;
+    for (index, byte) in bytes.iter().enumerate() {
+        if number >= line {
+            return index.saturating_add(before);
         }
-        place = place.saturating_add(found.len()).saturating_add(1);
+        if *byte == b'\n' {
+            number = number.saturating_add(1);
+        }
     }
-    place
+    bytes.len().saturating_add(before)
 }

@@ -85,14 +85,7 @@ impl Surroundings {
         }
         match what {
             What::Keyword(word) => self.read_word(word, place),
-            What::Name if is_named => {
-                // The name of what was begun last.
-                if let Some(resource) = &mut self.resource {
-                    resource.name = Some(place);
-                } else if let Some(unit) = &mut self.unit {
-                    unit.name = Some(place);
-                }
-            }
+            What::Name if is_named => self.read_name(place),
             What::Delimiter(Delimiter::Open) => {
                 self.open = self.open.saturating_add(1);
                 self.parenthesis = self.parenthesis.or(Some(place.0));
@@ -105,6 +98,16 @@ impl Surroundings {
                     self.parenthesis
                 };
             }
+            _ => {}
+        }
+    }
+
+    /// Reads the name of what was begun last.
+    fn read_name(&mut self, place: (usize, usize)) {
+        let name = Some(place);
+        match (self.resource, self.unit) {
+            (Some(resource), _) => self.resource = Some(OpenConstruct { name, ..resource }),
+            (_, Some(unit)) => self.unit = Some(OpenConstruct { name, ..unit }),
             _ => {}
         }
     }

@@ -80,9 +80,12 @@ pub const SPELLED: &[&[&str]] = &[OTHER_TYPES, TRUTHS, INTEGERS, BLOCKS, WORDS];
 
 /// Whether a word is one of some, in any letter case.
 pub fn is_one_of(word: &[u8], words: &[&str]) -> bool {
-    words
-        .iter()
-        .any(|one| one.as_bytes().eq_ignore_ascii_case(word))
+    for one in words {
+        if one.as_bytes().eq_ignore_ascii_case(word) {
+            return true;
+        }
+    }
+    false
 }
 
 /// How a sign is called.

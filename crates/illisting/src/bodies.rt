@@ -2,7 +2,7 @@
 //! path each has, their lines in a table, and the chains of calls, the one that makes a path long,
 //! and the deepest one.
 
-use crate::marks::{add_at, count_at, mark};
+use crate::marks::{add_at, count_at, is_marked, mark};
 use crate::task_names::TaskNames;
 use crate::uses::line_at;
 use crate::words::{Part, PartText};
@@ -13,7 +13,7 @@ use page::Page;
 use std::alloc::{AllocError, Global};
 
 /// The place where a body begins: that of the programs is 0, that of function n is n + 1.
-pub(crate) fn start_of(code: &Code, body: usize) -> usize {
+fn start_of(code: &Code, body: usize) -> usize {
     match body.checked_sub(1) {
         Some(function) => code.end_of(function),
         None => 0,
@@ -22,8 +22,7 @@ pub(crate) fn start_of(code: &Code, body: usize) -> usize {
 
 /// The most words on a path through a function.
 pub(crate) fn words_in(code: &Code, ways: &LongestWays, function: usize) -> u32 {
-    let body = function.saturating_add(1);
-    ways.words_from(body, start_of(code, body))
+    ways.words_from(function.saturating_add(1), code.end_of(function))
 }
 
 /// The number of the function that the word at a place calls.
@@ -34,17 +33,6 @@ fn callee_at(code: &Code, place: usize) -> Option<usize> {
     }
 }
 
-/// What the programs or a function have of a longest path.
-#[derive(Clone, Copy)]
-pub(crate) struct Share {
-    /// The body: 0 is the programs, function n is n + 1.
-    pub body: usize,
-    /// How often the path goes through it.
-    pub times: u32,
-    /// How many words of its own the path has there each time.
-    pub words: u32,
-}
-
 /// A longest path, as far as it is followed.
 #[derive(Drop)]
 pub(crate) struct LongestPath {
@@ -52,76 +40,61 @@ pub(crate) struct LongestPath {
     pub words: Vec<bool>,
     /// How often it calls each function.
     pub calls: Vec<u32>,
-    /// What makes the path: the programs, and the functions from the last to the first.
-    pub shares: Vec<Share>,
 }
 
 /// A longest path of a code. A function is called by those behind it alone, so the programs are
 /// gone over first, and then the functions from the last to the first.
-///
-/// # Errors
-///
-/// The allocator is out of memory.
 pub(crate) fn longest_path(
     alloc: Global,
     code: &Code,
     ways: &LongestWays,
 ) -> Result<LongestPath, AllocError> {
-    let mut path = longest_through(alloc, code, ways, 0)?;
+    let mut path = LongestPath::new(alloc, code)?;
+    path.follow(code, ways, 0, 1);
     for function in (0..code.functions().len()).rev() {
         let times = count_at(&path.calls, function);
         if times > 0 {
-            path.follow(code, ways, function.saturating_add(1), times)?;
+            path.follow(code, ways, function.saturating_add(1), times);
         }
     }
     Ok(path)
 }
 
-/// A longest path through a body, without what it has of functions.
-///
-/// # Errors
-///
-/// The allocator is out of memory.
-pub(crate) fn longest_through(
-    alloc: Global,
-    code: &Code,
-    ways: &LongestWays,
-    body: usize,
-) -> Result<LongestPath, AllocError> {
-    let mut path = LongestPath {
-        words: vec![in alloc; false; code.len()]?,
-        calls: vec![in alloc; 0; code.functions().len()]?,
-        shares: Vec::new(alloc),
-    };
-    path.follow(code, ways, body, 1)?;
-    Ok(path)
-}
-
 impl LongestPath {
-    /// Adds the words of a path through a body, from its first word on, which the longest path
+    /// A path that is not followed yet.
+    fn new(alloc: Global, code: &Code) -> Result<LongestPath, AllocError> {
+        Ok(LongestPath {
+            words: vec![in alloc; false; code.len()]?,
+            calls: vec![in alloc; 0; code.functions().len()]?,
+        })
+    }
+
+    /// Marks the words of a path through a body, from its first word on, which the longest path
     /// takes the given number of times.
-    fn follow(
-        &mut self,
-        code: &Code,
-        ways: &LongestWays,
-        body: usize,
-        times: u32,
-    ) -> Result<(), AllocError> {
+    fn follow(&mut self, code: &Code, ways: &LongestWays, body: usize, times: u32) {
         let mut place = start_of(code, body);
-        let mut words: u32 = 0;
-        for _ in place..code.end_of(body) {
-            if place >= code.end_of(body) {
-                break;
+        let end = code.end_of(body);
+        for _ in place..end {
+            if place >= end {
+                return;
             }
             mark(&mut self.words, place);
-            words = words.saturating_add(1);
-            if let Some(Word::Invoke(function)) = code.get(place) {
-                add_at(&mut self.calls, usize::from(function), times);
+            if let Some(function) = callee_at(code, place) {
+                add_at(&mut self.calls, function, times);
             }
             place = place_after(code, ways, body, place);
         }
-        self.shares.push(Share { body, times, words })?;
-        Ok(())
+    }
+
+    /// How many words of its own a body has on the path.
+    fn own_words(&self, code: &Code, body: usize) -> usize {
+        let mut words: usize = 0;
+        for place in start_of(code, body)..code.end_of(body) {
+            if is_marked(&self.words, place) {
+                words = words.saturating_add(1);
+            }
+        }
+        words
     }
 }
 
@@ -166,26 +139,27 @@ fn add_name(page: &mut Page, names: &TaskNames, part: Part) {
 
 /// Adds, where the code has functions, what makes the bound: how many words of a longest path are
 /// of the programs, and of each function that it goes through, and how often it does.
-pub(crate) fn add_bound(page: &mut Page, names: &TaskNames, shares: &[Share], bound: u32) {
-    if names.code.functions().is_empty() {
+pub(crate) fn add_bound(page: &mut Page, names: &TaskNames, path: &LongestPath, bound: u32) {
+    let code = names.code;
+    if code.functions().is_empty() {
         return;
     }
     add_number(page, "bound ", bound);
-    let mut before = " = ";
-    for share in shares {
-        page.text(before);
-        before = " + ";
-        if share.times > 1 {
-            add_number(page, "", share.times);
-            page.text(" * ");
+    page.text(" = ");
+    page.count(path.own_words(code, 0));
+    page.text(" in programs");
+    for function in (0..code.functions().len()).rev() {
+        let times = count_at(&path.calls, function);
+        if times > 0 {
+            page.text(" + ");
+            if times > 1 {
+                add_number(page, "", times);
+                page.text(" * ");
+            }
+            page.count(path.own_words(code, function.saturating_add(1)));
+            page.text(" in ");
+            add_name(page, names, Part::Function(function));
         }
-        add_number(page, "", share.words);
-        page.text(" in ");
-        let part = match share.body.checked_sub(1) {
-            Some(function) => Part::Function(function),
-            None => Part::Text("programs"),
-        };
-        add_name(page, names, part);
     }
     page.text("\n");
 }
@@ -231,13 +205,16 @@ fn add_callers(page: &mut Page, names: &TaskNames, function: usize) {
 /// functions. Of the instances it is the last that begins there or before.
 fn caller_at(code: &Code, place: usize) -> usize {
     let starts = code.starts();
-    match code.body_at(place).checked_sub(1) {
-        Some(function) => starts.len().saturating_add(function),
-        None => {
-            let begun = starts.iter().filter(|start| **start <= place).count();
-            begun.saturating_sub(1)
+    if let Some(function) = code.body_at(place).checked_sub(1) {
+        return starts.len().saturating_add(function);
+    }
+    let mut begun: usize = 0;
+    for start in starts {
+        if *start <= place {
+            begun = begun.saturating_add(1);
         }
     }
+    begun.saturating_sub(1)
 }
 
 /// Prints the chain of calls that has most of the words of a longest path: a line for each, with
@@ -258,7 +235,8 @@ pub fn print_longest_calls(
     };
     let mut body: usize = 0;
     for _ in 0..names.code.functions().len() {
-        let path = longest_through(alloc, names.code, &ways, body)?;
+        let mut path = LongestPath::new(alloc, names.code)?;
+        path.follow(names.code, &ways, body, 1);
         let Some(function) = longest_call(names.code, &ways, &path.calls) else {
             break;
         };
@@ -300,10 +278,10 @@ fn longest_call(code: &Code, ways: &LongestWays, calls: &[u32]) -> Option<usize>
 
 /// Adds the first call of a function in a body.
 fn add_first_call(page: &mut Page, names: &TaskNames, body: usize, function: usize) {
-    let code = names.code;
-    let mut places = start_of(code, body)..code.end_of(body);
-    if let Some(place) = places.find(|place| callee_at(code, *place) == Some(function)) {
-        add_call(page, names, place, function);
+    for place in start_of(names.code, body)..names.code.end_of(body) {
+        if callee_at(names.code, place) == Some(function) {
+            return add_call(page, names, place, function);
+        }
     }
 }
 
@@ -330,13 +308,14 @@ pub fn print_deepest_calls(
 ) -> Result<(), AllocError> {
     page.text("the chain of calls:\n");
     let code = names.code;
-    let mut depths = Vec::new(alloc);
-    for function in 0..code.functions().len() {
+    let functions = code.functions().len();
+    let mut depths = vec![in alloc; 0; functions]?;
+    for function in 0..functions {
         let (_, below) = deepest_call(code, &depths, function);
-        depths.push(below.saturating_add(1))?;
+        add_at(&mut depths, function, below.saturating_add(1));
     }
     let mut place = place;
-    for _ in 0..code.functions().len().saturating_add(1) {
+    for _ in 0..functions.saturating_add(1) {
         let Some(function) = callee_at(code, place) else {
             break;
         };

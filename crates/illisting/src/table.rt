@@ -9,6 +9,7 @@ use crate::uses::line_at;
 use crate::words::{KnownText, WordText};
 use ilcode::Word;
 use ilcompile::Setup;
+use ilranges::Entry;
 use iltypes::Condition;
 use ilverify::{LongestWays, Pass, Passed};
 use page::Page;
@@ -62,7 +63,7 @@ fn add_task(alloc: Global, page: &mut Page, setup: &Setup, task: usize) -> Resul
     page.count(code.len());
     add_number(page, " bound ", verified.bound());
     page.text("\n");
-    add_bound(page, &names, &longest.shares, verified.bound());
+    add_bound(page, &names, &longest, verified.bound());
     page.text("   word  line  left  what it does              known before it\n");
     add_words(alloc, page, &names, &ways, &longest.words)
 }
@@ -78,7 +79,6 @@ fn add_words(
     let code = names.code;
     let mut pass = Pass::begin(alloc, code)?;
     for place in 0..code.len() {
-        let word = code.word(place);
         add_functions_at(page, names, ways, place);
         page.text(if is_marked(on_longest, place) {
             "* "
@@ -86,13 +86,8 @@ fn add_words(
             "  "
         });
         add_numbers(page, names, ways, place);
-        add_word(alloc, page, names, word)?;
-        match pass.entry() {
-            Some(entry) => page.shown(&KnownText { names, word, entry }),
-            None => page.text("no scan comes here"),
-        }
-        add_ways(page, names, ways, place, word);
-        page.text("\n");
+        add_word(alloc, page, names, code.word(place), pass.entry())?;
+        add_ways(page, names, ways, place);
         let Passed::On(next) = pass.advance()? else {
             return Ok(());
         };
@@ -116,36 +111,42 @@ fn add_numbers(page: &mut Page, names: &TaskNames, ways: &LongestWays, place: us
 /// How many columns a word has.
 const WORD_COLUMNS: usize = 24;
 
-/// Adds what a word does.
+/// Adds what a word does, and what is known before it.
 fn add_word(
     alloc: Global,
     page: &mut Page,
     names: &TaskNames,
     word: Word,
+    entry: Option<&Entry>,
 ) -> Result<(), AllocError> {
     let text = WordText { names, word };
     let text = format!(in alloc; "{text}")?;
     page.text(&text);
     page.repeat(" ", WORD_COLUMNS.saturating_sub(text.len()));
     page.text("  ");
+    match entry {
+        Some(entry) => page.shown(&KnownText { names, word, entry }),
+        None => page.text("no scan comes here"),
+    }
     Ok(())
 }
 
-/// Adds how long the longest paths are on both ways from a jump that has two, and in a function
-/// that is called.
-fn add_ways(page: &mut Page, names: &TaskNames, ways: &LongestWays, place: usize, word: Word) {
-    match word {
-        Word::Jump { condition, target } if condition != Condition::Always => {
+/// Ends the line of a word: with how long the longest paths are on both ways from a jump that has
+/// two, and in a function that is called.
+fn add_ways(page: &mut Page, names: &TaskNames, ways: &LongestWays, place: usize) {
+    match names.code.get(place) {
+        Some(Word::Jump { condition, target }) if condition != Condition::Always => {
             let body = names.code.body_at(place);
             add_number(page, "; ", ways.words_from(body, target as usize));
             let next = ways.words_from(body, place.saturating_add(1));
             add_number(page, " left there, else ", next);
+            page.text("\n");
         }
-        Word::Invoke(function) => {
+        Some(Word::Invoke(function)) => {
             let words = words_in(names.code, ways, usize::from(function));
             add_number(page, "; ", words);
-            page.text(" in the function");
+            page.text(" in the function\n");
         }
-        _ => {}
+        _ => page.text("\n"),
     }
 }

@@ -4,8 +4,9 @@ ghost use Rattle.std.specs.Prelude.{◌<◌, length};
 
 use crate::words::Part;
 use ilcode::{Code, WordOperand};
-use ilplan::{Plan, SlotOwner, Task, UserFunction};
+use ilplan::{DeclaredName, Plan, SlotName, Task, UserFunction};
 use ilsource::Name;
+use iltypes::Value;
 use std::alloc::{AllocError, Global};
 
 /// A task's code with what its words name: the task's variables and block instances, and the
@@ -38,27 +39,25 @@ pub fn functions_in(alloc: Global, plan: &Plan, task: usize) -> Result<Vec<usize
     Ok(functions)
 }
 
-/// A name as declared, in parts between which dots stand, of which an empty one is not printed.
-#[derive(Clone, Copy)]
-pub(crate) struct NameParts<'a> {
-    /// The program instance or the function in which it stands.
-    pub outer: &'a [u8],
-    pub name: &'a [u8],
-    pub port: &'a [u8],
-}
-
-/// A part that is not there.
-pub(crate) const NO_NAME: &[u8] = b"";
-
 impl<'a> TaskNames<'a> {
-    /// The name of what a part of a word names.
-    pub(crate) fn find(&self, part: Part) -> Option<NameParts<'a>> {
+    /// The constant that a part of a word is.
+    pub(crate) fn value_of(&self, part: Part) -> Option<Value> {
+        match part {
+            Part::Operand(WordOperand::Constant(number)) => {
+                self.code.constants().get(usize::from(number)).copied()
+            }
+            _ => None,
+        }
+    }
+
+    /// The name of what a part of a word names, ports aside.
+    pub(crate) fn find(&self, part: Part) -> Option<SlotName<'a>> {
         let name = match part {
             Part::Operand(WordOperand::Slot(slot)) => return self.slot(usize::from(slot)),
-            Part::Operand(WordOperand::Port { port, block }) => {
-                return self.block(usize::from(block), Some(usize::from(port)));
+            Part::Operand(WordOperand::Port { block, .. }) | Part::Block(block) => {
+                let found = self.task()?.blocks().get(usize::from(block))?;
+                return Some(self.named(Some(found.instance), found.name));
             }
-            Part::Block(block) => return self.block(usize::from(block), None),
             Part::Function(function) => self.function(function)?.name(),
             Part::Caller(caller) => match caller.checked_sub(self.code.starts().len()) {
                 Some(function) => self.function(function)?.name(),
@@ -66,10 +65,18 @@ impl<'a> TaskNames<'a> {
             },
             _ => return None,
         };
-        Some(NameParts {
-            outer: NO_NAME,
-            name: name.text(self.plan.text()),
-            port: NO_NAME,
+        Some(self.named(None, name))
+    }
+
+    /// The port that a part of a word names.
+    pub(crate) fn port_of(&self, part: Part) -> Option<DeclaredName<'static>> {
+        let Part::Operand(WordOperand::Port { port, block }) = part else {
+            return None;
+        };
+        let found = self.task()?.blocks().get(usize::from(block))?;
+        let port = found.kind.ports().get(usize::from(port))?;
+        Some(DeclaredName {
+            bytes: port.name.spelling(),
         })
     }
 
@@ -89,46 +96,37 @@ impl<'a> TaskNames<'a> {
 
     /// The name of the variable in a slot: `instance.variable`, `function.variable`, and of a
     /// global variable its name alone. A function's result has the function's name.
-    fn slot(&self, slot: usize) -> Option<NameParts<'a>> {
-        let text = self.plan.text();
-        let (outer, name) = match self.task()?.slots().get(slot) {
-            Some(found) => match found.variable {
-                SlotOwner::Own { instance, name } => (instance.text(text), name),
-                SlotOwner::Global(number) => {
-                    if number >= self.plan.globals() {
-                        return None;
-                    }
-                    (NO_NAME, self.plan.global(number).name)
-                }
-            },
-            None => {
-                let bodies = self.code.functions();
-                let number = bodies.iter().rposition(|body| body.first <= slot)?;
+    fn slot(&self, slot: usize) -> Option<SlotName<'a>> {
+        let plan = self.plan;
+        if self.task < plan.tasks() && slot < plan.task(self.task).slots().len() {
+            return Some(plan.slot_name(self.task, slot));
+        }
+        for (number, body) in self.code.functions().iter().enumerate() {
+            if slot < self.code.slots_end(number.saturating_add(1)) {
                 let function = self.function(number)?;
-                let own = slot.saturating_sub(bodies.get(number)?.first);
-                (function.name().text(text), name_in(function, own)?)
+                let name = name_in(function, slot.saturating_sub(body.first))?;
+                return Some(self.named(Some(function.name()), name));
             }
-        };
-        Some(NameParts {
-            outer,
-            name: name.text(text),
-            port: NO_NAME,
-        })
+        }
+        None
     }
 
-    /// The name of a block instance, or of a port of it.
-    fn block(&self, block: usize, port: Option<usize>) -> Option<NameParts<'a>> {
-        let text = self.plan.text();
-        let found = self.task()?.blocks().get(block)?;
-        let port = match port {
-            Some(port) => found.kind.ports().get(port)?.name.spelling(),
-            None => NO_NAME,
-        };
-        Some(NameParts {
-            outer: found.instance.text(text),
-            name: found.name.text(text),
-            port,
-        })
+    /// A name as declared, behind that of the program instance or the function that it stands in.
+    fn named(&self, outer: Option<Name>, name: Name) -> SlotName<'a> {
+        SlotName {
+            instance: match outer {
+                Some(outer) => Some(self.declared(outer)),
+                None => None,
+            },
+            variable: self.declared(name),
+        }
+    }
+
+    /// A name as declared.
+    fn declared(&self, name: Name) -> DeclaredName<'a> {
+        DeclaredName {
+            bytes: name.text(self.plan.text()),
+        }
     }
 }
 

@@ -1,9 +1,9 @@
 //! Words as they are written, and what is known before them, in words.
 
-use crate::task_names::{NO_NAME, NameParts, TaskNames};
+use crate::task_names::TaskNames;
 use crate::uses::{read_by, written_by};
 use ilcode::{Code, Word, WordOperand};
-use ilplan::DeclaredName;
+use ilplan::{DeclaredName, SlotName};
 use ilranges::{Entry, Known};
 use iltypes::{Condition, Function, Operator, Range};
 use std::fmt;
@@ -39,25 +39,22 @@ pub(crate) enum Part {
     Place(u32),
 }
 
-/// Nothing more.
-const NOTHING: Part = Part::Text("");
-
 /// What a word is written with, and what stands between both.
 fn parts_of(code: &Code, word: Word) -> (Part, &'static str, Part) {
-    let (written, read) = (written_by(word), read_by(word));
-    if let (Some(to), Some(given)) = (written, read) {
-        return (Part::Operand(to), " := ", Part::Operand(given));
-    }
     let verb = Part::Text(verb_of(code, word));
-    if let Some(operand) = written.or(read) {
-        return (verb, " ", Part::Operand(operand));
-    }
-    match word {
-        Word::Call(block) => (verb, " ", Part::Block(block)),
-        Word::Invoke(function) => (verb, " ", Part::Function(usize::from(function))),
-        Word::Open(_) => (verb, "(", NOTHING),
-        Word::Jump { target, .. } if !is_return(code, target) => (verb, " ", Part::Place(target)),
-        _ => (verb, "", NOTHING),
+    let named = match (written_by(word), read_by(word)) {
+        (Some(to), Some(given)) => return (Part::Operand(to), " := ", Part::Operand(given)),
+        (written, read) => written.or(read),
+    };
+    match (named, word) {
+        (Some(operand), _) => (verb, " ", Part::Operand(operand)),
+        (_, Word::Call(block)) => (verb, " ", Part::Block(block)),
+        (_, Word::Invoke(function)) => (verb, " ", Part::Function(usize::from(function))),
+        (_, Word::Jump { target, .. }) if !is_return(code, target) => {
+            (verb, " ", Part::Place(target))
+        }
+        (_, Word::Open(_)) => (verb, "(", Part::Text("")),
+        _ => (verb, "", Part::Text("")),
     }
 }
 
@@ -133,36 +130,27 @@ pub(crate) struct PartText<'a> {
 }
 
 /// What is printed in place of a name that is not there.
-const UNNAMED: NameParts<'static> = NameParts {
-    outer: NO_NAME,
-    name: QUESTION,
-    port: NO_NAME,
+const UNNAMED: SlotName<'static> = SlotName {
+    instance: None,
+    variable: DeclaredName { bytes: b"?" },
 };
-
-/// What stands for it.
-const QUESTION: &[u8] = b"?";
 
 impl fmt::Display for PartText<'_> {
     fn fmt<W: fmt::Write>(&self, f: &mut fmt::Formatter<W>) -> fmt::Result {
         match self.part {
-            Part::Text(text) => return f.write_str(text),
-            Part::Place(place) => return write!(f, "{place}"),
-            Part::Operand(WordOperand::Constant(number)) => {
-                if let Some(value) = self.names.code.constants().get(usize::from(number)) {
+            Part::Text(text) => f.write_str(text),
+            Part::Place(place) => write!(f, "{place}"),
+            part => {
+                if let Some(value) = self.names.value_of(part) {
                     return write!(f, "{value}");
                 }
+                write!(f, "{}", self.names.find(part).unwrap_or(UNNAMED))?;
+                match self.names.port_of(part) {
+                    Some(port) => write!(f, ".{port}"),
+                    None => Ok(()),
+                }
             }
-            _ => {}
         }
-        let NameParts { outer, name, port } = self.names.find(self.part).unwrap_or(UNNAMED);
-        if !outer.is_empty() {
-            write!(f, "{}.", DeclaredName { bytes: outer })?;
-        }
-        write!(f, "{}", DeclaredName { bytes: name })?;
-        if !port.is_empty() {
-            write!(f, ".{}", DeclaredName { bytes: port })?;
-        }
-        Ok(())
     }
 }
 
