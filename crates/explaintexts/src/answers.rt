@@ -3,12 +3,18 @@
 use crate::examples::{example_of, is_in_call};
 use crate::filling::{first_answer, given_len};
 use crate::habits::habit_at;
+use crate::near_declarations::{
+    near_declaration, nested_comment, parted_address, parted_time, two_names,
+};
+use crate::near_instructions::{assigned, expression, near_operand, near_sign, sign_behind};
 use crate::negations::negation;
 use crate::numbers::numbers;
+use crate::operands::second_word;
 use crate::proposals::{ASKED, RESERVED, is_bracket, is_renamed, proposals};
 use crate::said::{Change, Said, Standing, Trial, advice};
 use explaincures::{
-    Advice, AskedText, FaultAnswer, Group, Possible, Spot, Surroundings, left_out, list_words,
+    Advice, AskedText, FaultAnswer, Group, Possible, Spot, Surroundings, is_one_of, left_out,
+    list_words,
 };
 use iltext::TextCause;
 use iltokens::{Keyword, keyword_of};
@@ -50,15 +56,36 @@ fn habitual(
     standing: &Standing,
     last: Option<Said>,
 ) -> Result<Option<FaultAnswer>, AllocError> {
+    let near = first_answer(alloc, standing, &near_misses(standing))?;
+    if near.is_some() {
+        return Ok(near);
+    }
     let [value, all, inputs] = equals(standing);
-    let (negated, habit) = (negation(standing), habit_at(standing));
-    let candidates = [value, all, inputs, unnamed(standing), negated, habit];
+    let (negated, second) = (negation(standing), second_word(standing));
+    let (habit, names) = (habit_at(standing), two_names(standing));
+    let open = unnamed(standing);
+    let candidates = [value, all, inputs, open, negated, second, habit, names];
     let answer = first_answer(alloc, standing, &candidates)?;
     if answer.is_some() || is_range(alloc, standing)? {
         return Ok(answer);
     }
     let [number, other] = numbers(standing);
     first_answer(alloc, standing, &[number, other, last])
+}
+
+/// What is said of what is nearly right.
+fn near_misses(standing: &Standing) -> [Option<Said>; 9] {
+    [
+        nested_comment(standing),
+        parted_time(standing),
+        near_declaration(standing),
+        parted_address(standing),
+        near_sign(standing),
+        near_operand(standing),
+        sign_behind(standing),
+        assigned(standing),
+        expression(standing),
+    ]
 }
 
 /// Whether a range with two dots is meant at one.
@@ -110,9 +137,11 @@ fn equals(standing: &Standing) -> [Option<Said>; 3] {
         "CAL rest(IN := pressed, PT := T#3m)\nLD rest.Q");
     let is_given = spot.token() == b"=".as_slice();
     let is_input = is_given && is_in_call(spot, around);
+    let is_output = is_input && is_one_of(standing.before(), &["Q", "ET", "CV"]);
+    let is_value = is_given && !is_output;
     [
-        is_given.then_some(value.put(sign, ":=")),
-        is_given.then_some(all),
+        is_value.then_some(value.put(sign, ":=")),
+        is_value.then_some(all),
         is_input.then_some(Said::of(row, sign)),
     ]
 }

@@ -6,6 +6,9 @@ use iltokens::{Keyword, Lexed, What, token};
 /// Words that begin a call of a block.
 const CALLS: &[&str] = &["CAL", "CALC", "CALCN"];
 
+/// Words that begin a jump.
+pub(crate) const JUMPS: &[&str] = &["JMP", "JMPC", "JMPCN"];
+
 /// A task and an instance of a program.
 const BOTH: &str =
     "TASK clock (INTERVAL := T#100ms, PRIORITY := 1);\nPROGRAM hall WITH clock : light;";
@@ -38,7 +41,7 @@ pub(crate) fn example_of(spot: &Spot, around: &Surroundings) -> Example {
 
 /// What stands in a line of instructions that begins with this word.
 fn in_body(word: &[u8]) -> Example {
-    if is_one_of(word, &["JMP", "JMPC", "JMPCN"]) {
+    if is_one_of(word, JUMPS) {
         (
             "a jump names a label, which stands further on with a colon behind it",
             "JMPC below\nLD 5\nbelow: ST level",

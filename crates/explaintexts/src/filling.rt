@@ -2,8 +2,10 @@
 
 use crate::said::{Change, Said, Standing, Trial};
 use explaincures::{
-    Edit, EditOutcome, Example, FaultAnswer, Spot, in_place_of_sign, left_out, part, shown_text,
+    AskedText, Edit, EditOutcome, Example, FaultAnswer, Spot, in_place_of_sign, left_out, part,
+    shown_text,
 };
+use iltokens::Keyword;
 use std::alloc::{AllocError, Global};
 
 /// The first of what may be said that can be said.
@@ -72,6 +74,9 @@ impl Said {
         }
         match edit.outcome(alloc, standing.asked)? {
             EditOutcome::Text if is_whole => Ok(None),
+            EditOutcome::Text if !edit.with.is_empty() && is_misnamed(alloc, standing, &edit)? => {
+                Ok(None)
+            }
             EditOutcome::Name { is_there: true, .. } if !is_whole => Ok(None),
             _ => Ok(Some(edit)),
         }
@@ -152,6 +157,32 @@ impl Said {
         let (from, to) = self.parts.get(number).copied().unwrap_or((0, 0));
         part(asked, from, to)
     }
+}
+
+/// Whether names are at fault on the lines of a change, where the text has another fault behind it:
+/// the program or the function that is open is read as if it ended there.
+fn is_misnamed(alloc: Global, standing: &Standing, edit: &Edit) -> Result<bool, AllocError> {
+    let Standing {
+        asked,
+        spot,
+        around,
+    } = standing;
+    let end = match around.unit_word() {
+        Some(Keyword::Program) if around.is_in_body() => "\nEND_PROGRAM\n",
+        Some(Keyword::Function) if around.is_in_body() => "\nEND_FUNCTION\n",
+        _ => return Ok(false),
+    };
+    let to = Spot::of(spot.text, edit.to.max(spot.at)).line_to;
+    let mut text = Vec::from_slice(alloc, part(spot.text, 0, to))?;
+    text.extend_from_slice(end.as_bytes())?;
+    let cut = AskedText {
+        path: asked.path,
+        text: &text,
+        binding: asked.binding,
+        is_bound: asked.is_bound,
+    };
+    let outcome = edit.outcome(alloc, &cut)?;
+    Ok(matches!(outcome, EditOutcome::Name { is_there: true, .. }))
 }
 
 /// Adds some bytes the given number of times.

@@ -2,8 +2,8 @@
 
 use crate::habit::Fix;
 use crate::habits::{is_apart, is_name};
-use crate::said::{Change, Said, Standing};
-use explaincures::{Advice, Spot, content_len, is_one_of, near_word, part};
+use crate::said::{Change, Place, Said, Standing};
+use explaincures::{Advice, Spot, Surroundings, content_len, is_one_of, near_word, part};
 
 /// Operators of Structured Text, and their words.
 const OPERATORS: &[(&str, &str)] = &[
@@ -23,6 +23,9 @@ const OPERATORS: &[(&str, &str)] = &[
     (">", "GT"),
     (">=", "GE"),
 ];
+
+/// Lines in place of an expression with several operators.
+const SEVERAL: &str = "LD lux\nLT 30\nAND door\nST light";
 
 /// What is said of a habit, with the change that is meant.
 pub(crate) fn meant(standing: &Standing, row: Advice, fix: Fix) -> Said {
@@ -45,6 +48,8 @@ pub(crate) fn meant(standing: &Standing, row: Advice, fix: Fix) -> Said {
         Fix::Call => call(said, spot, before.0),
         Fix::Milliseconds => with_milliseconds(said, spot),
         Fix::LoadAndStore => load_and_store(said, spot),
+        Fix::Alone => alone(said, spot),
+        Fix::Loaded => loaded(said, spot, before),
         Fix::JoinedBefore => said.put((content_len(spot.part(0, before.0)), before.0), "_"),
         Fix::Pair(with) => {
             let found = (spot.at, spot.found_to());
@@ -125,6 +130,39 @@ fn call(said: Said, spot: &Spot, instance: usize) -> Said {
     }
 }
 
+/// The name alone, where TRUE stands behind `:=` in a line with S, or FALSE in one with R.
+fn alone(said: Said, spot: &Spot) -> Said {
+    let value = spot.trimmed(spot.found_to(), spot.line_to);
+    let is_set = is_one_of(spot.first_word(), &["S"]);
+    let value = spot.part(value.0, value.1);
+    if is_set && is_one_of(value, &["TRUE", "TRUE;"])
+        || !is_set && is_one_of(value, &["FALSE", "FALSE;"])
+    {
+        said.put((spot.at, spot.line_to), "")
+    } else {
+        said
+    }
+}
+
+/// LD with the instance of the call that ends with a name, or with a parenthesis.
+fn loaded(said: Said, spot: &Spot, last: Place) -> Said {
+    let name = match Surroundings::of(spot.text, last.0).parenthesis {
+        Some(open) => Surroundings::of(spot.text, open).before,
+        None => last,
+    };
+    match call_before(spot, name) {
+        Some(_) if spot.is_first() => said.put_parts((spot.at, spot.at), "LD {0}", [name; 2]),
+        Some(_) => said.put_parts((spot.at, spot.at), "\nLD {0}", [name; 2]),
+        None => said,
+    }
+}
+
+/// Where CAL stands before a name.
+pub(crate) fn call_before(spot: &Spot, name: Place) -> Option<Place> {
+    let word = Surroundings::of(spot.text, name.0).before;
+    is_one_of(spot.part(word.0, word.1), &["CAL"]).then_some(word)
+}
+
 /// How many bytes a name in quotes has that stands first, with its quotes.
 pub(crate) fn quoted_len(bytes: &[u8]) -> Option<usize> {
     let content = bytes.get(1..)?;
@@ -155,11 +193,15 @@ fn load_and_store(said: Said, spot: &Spot) -> Said {
         .rest()
         .windows(2)
         .position(|pair| pair == b":=".as_slice());
-    let sign = spot.at.saturating_add(sign.unwrap_or(0));
+    let (sign, value) = match sign {
+        Some(len) => (len, len.saturating_add(2)),
+        None => (0, 1),
+    };
+    let sign = spot.at.saturating_add(sign);
     let line = spot.first_place();
     let is_store = is_one_of(spot.first_word(), &["ST"]);
     let name = spot.trimmed(if is_store { line.1 } else { line.0 }, sign);
-    let (first, last) = spot.trimmed(sign.saturating_add(2), spot.line_to);
+    let (first, last) = spot.trimmed(spot.at.saturating_add(value), spot.line_to);
     let last = first.saturating_add(match spot.part(first, last) {
         [value @ .., b';'] => content_len(value),
         value => value.len(),
@@ -178,7 +220,13 @@ fn load_and_store(said: Said, spot: &Spot) -> Said {
         ("LD {0}\n{i}{w} {2}\n{i}ST {1}", [one, name, behind])
     };
     let [value, name, second] = parts;
+    let is_long = spot.part(behind.0, behind.1).contains(&b' ');
+    let line_of = if is_long { SEVERAL } else { said.row.line };
     let said = Said {
+        row: Advice {
+            line: line_of,
+            ..said.row
+        },
         parts: [value, name, second, second, second],
         ..said
     };
@@ -187,7 +235,7 @@ fn load_and_store(said: Said, spot: &Spot) -> Said {
 }
 
 /// The word of an operator of Structured Text; empty where it is none.
-fn word_of(operator: &[u8]) -> &'static str {
+pub(crate) fn word_of(operator: &[u8]) -> &'static str {
     match OPERATORS.iter().find(|row| is_one_of(operator, &[row.0])) {
         Some((_, word)) => word,
         None => "",

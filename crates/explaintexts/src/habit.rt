@@ -55,7 +55,9 @@ pub(crate) enum Where {
     Outside, // outside programs, functions and configurations
     InGlobal,
     InOther, // in another block of variables than VAR_GLOBAL
-    Names, // in VAR_GLOBAL, behind a name
+    Names, // in VAR_GLOBAL, behind a name that is no type
+    Untyped, // in a block of variables, behind such a name
+    Ranged, // a minus and a digit behind a number, in a parenthesis outside instructions
     Types, // where a variable begins
     Begins, // where a name is declared, behind its word, a semicolon or a comma
     Titled, // where a function is named
@@ -71,10 +73,19 @@ pub(crate) enum Where {
     Ends, // among instructions and not in a call
     Goes, // the same, with something behind it that is no comment
     Assigned, // behind the first name of a line with `:=` in it
+    Given, // behind the first name of a line
+    Jumped, // the same, where a jump above names it
+    Worded, // behind the word of an instruction
+    Ported, // behind a port
+    Closed, // behind `)`
+    Doubled, // behind the same
+    Timed, // a number behind a time
     Grouped, // behind an instruction that takes no parenthesis
     Closes, // before `)`
     Counted, // behind a number
     Stored, // in a line that stores
+    Stores, // a number or a time, behind an instruction that stores
+    Sets, // behind the name of a line with S or R
     Signed, // before a name, behind an instruction
     Labels, // a label behind something else
     Trails, // a name behind a word that ends something
@@ -83,16 +94,21 @@ pub(crate) enum Where {
     Opened, // before a parenthesis, first on its line
     Leads, // first on its line
     LeadsInBody, // the same, among instructions
+    LeadsName, // the same, right before a name
     Apart, // behind a blank
     Prefix, // the same, right before a name
     Plain, // with no `:=` behind it
     Quotes, // around a name
     Parts, // between two digits
+    Hexadecimal, // before hexadecimal digits
+    Thousands, // three digits, behind a number and a blank
     Split, // before a word that begins something
     Bit, // before a number
     Unitless, // where it is no time
     Dotted, // where it has a dot in it
     Parted, // where a comma and a digit stand behind it
+    Negative, // where a sign and a digit stand behind it
+    Open, // where a blank and a digit stand behind it
     Address, // where it is one
     Absolute, // where it is one as Siemens' lists have it
 }
@@ -114,6 +130,8 @@ pub(crate) enum Fix {
     Milliseconds, // in place of the part behind the dot
     Bare, // without the parentheses
     LoadAndStore, // in place of `a := b;`
+    Alone, // the name alone, behind S or R
+    Loaded, // with LD and the instance of the call before it
     Call, // with CAL before the instance
     Unquoted,
     Joined, // with the word before it

@@ -27,6 +27,10 @@ const LOGIC_SIGN: Advice = advice!("a sign that is not an operator";
         compare, ADD, SUB, MUL, DIV and MOD calculate";
     "GT 100");
 
+pub(crate) const NESTED_COMMENT: Advice = advice!("a comment in a comment";
+    "a comment ends at the first *) behind its (*: leave the inner one out";
+    "(* the stairs *)");
+
 const NAMED: Advice = advice!("an address where a name is asked for";
     "give the address a name in VAR_GLOBAL, and write that name";
     "VAR_GLOBAL lamp AT %QB0.5 : USINT (0..254); END_VAR");
@@ -45,7 +49,18 @@ const UNIT: Advice = advice!("a time without T# before it";
     "T#100ms");
 
 /// Comments, arrays and quotes.
-pub(crate) const QUOTES: &[Habit] = habits! {
+const QUOTES: &[Habit] = habits! {
+    advice!("a line that ends with CR alone";
+        "lines end with LF or with CR LF: save the file with one of these";
+        "PROGRAM stairs") => Rest Anywhere ["\r"] Nothing;
+    BASED =>
+        Rest Hexadecimal ["$"] Found(1, "16#"), Rest Hexadecimal ["&h"] Found(2, "16#");
+    advice!("a time with a sign";
+        "a time has no sign: it says how long something lasts, from T#0s on";
+        "T#5s") =>
+        Rest Apart ["-t#"] Nothing, Literal Negative ["t#", "time#"] Nothing;
+    advice!("a time with a blank in it"; "a time has no blanks"; "T#1s500ms") =>
+        Any Timed [""] Pair("{0}{1}"), Literal Open ["t#", "time#"] Rest(1, "#{0}");
     advice!("a rung of a ladder diagram";
         "LD loads the first contact, AND takes the next one in its row, OR that of a\n\
             branch, with an N where it is closed at rest; ST is the coil";
@@ -59,9 +74,7 @@ pub(crate) const QUOTES: &[Habit] = habits! {
         Rest Leads ["#"] Comment;
     advice!("# before a name"; "write the name alone"; "LD level") =>
         Rest Prefix ["#"] Front(1, "");
-    advice!("a comment in a comment";
-        "a comment ends at the first *) behind its (*: leave the inner one out";
-        "(* the stairs *)") => Rest Anywhere ["*)"] Nothing;
+    NESTED_COMMENT => Rest Anywhere ["*)"] Nothing;
     advice!("a name in quotes"; "write the name alone; each name is declared"; "LD button") =>
         Rest Quotes ["\""] Unquoted;
     advice!("a range in square brackets";
@@ -78,7 +91,7 @@ pub(crate) const QUOTES: &[Habit] = habits! {
 };
 
 /// Statements of other languages.
-pub(crate) const STATEMENTS: &[Habit] = habits! {
+const STATEMENTS: &[Habit] = habits! {
     advice!("a statement of Structured Text";
         "compare first, and then jump past what is not to be done: JMPC jumps where\n\
             the result is TRUE, JMPCN where it is FALSE";
@@ -90,10 +103,18 @@ pub(crate) const STATEMENTS: &[Habit] = habits! {
         "LD count\nADD 1\nST count") =>
         Line Anywhere ["for", "end_for", "while", "end_while", "repeat", "end_repeat", "until"]
             Nothing;
+    advice!("a value behind S or R";
+        "they take the name alone: where the current result is TRUE, S stores TRUE and\n\
+            R stores FALSE";
+        "LD button\nS lamp") =>
+        Rest Sets [":=", "="] Alone, Token Sets ["true", "false"] Nothing;
     advice!("an assignment of Structured Text";
         "load the value, and store it: each instruction has a line of its own";
         "LD 200\nST lamp") =>
-        Rest InBody [":="] LoadAndStore, Rest Assigned ["."] LoadAndStore;
+        Rest InBody [":="] LoadAndStore, Rest Assigned ["."] LoadAndStore,
+        Rest Given ["="] LoadAndStore;
+    advice!("a semicolon behind a label"; "a colon stands behind a label"; "below: LD lamp") =>
+        Rest Jumped [";"] Found(1, ":");
     advice!("a semicolon behind an instruction";
         "leave it out: an instruction ends with its line; what stands behind it has a\n\
             line of its own, or is a comment between (* and *)";
@@ -103,8 +124,8 @@ pub(crate) const STATEMENTS: &[Habit] = habits! {
         "ST lamp") => Rest Ends [";"] LeaveOut;
 };
 
-/// What the language has, where it cannot stand.
-pub(crate) const PLACES: &[Habit] = habits! {
+/// Declarations, where they cannot stand.
+const DECLARATIONS: &[Habit] = habits! {
     advice!("VAR apart from its word";
         "write both as one word, with _ between them";
         "VAR_EXTERNAL lamp : USINT (0..254); END_VAR") =>
@@ -137,16 +158,36 @@ pub(crate) const PLACES: &[Habit] = habits! {
         "a name begins with a letter or _, here and wherever it is meant";
         "lamp2 : BOOL;") =>
         Rest Begins ["0", "1", "2", "3", "4", "5", "6", "7", "8", "9"] Nothing;
+    advice!("a declaration without its type";
+        "behind the names stand a colon and a type";
+        "dusk : BOOL;") => Rest Untyped [";"] Nothing;
+    advice!("a range with a minus in it";
+        "a range has two dots between its ends";
+        "lamp : USINT (0..254);") => Rest Ranged ["-"] Found(1, "..");
     advice!("a first value of a block";
         "an instance has none: its inputs are given in the call, or stored before";
         "VAR rest : TON; END_VAR\nCAL rest(IN := pressed, PT := T#3m)") =>
         Before Starts ["ton", "ctu", "r_trig", "gear_level", "gear_do", "gear_set", "gear_pair",
             "gear_ask", "gear_read", "dev_do", "dev_scheme", "dev_ask"] Nothing;
+};
+
+/// Lines of instructions, and words that end something.
+const LINES: &[Habit] = habits! {
     advice!("a label behind an instruction";
         "a label stands first on its line";
         "ST lamp\nbelow: LD button") => Any Labels [""] Broken;
     advice!("a colon before a label"; "the colon stands behind the name"; "below: LD lamp") =>
         Rest LeadsInBody [":"] Rest(1, "{0}:");
+    advice!("a port without its instance";
+        "a port stands behind the name of its instance and a dot";
+        "LD rest.Q") =>
+        Rest LeadsName ["."] Loaded, Rest Closed ["."] Loaded,
+        Rest Apart [".q", ".et", ".cv"] Nothing;
+    advice!("parentheses behind a port"; "a port is no call: leave them out"; "LD rest.Q") =>
+        Rest Ported ["()"] Found(2, "");
+    advice!("two dots before a port"; "a port stands behind one dot"; "LD rest.Q") =>
+        Rest Called [".."] Found(2, ".");
+    advice!("a sign twice"; "write it once"; "") => Rest Doubled ["&", ":"] Found(1, "");
     advice!("a number first on its line";
         "a line begins with an instruction or with a label, which is a name with a colon\n\
             behind it";
@@ -166,6 +207,10 @@ pub(crate) const PLACES: &[Habit] = habits! {
     advice!("END apart from its word";
         "write both as one word, with _ between them";
         "END_PROGRAM") => Before Split ["end"] Joined;
+};
+
+/// Calls, parentheses and expressions.
+const CALLS: &[Habit] = habits! {
     advice!("a call of a block without CAL";
         "CAL stands before the name of the instance";
         "CAL rest(IN := pressed, PT := T#3m)") => Rest Invoked ["("] Call;
@@ -196,12 +241,18 @@ pub(crate) const PLACES: &[Habit] = habits! {
 };
 
 /// Operands, and blocks of variables, where they cannot stand.
-pub(crate) const OPERANDS: &[Habit] = habits! {
+const OPERANDS: &[Habit] = habits! {
     NAMED => Literal Absolute ["e", "a", "i", "q", "m", "db"] Nothing;
     advice!("a bit of a number";
         "divide by 2 for each bit below it, and take what is left of a division by 2;\n\
             this is bit 3";
         "LD level\nDIV 8\nMOD 2\nEQ 1") => Before Bit ["."] Nothing;
+    advice!("a comma behind the word of an instruction";
+        "leave it out: the operand stands behind a blank";
+        "LD 150") => Rest Worded [","] Rest(1, " {0}");
+    advice!("a number with a blank in it";
+        "digits stand together, or with _ between them: a thousand is 1000 or 1_000";
+        "LD 1_000") => Any Thousands [""] Pair("{0}{1}");
     advice!("a store to two variables";
         "write it once for each, on a line of its own: the current result stays";
         "ST lamp\nST lamp2") => Second Stored [","] Again;
@@ -235,8 +286,8 @@ pub(crate) const OPERANDS: &[Habit] = habits! {
         Token InFunction ["var_external", "var_global"] Nothing;
 };
 
-/// Signs that stand for a comparison or a calculation.
-pub(crate) const SIGNS: &[Habit] = habits! {
+/// Signs that stand for a comparison or a calculation, numbers and times.
+const NUMBERS: &[Habit] = habits! {
     LOGIC_SIGN =>
         Rest LeadsInBody ["== "] Front(2, "EQ"), Rest LeadsInBody ["<> ", "!= "] Front(2, "NE"),
         Rest LeadsInBody [">= "] Front(2, "GE"), Rest LeadsInBody ["<= "] Front(2, "LE"),
@@ -244,10 +295,6 @@ pub(crate) const SIGNS: &[Habit] = habits! {
         Rest LeadsInBody ["+ "] Front(1, "ADD"), Rest LeadsInBody ["- "] Front(1, "SUB"),
         Rest LeadsInBody ["* "] Front(1, "MUL"), Rest LeadsInBody ["/ "] Front(1, "DIV"),
         Rest LeadsInBody ["% "] Front(1, "MOD");
-};
-
-/// Numbers and times, and values with a type before them or a unit behind them.
-pub(crate) const NUMBERS: &[Habit] = habits! {
     BASED => Literal Anywhere ["0x"] Front(2, "16#"), Literal Anywhere ["0b"] Front(2, "2#");
     DOTTED =>
         Literal Dotted ["t#", "time#"] Milliseconds, Literal Parted ["t#", "time#"] Nothing;
@@ -275,10 +322,14 @@ pub(crate) const NUMBERS: &[Habit] = habits! {
         Unit Anywhere ["ms", "s", "m", "h", "d"] Front(0, "T#"),
         Literal Anywhere ["s5time#"] Front(7, "T#"),
         Literal Anywhere ["s5t#"] Front(4, "T#");
+    advice!("a value where a name is asked for";
+        "what stores takes the name of a variable: the value is loaded on the line\n\
+            before";
+        "LD 200\nST lamp") => Any Stores [""] Nothing;
 };
 
 /// Addresses, words that say more of variables, and blocks that are not there.
-pub(crate) const ADDRESSES: &[Habit] = habits! {
+const ADDRESSES: &[Habit] = habits! {
     advice!("AT is missing before an address";
         "AT stands between the name and its address";
         "lamp AT %QB0.5 : USINT (0..254);") => Literal Names ["%"] Front(0, "AT ");
@@ -324,7 +375,7 @@ pub(crate) const ADDRESSES: &[Habit] = habits! {
 };
 
 /// What Siemens' lists have that is no name, and other signs.
-pub(crate) const SIEMENS: &[Habit] = habits! {
+const SIEMENS: &[Habit] = habits! {
     advice!("an operator of Siemens' lists";
         "write its word, with the second value as its operand: ADD, SUB, MUL, DIV, EQ,\n\
             NE, GT, GE, LT or LE";
@@ -346,3 +397,64 @@ pub(crate) const SIEMENS: &[Habit] = habits! {
         Rest Anywhere ["=", "<", ">", "*", "/"] Nothing, Rest InBody ["+", "-", "!="] Nothing;
     TRUTH_SIGN => Rest InBody ["|"] Nothing;
 };
+
+/// Rows of comments, quotes and files.
+fn quote_rows() -> &'static [Habit] {
+    QUOTES
+}
+
+/// Rows of statements.
+fn statement_rows() -> &'static [Habit] {
+    STATEMENTS
+}
+
+/// Rows of declarations.
+fn declaration_rows() -> &'static [Habit] {
+    DECLARATIONS
+}
+
+/// Rows of lines.
+fn line_rows() -> &'static [Habit] {
+    LINES
+}
+
+/// Rows of calls.
+fn call_rows() -> &'static [Habit] {
+    CALLS
+}
+
+/// Rows of operands.
+fn operand_rows() -> &'static [Habit] {
+    OPERANDS
+}
+
+/// Rows of numbers.
+fn number_rows() -> &'static [Habit] {
+    NUMBERS
+}
+
+/// Rows of addresses.
+fn address_rows() -> &'static [Habit] {
+    ADDRESSES
+}
+
+/// Rows of Siemens' lists.
+fn siemens_rows() -> &'static [Habit] {
+    SIEMENS
+}
+
+/// Each table of habits, in the order in which they are asked. Each stands in a function of its own:
+/// what one function names is checked together, at the cost of its square.
+pub(crate) fn table(number: usize) -> &'static [Habit] {
+    match number {
+        0 => quote_rows(),
+        1 => statement_rows(),
+        2 => declaration_rows(),
+        3 => line_rows(),
+        4 => call_rows(),
+        5 => operand_rows(),
+        6 => number_rows(),
+        7 => address_rows(),
+        _ => siemens_rows(),
+    }
+}

@@ -1,11 +1,12 @@
 //! What people write who come from other languages, where it stands in a text.
 
-use crate::examples::is_in_call;
+use crate::examples::{JUMPS, is_in_call};
 use crate::fixes::{meant, quoted_len};
 use crate::habit::{Habit, Part, Where};
-use crate::habit_rows::{ADDRESSES, NUMBERS, OPERANDS, PLACES, QUOTES, SIEMENS, SIGNS, STATEMENTS};
+use crate::habit_rows::table;
+use crate::operands::stands_above;
 use crate::said::{Said, Standing};
-use explaincures::{INTEGERS, Spot, content_len, is_one_of, part};
+use explaincures::{INTEGERS, Spot, Surroundings, content_len, is_one_of, part};
 use iltokens::{Keyword, Lexed, What, keyword_of, token};
 
 /// Words that begin something that another word ends.
@@ -19,10 +20,13 @@ const OPENING: &[&str] = &[
 ];
 
 /// Instructions with one operand.
-const WITH_OPERAND: &[&str] = &[
+pub(crate) const WITH_OPERAND: &[&str] = &[
     "LD", "LDN", "ST", "STN", "S", "R", "AND", "ANDN", "OR", "ORN", "XOR", "XORN", "ADD", "SUB",
     "MUL", "DIV", "MOD", "GT", "GE", "EQ", "NE", "LE", "LT", "MIN", "MAX",
 ];
+
+/// Instructions that store.
+const STORES: &[&str] = &["ST", "STN", "S", "R"];
 
 /// Instructions behind which no parenthesis stands.
 const SINGLE: &[&str] = &["LD", "LDN", "ST", "STN", "S", "R", "JMP", "JMPC", "JMPCN"];
@@ -32,21 +36,7 @@ const OTHER_TYPES: &[&str] = &["BOOL", "TIME", "TON", "CTU", "R_TRIG"];
 
 /// What is said of what people write, where that stands at a place: of the first that fits.
 pub(crate) fn habit_at(standing: &Standing) -> Option<Said> {
-    (0..8).find_map(|number| first_of(table(number), standing))
-}
-
-/// A table of habits.
-fn table(number: usize) -> &'static [Habit] {
-    match number {
-        0 => QUOTES,
-        1 => STATEMENTS,
-        2 => PLACES,
-        3 => OPERANDS,
-        4 => SIGNS,
-        5 => NUMBERS,
-        6 => ADDRESSES,
-        _ => SIEMENS,
-    }
+    (0..9).find_map(|number| first_of(table(number), standing))
 }
 
 /// The first of some habits that fits.
@@ -113,17 +103,22 @@ fn fits(at: Where, standing: &Standing) -> bool {
         Where::Outside => around.unit.is_none(),
         Where::InGlobal => is_global,
         Where::InOther => around.block.is_some() && !is_global,
-        Where::Names => is_global && is_name(standing.before()),
+        Where::Names => is_global && is_untyped(standing),
+        Where::Untyped => around.block.is_some() && is_untyped(standing),
+        Where::Ranged => {
+            let is_number = matches!(kind_of(standing.before()), Some(What::Number(_)));
+            let is_minus = matches!(spot.rest(), [_, b'0'..=b'9', ..]);
+            !around.is_in_body() && around.parenthesis.is_some() && is_number && is_minus
+        }
         Where::Qualifies => is_qualifier(standing),
-        Where::Types => is_type_first(standing),
+        Where::Types => is_begun(standing) && is_name(spot.part(spot.found_to(), spot.line_to)),
         Where::Begins => is_begun(standing)
             || around.block.is_some() && standing.before() == b",".as_slice(),
         Where::Starts => around.block.is_some()
             && matches!(spot.rest(), [b'(', ..] | [b':', b'=', ..]),
-        Where::Assigned => {
-            let is_named = around.before == spot.first_place() && is_name(standing.before());
-            around.is_in_body() && is_named && has_inputs(spot)
-        }
+        Where::Assigned => is_first_name(standing) && has_inputs(spot),
+        Where::Given => is_first_name(standing) && !spot.rest().starts_with(b"=="),
+        Where::Jumped => { is_first_name(standing) && stands_above(spot, JUMPS, standing.before()) }
         Where::Takes => is_operand(standing),
         Where::Called => is_behind_name(standing),
         Where::Invoked => {
@@ -164,10 +159,9 @@ fn fits_line(at: Where, standing: &Standing) -> bool {
             let is_compared = matches!(rest, [b'=', b' ', b'0'..=b'9', ..]);
             spot.is_first() && around.is_in_body() && !is_compared
         }
+        Where::LeadsName => spot.is_first() && around.is_in_body() && is_before_name(rest),
         Where::Apart => is_apart(spot),
-        Where::Prefix => {
-            is_apart(spot) && matches!(rest, [_, b'a'..=b'z' | b'A'..=b'Z' | b'_', ..])
-        }
+        Where::Prefix => is_apart(spot) && is_before_name(rest),
         Where::Plain => !has_inputs(spot),
         Where::Opened => rest.starts_with(b"(") && spot.first_word().eq_ignore_ascii_case(before),
         Where::Split => is_one_of(spot.token(), OPENING),
@@ -177,7 +171,22 @@ fn fits_line(at: Where, standing: &Standing) -> bool {
             is_alone && (spot.is_first() || is_apart(spot))
         }
         Where::Closes => rest.starts_with(b")"),
-        Where::Stored => is_one_of(spot.first_word(), &["ST", "STN", "S", "R"]),
+        Where::Closed => {
+            around.is_in_body() && before == b")".as_slice() && is_before_name(rest)
+        }
+        Where::Worded => {
+            let is_behind = around.before == spot.first_place();
+            around.is_in_body() && is_behind && is_one_of(before, WITH_OPERAND)
+        }
+        Where::Stored => is_one_of(spot.first_word(), STORES),
+        Where::Stores => {
+            let is_value = matches!(kind_of(spot.token()), Some(What::Number(_) | What::Time(_)));
+            is_value && is_one_of(before, STORES) && around.before.0 >= spot.line_from
+        }
+        Where::Sets => {
+            let is_named = around.before.0 >= spot.first_place().1;
+            around.is_in_body() && is_named && is_one_of(spot.first_word(), &["S", "R"])
+        }
         _ => fits_words(at, standing),
     }
 }
@@ -200,9 +209,17 @@ fn fits_words(at: Where, standing: &Standing) -> bool {
             let is_end = matches!(behind, [] | [b',' | b')' | b';', ..]);
             is_behind && is_number && !before.is_empty() && is_end
         }
-        Where::Signed => {
-            let is_name = matches!(rest, [_, b'a'..=b'z' | b'A'..=b'Z' | b'_', ..]);
-            is_behind && is_name && is_one_of(before, WITH_OPERAND)
+        Where::Signed => is_behind && is_before_name(rest) && is_one_of(before, WITH_OPERAND),
+        Where::Thousands => {
+            let is_front = is_number
+                && matches!(
+                    before,
+                    [b'1'..=b'9'] | [b'1'..=b'9', _] | [b'1'..=b'9', _, _]
+                );
+            let is_group = matches!(spot.token(), [_, b'0'..=b'9', b'0'..=b'9']);
+            // As `ADD 1 100` may be meant as two operands, where `ADD 1 050` is none.
+            let is_one = rest.starts_with(b"0") || is_one_of(spot.first_word(), &["LD"]);
+            is_behind && is_front && is_group && is_one && is_apart(spot)
         }
         Where::Labels => is_labelled(standing) && is_behind && !is_declaration(spot),
         Where::Trails => {
@@ -213,6 +230,16 @@ fn fits_words(at: Where, standing: &Standing) -> bool {
         Where::Bounds => is_one_of(before, INTEGERS),
         Where::Lists => before == b":".as_slice(),
         Where::Parts => is_between_digits(spot),
+        Where::Ported => {
+            let is_port = matches!(spot.part(0, around.before.0), [.., b'.']);
+            around.is_in_body() && is_port
+        }
+        Where::Doubled => is_behind && before == spot.token(),
+        Where::Timed => {
+            let is_time = matches!(kind_of(before), Some(What::Time(_)));
+            is_behind && is_time && matches!(rest, [b'0'..=b'9', ..])
+        }
+        Where::Hexadecimal => !is_name(before) && is_hexadecimal(spot),
         _ => fits_literal(at, standing),
     }
 }
@@ -236,6 +263,14 @@ fn fits_literal(at: Where, standing: &Standing) -> bool {
         (Where::Address, _) => matches!(kind_of(literal), Some(What::Address { .. })),
         (Where::Dotted, _) => is_dotted,
         (Where::Parted, _) => { matches!(spot.part(to, spot.line_to), [b',', b'0'..=b'9', ..]) }
+        (Where::Open, [.., b'#']) => {
+            let behind = spot.part(to, spot.line_to);
+            matches!(behind, [b' ', ..]) && matches!(behind.trim_ascii_start(), [b'0'..=b'9', ..])
+        }
+        (Where::Negative, [.., b'#']) => {
+            matches!(spot.part(to, spot.line_to), [b'-' | b'+', b'0'..=b'9', ..])
+        }
+        (Where::Negative | Where::Open, _) => false,
         (Where::Bit, _) => {
             let is_number = matches!(spot.rest(), [b'0'..=b'9', ..]);
             around.is_in_body() && is_number && is_name(spot.part(from, spot.at))
@@ -256,10 +291,17 @@ fn is_qualifier(standing: &Standing) -> bool {
     matches!(front.trim_ascii_end(), [] | [.., b';'])
 }
 
-/// Whether a declaration begins with what was found, and a name stands behind it.
-fn is_type_first(standing: &Standing) -> bool {
-    let spot = &standing.spot;
-    is_begun(standing) && is_name(spot.part(spot.found_to(), spot.line_to))
+/// Whether the first name of a line stands before the place, among instructions.
+fn is_first_name(standing: &Standing) -> bool {
+    let Standing { spot, around, .. } = standing;
+    around.is_in_body() && around.before == spot.first_place() && is_name(standing.before())
+}
+
+/// Whether a name stands before the place that is no type: no colon stands before it.
+fn is_untyped(standing: &Standing) -> bool {
+    let Standing { spot, around, .. } = standing;
+    let (from, to) = Surroundings::of(spot.text, around.before.0).before;
+    is_name(standing.before()) && spot.part(from, to) != b":".as_slice()
 }
 
 /// Whether a declaration begins with what was found.
@@ -280,7 +322,7 @@ fn is_labelled(standing: &Standing) -> bool {
 }
 
 /// Whether a name or a number was found among instructions, behind a word of its line.
-fn is_operand(standing: &Standing) -> bool {
+pub(crate) fn is_operand(standing: &Standing) -> bool {
     let Standing { spot, around, .. } = standing;
     let is_written = matches!(spot.rest(), [b'a'..=b'z' | b'A'..=b'Z' | b'0'..=b'9' | b'_', ..]);
     let is_reserved = keyword_of(spot.token()).is_some();
@@ -308,6 +350,25 @@ fn is_second(standing: &Standing, words: &[&str]) -> bool {
     is_one && around.parenthesis.is_none() && is_one_of(spot.first_word(), WITH_OPERAND)
 }
 
+/// Whether hexadecimal digits stand behind `&H`, or behind a sign alone: with one of 0 to 9 and one
+/// of A to F among them, or FF or FE, since a name may be meant, or a number of base 10.
+fn is_hexadecimal(spot: &Spot) -> bool {
+    let written = Spot::of(spot.text, spot.at.saturating_add(1)).token();
+    let digits = match written {
+        [b'h' | b'H', digits @ ..] => digits,
+        _ => written,
+    };
+    let is_mixed = written.iter().any(|byte| byte.is_ascii_digit())
+        && written.iter().any(|byte| byte.is_ascii_alphabetic());
+    let is_known = is_mixed || is_one_of(written, &["FF", "FE", "HFF", "HFE"]);
+    is_known && digits.iter().all(|byte| byte.is_ascii_hexdigit())
+}
+
+/// Whether a letter or `_` stands behind a sign.
+fn is_before_name(rest: &[u8]) -> bool {
+    matches!(rest, [_, b'a'..=b'z' | b'A'..=b'Z' | b'_', ..])
+}
+
 /// Whether one byte stands between two digits.
 fn is_between_digits(spot: &Spot) -> bool {
     matches!(spot.front(), [.., b'0'..=b'9']) && matches!(spot.rest(), [_, b'0'..=b'9', ..])
@@ -330,7 +391,7 @@ fn begins(bytes: &[u8], words: &[&str]) -> bool {
 }
 
 /// What a word is that stands first.
-fn kind_of(word: &[u8]) -> Option<What> {
+pub(crate) fn kind_of(word: &[u8]) -> Option<What> {
     match token(word, 0) {
         Lexed::Token { what, .. } => Some(what),
         _ => None,

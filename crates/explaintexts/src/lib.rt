@@ -17,8 +17,11 @@ mod fixes;
 mod habit;
 mod habit_rows;
 mod habits;
+mod near_declarations;
+mod near_instructions;
 mod negations;
 mod numbers;
+mod operands;
 mod proposals;
 mod said;
 

@@ -1,5 +1,6 @@
 //! What is said of NOT, `!` or `~` before an operand: N behind the instruction's word says it.
 
+use crate::fixes::call_before;
 use crate::said::{Place, Said, Standing, advice};
 use explaincures::{Advice, Spot, Surroundings, content_len, is_one_of};
 
@@ -58,15 +59,15 @@ pub(crate) fn negation(standing: &Standing) -> Option<Said> {
         _ => said,
     })
 }
+
 /// `CAL t(IN := NOT b, ..)` as `LDN b`, `ST t.IN` and the call without this input: what is open,
 /// and where `:=` stands.
 fn before_call(said: Said, spot: &Spot, (open, given): Place, (_, to): Place) -> Said {
     let name = Surroundings::of(spot.text, open).before;
-    let call = Surroundings::of(spot.text, name.0).before;
-    let is_call = is_one_of(spot.part(call.0, call.1), &["CAL"]) && call.0 >= spot.line_from;
-    if !is_call || name.1 != open {
-        return said;
-    }
+    let call = match call_before(spot, name) {
+        Some(call) if call.0 >= spot.line_from && name.1 == open => call,
+        _ => return said,
+    };
     let port_to = content_len(spot.part(0, given));
     let port = (Spot::of(spot.text, port_to).literal().0, port_to);
     let (cut, cut_to) = argument(spot, open, port.0, to);

@@ -130,6 +130,11 @@ fn end(standing: &Standing, possible: &Possible) -> Option<Said> {
     )
 }
 
+/// Instructions that stand outside parentheses alone.
+const OUTSIDE: &[&str] = &[
+    "ST", "STN", "S", "R", "JMP", "JMPC", "JMPCN", "CAL", "CALC", "CALCN", "RET", "RETC", "RETCN",
+];
+
 /// The parentheses that close what operators opened, before a word that stands only outside, each
 /// on a line of its own.
 fn close(standing: &Standing) -> Option<Said> {
@@ -138,6 +143,14 @@ fn close(standing: &Standing) -> Option<Said> {
         "close it before this line, with ) on a line of its own";
         "");
     let line = line_number(spot.text, around.parenthesis?) as u64;
+    let behind = spot.part(spot.line_to, spot.text.len());
+    if is_one_of(spot.token(), OUTSIDE) && behind.trim_ascii_start().starts_with(b")") {
+        let row = advice!("{0} within a parenthesis";
+            "what stores, jumps, calls or returns stands outside parentheses: write it\n\
+                behind the ) of the next line";
+            "LD level\nADD( change\nMUL 2\n)\nST level");
+        return Some(Said::of(row, (spot.at, spot.found_to())));
+    }
     let from = (spot.line_from, spot.line_from);
     let said = Said::of(row, from).with_numbers((line, around.open as u64));
     (around.is_in_body() && spot.is_first()).then_some(said.put(from, "{)}"))
@@ -233,7 +246,8 @@ fn without(spot: &Spot, possible: &Possible) -> Option<Said> {
 /// A sign in place of what was found.
 fn instead(spot: &Spot, possible: &Possible, sign: &'static str) -> Option<Said> {
     // A dot within a name parts it, where a comma would make two of it.
-    let is_name = spot.token() == b".".as_slice() && sign.as_bytes() == b",".as_slice();
+    let is_comma = sign.as_bytes() == b",".as_slice();
+    let is_name = spot.token() == b".".as_slice() && is_comma;
     let row = advice!("{0} where {w} is asked for"; "write {w} in its place"; "");
     let said = Said::of(row, (spot.at, spot.found_to())).with_words((sign_name(sign), ""));
     (possible.has_word(sign) && !is_name).then_some(said.bold(Change::Sign(sign)))
