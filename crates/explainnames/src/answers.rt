@@ -1,120 +1,135 @@
-//! What is said of a fault of names, as text, and the changes that are tried.
+//! What is said of a fault of names, as text: what stands for the slots, and lists.
 
-use crate::facts::{MOST_TOLD, fact_text};
-use crate::said::{Change, Said, Slot};
+use crate::said::{Said, Slot};
 use crate::standing::FaultPlace;
-use crate::tokens::token_at;
-use explaincures::{Edit, EditOutcome, Example, FaultAnswer, is_near, near_word, shown_text};
-use iltokens::What;
+use crate::tokens::{Role, next_same};
+use explaincures::{Example, FaultAnswer, line_number, line_of, shown_text};
 use std::alloc::AllocError;
 
-/// How many names of the text are tried at most.
-const MOST_TRIED: usize = 8;
+/// How many lines or sources are told at most.
+pub(crate) const MOST_TOLD: usize = 8;
 
 impl FaultPlace<'_, '_> {
-    /// What is said as an answer, with the first change that helps: after it the names of the text
-    /// have no fault up to the change.
+    /// What is said as an answer, with the first change that helps, if one does.
     pub(crate) fn answer(&self, said: &Said) -> Result<FaultAnswer, AllocError> {
-        let answer = FaultAnswer {
-            what: self.filled(said, said.advice.what)?,
-            facts: fact_text(self, said.fact)?,
-            cure: self.filled(said, said.advice.cure)?,
-            example: Example::Other(self.filled(said, said.advice.line)?),
-        };
-        for edit in &self.edits(said)? {
-            match edit.outcome(self.alloc, self.asked)? {
-                EditOutcome::Text
-                | EditOutcome::Name {
-                    is_later: false,
-                    ..
-                } => {}
-                _ => return answer.with_tried(self.alloc, self.spot.text, edit),
-            }
+        let answer = self.plain(said)?;
+        match self.cure(said)? {
+            Some(edit) => answer.with_tried(self.alloc, self.spot.text, &edit),
+            None => Ok(answer),
         }
-        Ok(answer)
     }
 
-    /// A text of the row, with what stands for its slots.
+    /// The same, with the lines of another text.
+    fn plain(&self, said: &Said) -> Result<FaultAnswer, AllocError> {
+        let (what, rest) = parted(said.row);
+        let (cure, line) = parted(rest);
+        Ok(FaultAnswer {
+            what: self.filled(said, what)?,
+            facts: self.filled(said, said.facts)?,
+            cure: self.filled(said, cure)?,
+            example: Example::Other(self.filled(said, line)?),
+        })
+    }
+
+    /// What is wrong.
+    pub(crate) fn what(&self, said: &Said) -> Result<String, AllocError> {
+        let (what, _) = parted(said.row);
+        self.filled(said, what)
+    }
+
+    /// A text, with what stands for its slots.
     pub(crate) fn filled(&self, said: &Said, row: &str) -> Result<String, AllocError> {
         let mut text = String::new(self.alloc);
-        for (index, piece) in row.split(['{', '}']).enumerate() {
-            if index % 2 == 0 {
-                text.push_str(piece)?;
-            } else {
-                self.push_slot(&mut text, said, piece)?;
+        let mut is_slot = false;
+        for letter in row.chars() {
+            match letter {
+                '{' => is_slot = true,
+                '}' => is_slot = false,
+                name if is_slot => self.push_slot(&mut text, said, name)?,
+                _ => text.push(letter)?,
             }
         }
         Ok(text)
     }
 
-    /// Adds what stands for the slot of a number.
-    fn push_slot(&self, text: &mut String, said: &Said, number: &str) -> Result<(), AllocError> {
+    /// Adds what stands for a slot: `{0}` to `{2}`, `{l}` and `{g}` as said; `{b}` is how many
+    /// buses there are, `{z}` the last of them, and `{c}` how many inputs the function has.
+    fn push_slot(&self, text: &mut String, said: &Said, name: char) -> Result<(), AllocError> {
         let [first, second, third] = said.slots;
-        let slot = match number {
-            "0" => first,
-            "1" => second,
-            _ => third,
+        let buses = u64::from(self.asked.binding.buses());
+        let line = line_number(self.spot.text, said.at);
+        let slot = match name {
+            '0' => first,
+            '1' => second,
+            '2' => third,
+            'l' => Slot::Number(line as u64),
+            'b' => Slot::Number(buses),
+            'z' => Slot::Number(buses.saturating_sub(1)),
+            'c' => Slot::Number(self.inputs().len() as u64),
+            'g' => {
+                let found = shown_text(self.alloc, line_of(self.spot.text, line))?;
+                return text.push_str(&format!(in self.alloc; "{line:>6} | {found}")?);
+            }
+            list => return self.push_list(text, list),
         };
+        self.push(text, slot)
+    }
+
+    /// Adds what stands there in place of a slot.
+    fn push(&self, text: &mut String, slot: Slot) -> Result<(), AllocError> {
+        let alloc = self.alloc;
         match slot {
             Slot::Nothing => Ok(()),
             Slot::Word(word) => text.push_str(word),
-            Slot::Number(number) => text.push_str(&format!(in self.alloc; "{number}")?),
-            Slot::Limit(number) => text.push_str(&format!(in self.alloc; "{number}")?),
-            Slot::Part(from, to) => {
-                text.push_str(&shown_text(self.alloc, self.spot.part(from, to))?)
-            }
+            Slot::Bytes(bytes) => text.push_str(&shown_text(alloc, bytes)?),
+            Slot::Number(number) => text.push_str(&format!(in alloc; "{number}")?),
+            Slot::Limit(number) => text.push_str(&format!(in alloc; "{number}")?),
+            Slot::Part(from, to) => text.push_str(&shown_text(alloc, self.spot.part(from, to))?),
+            Slot::Source(bus, number) => text.push_str(&format!(in alloc; "{bus}.{number}")?),
         }
     }
 
-    /// The changes that may help.
-    fn edits(&self, said: &Said) -> Result<Vec<Edit>, AllocError> {
-        let mut edits = Vec::new(self.alloc);
-        match said.change {
-            Change::Nothing => {}
-            Change::Near => self.add_near(&mut edits)?,
-            Change::Put(from, to, with) => {
-                let with = self.filled(said, with)?;
-                edits.push(Edit::new(self.alloc, from, to, with.as_bytes())?)?;
-            }
-            Change::Source(word, added) => {
-                for bound in self.asked.binding.sources().iter().take(MOST_TOLD) {
-                    let (bus, number) = (bound.bus, u64::from(bound.number).saturating_add(added));
-                    let with = format!(in self.alloc; "{word}{bus}.{number}")?;
-                    self.add_edit(&mut edits, with.as_bytes())?;
-                }
-            }
-        }
-        Ok(edits)
-    }
-
-    /// Adds a text in place of what was found.
-    fn add_edit(&self, edits: &mut Vec<Edit>, with: &[u8]) -> Result<(), AllocError> {
-        edits.push(Edit::new(self.alloc, self.spot.at, self.spot.found_to(), with)?)?;
-        Ok(())
-    }
-
-    /// Adds the reserved word, and the names of the text, each once, that are near to what was
-    /// found.
-    fn add_near(&self, edits: &mut Vec<Edit>) -> Result<(), AllocError> {
-        if let Some(word) = near_word(self.spot.token()) {
-            self.add_edit(edits, word.as_bytes())?;
-        }
-        let most = edits.len().saturating_add(MOST_TRIED);
+    /// Adds a list.
+    fn push_list(&self, text: &mut String, list: char) -> Result<(), AllocError> {
         let mut at: usize = 0;
-        for _ in 0..self.spot.text.len() {
-            let Some(found) = token_at(self.spot.text, at) else {
-                break;
+        for number in 0..self.spot.text.len() {
+            let Some(one) = self.listed(list, number, &mut at) else {
+                return Ok(());
             };
-            at = found.to;
-            let name = self.spot.part(found.from, found.to);
-            let is_new = !edits
-                .iter()
-                .any(|edit| edit.with.eq_ignore_ascii_case(name));
-            let is_meant = found.what == What::Name && is_near(name, self.spot.token());
-            if is_meant && is_new && edits.len() < most {
-                self.add_edit(edits, name)?;
-            }
+            text.push_str(if number > 0 { ", " } else { "" })?;
+            self.push(text, one)?;
         }
         Ok(())
     }
+
+    /// What stands at a number of a list: `{p}` has the ports of the block whose port is meant,
+    /// `{i}` the inputs of the function, `{e}` the sources, and `{s}` the lines that store to the
+    /// variable, which are looked for from a place on.
+    fn listed(&self, list: char, number: usize, at: &mut usize) -> Option<Slot> {
+        match list {
+            'p' => {
+                let port = self.block_of_port()?.ports().get(number)?;
+                Some(Slot::Bytes(port.name.spelling()))
+            }
+            'i' => {
+                let name = self.inputs().get(number)?.name;
+                Some(Slot::Part(name.from, name.to))
+            }
+            'e' if number < MOST_TOLD => {
+                let bound = self.asked.binding.sources().get(number)?;
+                Some(Slot::Source(u64::from(bound.bus), u64::from(bound.number)))
+            }
+            's' if number < MOST_TOLD => {
+                let found = next_same(&self.spot, *at, Role::Stored)?;
+                *at = found.to;
+                Some(Slot::Number(line_number(self.spot.text, found.from) as u64))
+            }
+            _ => None,
+        }
+    }
+}
+
+/// What stands before a tab, and behind it.
+pub(crate) fn parted(row: &'static str) -> (&'static str, &'static str) {
+    row.split_once('\t').unwrap_or((row, ""))
 }

@@ -13,8 +13,8 @@
 
 mod addresses;
 mod answers;
+mod changes;
 mod declarations;
-mod facts;
 mod name_answers;
 mod name_causes;
 mod name_habits;

@@ -2,45 +2,44 @@
 
 use crate::said::advice;
 use crate::standing::{FaultPlace, Standing};
-use explaincures::Advice;
-use ilsource::{Declared, Purpose};
+use ilsource::Purpose;
 use limits::{MOST_CALLS, MOST_FUNCTIONS, MOST_INPUTS, MOST_INSTANCES, MOST_TASKS};
 
-pub(crate) const UNKNOWN_LABEL: Advice = advice!("a label that does not exist";
+pub(crate) const UNKNOWN_LABEL: &str = advice!("a label that does not exist";
     "write the label further on, or correct the name";
     "skip:");
 
-pub(crate) const OTHER_LABEL: Advice = advice!("a label of another program or function";
+pub(crate) const OTHER_LABEL: &str = advice!("a label of another program or function";
     "a jump stays in its program or function: write a label further on in it";
     "skip:");
 
-pub(crate) const BACKWARD_JUMP: Advice = advice!("a jump that does not lead forward";
+pub(crate) const BACKWARD_JUMP: &str = advice!("a jump that does not lead forward";
     "put the label below the jump; what is to be done again is done in the\n\
         next scan";
     "JMP below");
 
-pub(crate) const INPUT_RANGE_TOO_SMALL: Advice = advice!(
+pub(crate) const INPUT_RANGE_TOO_SMALL: &str = advice!(
     "a variable that lacks values of its input";
     "give it a type with all numbers of its address: answers are 0 to 258,\n\
         information 0 to 1023, counts 0 to 65535";
     "answer AT %IW0.5 : UINT (0..258);");
 
-pub(crate) const WRITTEN_TWICE: Advice = advice!("a global variable that two tasks store to";
+pub(crate) const WRITTEN_TWICE: &str = advice!("a global variable that two tasks store to";
     "give both program instances to one task, or let one task store to\n\
         another variable, which the other reads";
     "PROGRAM b WITH fast : sw;");
 
-pub(crate) const NO_TASK: Advice = advice!("a program instance without a task";
+pub(crate) const NO_TASK: &str = advice!("a program instance without a task";
     "write WITH and a task";
     "TASK clock (INTERVAL := T#100ms, PRIORITY := 1);\nPROGRAM hall WITH clock : light;");
 
-const SHARED_NAME: Advice = advice!("a name that a type, a function or a program above has";
+const SHARED_NAME: &str = advice!("a name that a type, a function or a program above has";
     "give one of them another name: types, functions and programs share their\n\
         names; letter case does not tell names apart";
     "FUNCTION half2 : INT (0..127)");
 
 /// What is said of a name that is not declared, where nothing else is known of it.
-pub(crate) fn unknown(standing: Standing) -> Advice {
+pub(crate) fn unknown(standing: Standing) -> &'static str {
     match standing {
         Standing::Used(used) if matches!(used.purpose, Purpose::Invoke) => {
             advice!("no instruction, and no function that is declared above";
@@ -54,6 +53,12 @@ pub(crate) fn unknown(standing: Standing) -> Advice {
                     so hand in what else it needs as an input";
                 "VAR_INPUT lamp : USINT (0..254); END_VAR")
         }
+        Standing::Used(used) if matches!(used.purpose, Purpose::Call) => {
+            advice!("a name that is not declared";
+                "CAL names an instance of a function block: correct the name, or declare the\n\
+                    instance in VAR";
+                "VAR rest : TON; END_VAR")
+        }
         _ => advice!("a name that is not declared";
             "correct the name, or declare it in this program: its own variables in\n\
                 VAR, those of the configuration in VAR_EXTERNAL";
@@ -62,7 +67,7 @@ pub(crate) fn unknown(standing: Standing) -> Advice {
 }
 
 /// What is said of a name or an address that is given twice.
-pub(crate) fn given_twice(place: &FaultPlace) -> Advice {
+pub(crate) fn given_twice(place: &FaultPlace) -> &'static str {
     match place.standing {
         _ if place.spot.token().starts_with(b"%") => advice!("an address that is given twice";
             "use the variable that has the address; each address has one name";
@@ -80,7 +85,7 @@ pub(crate) fn given_twice(place: &FaultPlace) -> Advice {
 }
 
 /// What is said of a store that cannot be.
-pub(crate) fn writes_input(standing: Standing) -> Advice {
+pub(crate) fn writes_input(standing: Standing) -> &'static str {
     match standing {
         Standing::Used(used) if used.is_in_function => {
             advice!("a store to an input of the function";
@@ -88,6 +93,14 @@ pub(crate) fn writes_input(standing: Standing) -> Advice {
                     name, or to a variable of its VAR";
                 "VAR rest : INT (0..254); END_VAR")
         }
+        Standing::Used(used) if matches!(used.purpose, Purpose::Pass) => {
+            advice!("an output of a block in its call";
+                "leave it out: an output is read behind the call, with a dot";
+                "CAL count(PV := 5)\nLD count.CV\nST level")
+        }
+        Standing::Global(..) => advice!("a store to an output of a block, or to an input";
+            "an input is written by the buses alone: leave out := and its first value";
+            "answer AT %IW0.5 : UINT (0..258);"),
         _ => advice!("a store to an output of a block, or to an input";
             "inputs are written by the buses alone, outputs of a block by the block:\n\
                 store to another variable";
@@ -95,32 +108,8 @@ pub(crate) fn writes_input(standing: Standing) -> Advice {
     }
 }
 
-/// What is said of a bad declaration, or of a call, where nothing else is known of it.
-pub(crate) fn bad_declaration(standing: Standing) -> Advice {
-    match standing {
-        Standing::Function(false, _) => advice!("a function without an input";
-            "declare one at least: a call hands the current result to the first";
-            "VAR_INPUT v : INT (0..254); END_VAR"),
-        Standing::Own(Declared::Blocks(_)) => advice!("a block instance in a function";
-            "a function keeps nothing from call to call: declare the instance in the\n\
-                program, and hand in what it gives as an input";
-            "VAR_INPUT pressed : BOOL; END_VAR"),
-        Standing::Used(used) if matches!(used.purpose, Purpose::Invoke) => {
-            advice!("a call with too few or too many operands";
-                "the current result goes to the first input: write an operand for each\n\
-                    other one, in their order";
-                "blend 100, 25")
-        }
-        _ => advice!("a bad declaration";
-            "keep the limits within those of the type, the lower one first, and the\n\
-                first value within them; a task has either SINGLE or INTERVAL, and a\n\
-                priority of 0 to 65535";
-            "n : USINT (0..254) := 0;"),
-    }
-}
-
 /// What is said of too much, of a function with the given number above it and this depth.
-pub(crate) fn too_many(standing: Standing, number: usize, depth: usize) -> Advice {
+pub(crate) fn too_many(standing: Standing, number: usize, depth: usize) -> &'static str {
     match standing {
         Standing::Task(number, _) if number >= MOST_TASKS => {
             advice!("the 17th task: there are at most 16";

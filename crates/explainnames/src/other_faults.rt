@@ -83,7 +83,7 @@ impl OtherFaults {
         }
         if let NameFault::At { line, col, cause } = report_of(place.asked.text, found) {
             let said = said_of(place, cause)?;
-            let what = place.filled(&said, said.advice.what)?;
+            let what = place.what(&said)?;
             self.named.push(NamedFault {
                 line,
                 col,

@@ -1,61 +1,42 @@
 //! What is said of a fault of names, as plain values.
 
-use explaincures::Advice;
-use ilblocks::BlockKind;
-
-/// A row of what is said: what is wrong, what helps, and lines of another text.
+/// A row of what is said, its columns apart by tabs: what is wrong, what helps, and lines of
+/// another text.
 macro_rules! advice {
     ($what:literal; $cure:literal; $line:literal) => {
-        Advice {
-            what: $what,
-            cure: $cure,
-            line: $line,
-        }
+        concat!($what, "\t", $cure, "\t", $line)
     };
 }
 
 pub(crate) use advice;
 
-/// What is said of a fault of names.
+/// What is said of a fault of names. A sign in braces is a slot of the texts.
 #[derive(Clone, Copy)]
 pub(crate) struct Said {
-    /// A row of texts, in which `{0}` to `{2}` stand for the slots.
-    pub advice: Advice,
+    /// A row of [`advice`].
+    pub row: &'static str,
+    /// What more is known, in lines.
+    pub facts: &'static str,
+    /// What stands for `{0}` to `{2}`.
     pub slots: [Slot; 3],
-    pub fact: Fact,
+    /// The place of which `{l}` is the line's number, and `{g}` the line with its number.
+    pub at: usize,
     pub change: Change,
 }
 
-/// What stands in a text in place of a number in braces.
+/// What stands in a text in place of a slot.
 #[derive(Clone, Copy)]
 pub(crate) enum Slot {
     Nothing,
     Word(&'static str),
+    Bytes(&'static [u8]),
     Number(u64),
     /// A number that a declaration has.
     Limit(i64),
     /// These bytes of the text.
     Part(usize, usize),
-}
-
-/// What more is known of a fault.
-#[derive(Clone, Copy)]
-pub(crate) enum Fact {
-    Nothing,
-    /// What is in the line of this place.
-    Line(&'static str, usize),
-    /// The line of VAR_GLOBAL at this place.
-    Global(usize),
-    /// The lines that store to the variable.
-    Stores,
-    /// The inputs of the function that is called.
-    Inputs,
-    /// The ports of a block.
-    Ports(BlockKind),
-    /// How many buses there are.
-    Buses,
-    /// Which sources there are.
-    Sources,
+    /// The bus and the number of a source.
+    Source(u64, u64),
 }
 
 /// What may cure a fault; it is shown where it does.
@@ -66,17 +47,19 @@ pub(crate) enum Change {
     Near,
     /// This text, which has slots too, in place of the bytes from one place to another.
     Put(usize, usize, &'static str),
-    /// The address of a source of the binding: this word, and the number that is added to its own.
-    Source(&'static str, u64),
+    /// The address of a source of the binding: the word of the first slot, and the number that is
+    /// added to the source's own.
+    Source(u64),
 }
 
 impl Said {
     /// What a row says, and nothing else.
-    pub(crate) fn of(advice: Advice) -> Said {
+    pub(crate) fn of(row: &'static str) -> Said {
         Said {
-            advice,
+            row,
+            facts: "",
             slots: [Slot::Nothing; 3],
-            fact: Fact::Nothing,
+            at: 0,
             change: Change::Nothing,
         }
     }
@@ -86,9 +69,9 @@ impl Said {
         Said { slots, ..self }
     }
 
-    /// The same, with more that is known.
-    pub(crate) fn with_fact(self, fact: Fact) -> Said {
-        Said { fact, ..self }
+    /// The same, with more that is known, of a place.
+    pub(crate) fn with_facts(self, facts: &'static str, at: usize) -> Said {
+        Said { facts, at, ..self }
     }
 
     /// The same, with what may cure the fault.

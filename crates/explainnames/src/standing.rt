@@ -2,11 +2,12 @@
 
 use explaincures::{AskedText, Spot};
 use ilblocks::BlockKind;
-use ilscope::Scope;
+use ilscope::{DeclaredVariable, FunctionScope, Scope};
 use ilsource::{
-    Configuration, Constant, Declaration, Declared, Element, Line, Name, Operand, Program, Purpose,
-    Source, SourceFunction, Specification, Symbol, TaskDeclaration,
+    Configuration, Constant, Declaration, Declared, Element, Line, Name, Operand, Purpose, Source,
+    SourceFunction, Specification, Symbol, TaskDeclaration,
 };
+use iltokens::AddressKind;
 use iluses::uses_of;
 use std::alloc::{AllocError, Global};
 
@@ -27,8 +28,9 @@ pub(crate) enum Standing {
     Task(usize, TaskDeclaration),
     /// The name of a program instance, with the number of those before it.
     Instance(usize),
-    /// The name of a global variable: whether it has an address, and what it is declared as.
-    Global(bool, Declared),
+    /// The name of a global variable: of which kind its address is, if it has one, and what it is
+    /// declared as.
+    Global(Option<AddressKind>, Declared),
     Type(Declared),
     Program,
     /// The name of a function: whether it has inputs, and its result.
@@ -62,12 +64,13 @@ impl<'a, 's> FaultPlace<'a, 's> {
         scope: &'a Scope<'s>,
         at: usize,
     ) -> Result<FaultPlace<'a, 's>, AllocError> {
+        let standing = standing_at(alloc, scope.source(), at)?;
         Ok(FaultPlace {
             alloc,
             asked,
             scope,
             spot: Spot::of(asked.text, at),
-            standing: standing_at(alloc, scope.source(), at)?,
+            standing,
         })
     }
 
@@ -79,57 +82,70 @@ impl<'a, 's> FaultPlace<'a, 's> {
         }
     }
 
-    /// The kind of the block instance that has a name in the program in which the place stands.
-    pub(crate) fn block_named(&self, name: Name) -> Option<BlockKind> {
-        let mut declarations = self.declarations().iter();
-        declarations.find_map(|one| match one.declared_kind() {
-            Declared::Blocks(kind) if self.has_name(one, name) => Some(kind),
-            _ => None,
-        })
-    }
-
-    /// Whether a variable has a name in the program in which the place stands, or an external.
-    pub(crate) fn is_variable(&self, name: Name) -> bool {
-        let mut declarations = self.declarations().iter();
-        declarations.any(|one| {
-            !matches!(one.declared_kind(), Declared::Blocks(_)) && self.has_name(one, name)
-        })
+    /// What a name is declared as in the program in which the place stands: as a block instance, if
+    /// it is one.
+    pub(crate) fn declared_as(&self, name: Name) -> Option<Declared> {
+        let Some(Element::Program(program)) = element_at(self.scope.source(), self.spot.at) else {
+            return None;
+        };
+        let mut found = None;
+        for declaration in program.declarations() {
+            for one in declaration.names() {
+                if one.is_same(name, self.spot.text) {
+                    found = Some(declaration.declared_kind());
+                    if let Some(Declared::Blocks(_)) = found {
+                        return found;
+                    }
+                }
+            }
+        }
+        found
     }
 
     /// Whether the program in which the place stands declares a name with a type that there is not,
     /// so that a function block may be meant.
     pub(crate) fn has_unknown_type(&self, name: Name) -> bool {
-        let mut declarations = self.declarations().iter();
-        declarations.any(|one| match one.declared_kind() {
+        let Some(
             Declared::Variables {
                 specification: Specification::Named(kind),
                 ..
-            } => self.has_name(one, name) && !self.has_type(kind),
-            _ => false,
-        })
+            },
+        ) = self.declared_as(name)
+        else {
+            return false;
+        };
+        for element in self.scope.source().elements() {
+            if let Element::DerivedType(one) = element {
+                if one.name.is_same(kind, self.spot.text) {
+                    return false;
+                }
+            }
+        }
+        true
     }
 
-    /// What the program in which the place stands declares.
-    fn declarations(&self) -> &'s [Declaration] {
-        match element_at(self.scope.source(), self.spot.at) {
-            Some(Element::Program(program)) => program.declarations(),
-            _ => &[],
+    /// The kind of the block instance of which a port is named at the place.
+    pub(crate) fn block_of_port(&self) -> Option<BlockKind> {
+        match self.standing {
+            Standing::Used(
+                Used {
+                    symbol: Symbol::Port { block, .. },
+                    ..
+                },
+            ) => match self.declared_as(block)? {
+                Declared::Blocks(kind) => Some(kind),
+                _ => None,
+            },
+            _ => None,
         }
     }
 
-    /// Whether a declaration has a name.
-    fn has_name(&self, declaration: &Declaration, name: Name) -> bool {
-        let mut names = declaration.names().iter();
-        names.any(|one| one.is_same(name, self.spot.text))
-    }
-
-    /// Whether the text has a type of a name.
-    fn has_type(&self, name: Name) -> bool {
-        let mut elements = self.scope.source().elements().iter();
-        elements.any(|element| match element {
-            Element::DerivedType(one) => one.name.is_same(name, self.spot.text),
-            _ => false,
-        })
+    /// The name of the function in which the place stands.
+    pub(crate) fn function_around(&self) -> Option<Name> {
+        match element_at(self.scope.source(), self.spot.at)? {
+            Element::Function(function) => Some(function.name()),
+            _ => None,
+        }
     }
 
     /// The global variable that has the name at the place.
@@ -139,51 +155,64 @@ impl<'a, 's> FaultPlace<'a, 's> {
     }
 
     /// The first function that has the name at the place.
-    pub(crate) fn function_named(&self) -> Option<&'s SourceFunction> {
+    pub(crate) fn function_named(&self) -> Option<&'a FunctionScope<'s>> {
         let number = self.scope.function_number(self.name())?;
-        Some(self.scope.functions().get(number)?.function())
+        self.scope.functions().get(number)
+    }
+
+    /// The inputs of that function; none where there is none.
+    pub(crate) fn inputs(&self) -> &'a [DeclaredVariable] {
+        match self.function_named() {
+            Some(function) => function.inputs(),
+            None => &[],
+        }
     }
 }
 
 /// What stands at a place.
 fn standing_at(alloc: Global, source: &Source, at: usize) -> Result<Standing, AllocError> {
-    if let Some(configuration) = source.configuration() {
-        if let Some(found) = configured_at(configuration, at) {
-            return Ok(found);
-        }
-    }
-    let (declared, is_in_function, lines) = match element_at(source, at) {
-        Some(Element::DerivedType(one)) => {
-            return Ok(Standing::Type(variables_of(one.specification, one.initial)));
-        }
-        Some(Element::Function(function)) => (in_function(function, at), true, function.lines()),
-        Some(Element::Program(program)) if program.name().from == at => {
-            return Ok(Standing::Program);
-        }
-        Some(Element::Program(program)) => {
-            let declared = declared_at(program.declarations(), at);
-            (
-                declared.map(|one| Standing::Declared(one.1)),
-                false,
-                program.lines(),
-            )
-        }
-        None => return Ok(Standing::Other),
+    let configured = match source.configuration() {
+        Some(configuration) => configured_at(configuration, at),
+        None => None,
     };
-    match declared {
-        Some(declared) => Ok(declared),
-        None => used_at(alloc, is_in_function, lines, at),
+    let element = element_at(source, at);
+    match (configured.or(declared_in(element, at)), element) {
+        (Some(found), _) => Ok(found),
+        (None, Some(Element::Function(function))) => used_at(alloc, true, function.lines(), at),
+        (None, Some(Element::Program(program))) => used_at(alloc, false, program.lines(), at),
+        _ => Ok(Standing::Other),
     }
 }
 
 /// The function or the program in which a place stands, or the type whose name stands there.
 fn element_at(source: &Source, at: usize) -> Option<&Element> {
-    let mut elements = source.elements().iter().rev();
-    elements.find(|element| match *element {
-        Element::DerivedType(declared) => declared.name.from == at,
-        Element::Function(function) => function.name().from <= at,
-        Element::Program(program) => program.name().from <= at,
-    })
+    let mut found = None;
+    for element in source.elements() {
+        let is_there = match element {
+            Element::DerivedType(declared) => declared.name.from == at,
+            Element::Function(function) => function.name().from <= at,
+            Element::Program(program) => program.name().from <= at,
+        };
+        if is_there {
+            found = Some(element);
+        }
+    }
+    found
+}
+
+/// What an element declares at a place.
+fn declared_in(element: Option<&Element>, at: usize) -> Option<Standing> {
+    match element? {
+        Element::DerivedType(one) => {
+            Some(Standing::Type(variables_of(one.specification, one.initial)))
+        }
+        Element::Function(function) => in_function(function, at),
+        Element::Program(program) if program.name().from == at => Some(Standing::Program),
+        Element::Program(program) => {
+            let (_, declared) = declared_at(program.declarations(), at)?;
+            Some(Standing::Declared(declared))
+        }
+    }
 }
 
 /// What is declared of these parts.
@@ -211,17 +240,14 @@ fn in_function(function: &SourceFunction, at: usize) -> Option<Standing> {
 fn declared_at(declarations: &[Declaration], at: usize) -> Option<(usize, Declared)> {
     let mut number: usize = 0;
     for declaration in declarations {
-        if let Some(before) = place_among(declaration.names(), at) {
-            return Some((number.saturating_add(before), declaration.declared_kind()));
+        for name in declaration.names() {
+            if name.from == at {
+                return Some((number, declaration.declared_kind()));
+            }
+            number = number.saturating_add(1);
         }
-        number = number.saturating_add(declaration.names().len());
     }
     None
-}
-
-/// How many of some names stand before the one at a place, where it is one of them.
-fn place_among(names: &[Name], at: usize) -> Option<usize> {
-    names.iter().position(|name| name.from == at)
 }
 
 /// What lines use at a place.
@@ -262,12 +288,21 @@ fn configured_at(configuration: &Configuration, at: usize) -> Option<Standing> {
         }
     }
     for global in configuration.globals() {
-        if place_among(global.names(), at).is_some() {
-            let declared = variables_of(global.specification(), global.initial());
-            return Some(Standing::Global(global.address().is_some(), declared));
+        for name in global.names() {
+            if name.from == at {
+                let declared = variables_of(global.specification(), global.initial());
+                let kind = match global.address() {
+                    Some(address) => Some(address.kind),
+                    None => None,
+                };
+                return Some(Standing::Global(kind, declared));
+            }
         }
     }
-    let mut instances = configuration.instances().iter();
-    let number = instances.position(|instance| instance.name.from == at)?;
-    Some(Standing::Instance(number))
+    for (number, instance) in configuration.instances().iter().enumerate() {
+        if instance.name.from == at {
+            return Some(Standing::Instance(number));
+        }
+    }
+    None
 }

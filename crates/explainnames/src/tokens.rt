@@ -17,6 +17,8 @@ pub(crate) enum Role {
     /// It is declared.
     Given,
     Label,
+    /// It stands alone on its line.
+    Alone,
     /// An instruction stores to it.
     Stored,
 }
@@ -74,6 +76,7 @@ fn has_role(role: Role, before: Option<What>, behind: Option<What>) -> bool {
     };
     match role {
         Role::Label => behind == Some(What::Delimiter(Delimiter::Colon)),
+        Role::Alone => before == behind && behind == Some(What::Delimiter(Delimiter::LineEnd)),
         Role::Stored => matches!(
             word,
             Some(Keyword::St | Keyword::Stn | Keyword::S | Keyword::R)

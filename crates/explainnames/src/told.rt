@@ -57,7 +57,7 @@ fn follows(place: &FaultPlace, cause: NameCause) -> bool {
         // A call of what is no instance is at fault itself.
         (NameCause::Unknown, Symbol::Port { block, .. }) => {
             let is_passed = matches!(used.purpose, Purpose::Pass);
-            place.has_unknown_type(block) || is_passed && place.block_named(block).is_none()
+            place.has_unknown_type(block) || is_passed && place.block_of_port().is_none()
         }
         (NameCause::BadDeclaration, Symbol::Function(_)) => match place.function_named() {
             Some(function) => function.inputs().is_empty(),
