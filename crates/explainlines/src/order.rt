@@ -3,7 +3,7 @@
 use crate::forms::Form;
 use crate::reason::{Meant, Reason};
 use crate::words::first_word;
-use explaincures::{Spot, place_of};
+use explaincures::line_of;
 use wordlines::number_of;
 
 /// What a line of good words says.
@@ -20,6 +20,9 @@ pub(crate) struct Said<'a> {
 /// What helps where two lines say the same.
 const ONE_OF_TWO: &str = "leave one of the two lines out";
 
+/// What helps where a bus is not there.
+const OTHER_BUS: &str = "the first bus is 0; the line `buses` has the number of all buses";
+
 impl<'a> Said<'a> {
     /// What the line of a number says, which is of this form.
     pub(crate) fn of(bytes: &'a [u8], number: usize, form: &Form) -> Said<'a> {
@@ -27,39 +30,46 @@ impl<'a> Said<'a> {
             bytes,
             number,
             word: form.0,
-            numbers: numbers_of(line_at(bytes, number)),
+            numbers: numbers_of(line_of(bytes, number)),
         }
     }
 
     /// Why it is bad among the lines of a binding.
     pub(crate) fn bad_in_binding(&self) -> Reason {
-        let bus = self.numbers[0];
-        let Some((first, _)) = self.before(&["buses"], 0) else {
-            let what = "the number of buses is not said yet";
-            let reason = Reason::of(what, "begin with the line `buses N`");
-            let reason = reason.with([bus.saturating_add(1), 0, 0, 0]);
-            return reason.meaning(Meant::With("buses {0}\n"));
+        let [bus, number, _] = self.numbers;
+        let (first, _) = self.before(&["buses"], 0);
+        let [buses, ..] = numbers_of(line_of(self.bytes, first));
+        let (what, cure, line) = match self.word {
+            _ if first == 0 => {
+                let what = "the number of buses is not said yet";
+                let reason = Reason::of(what, "begin with the line `buses N`");
+                let reason = reason.with([bus.saturating_add(1), 0, 0, 0]);
+                return reason.meaning(Meant::With("buses {0}\n"));
+            }
+            "buses" => {
+                let what = "the number of buses is said twice, first in line {3}";
+                return self.reason(what, ONE_OF_TWO, first);
+            }
+            _ if bus >= buses && buses == 1 => {
+                let what = "there is no bus {0}: there is bus 0 alone (line {3})";
+                (what, OTHER_BUS, first)
+            }
+            _ if bus >= buses => {
+                let what = "there is no bus {0}: there are 0 to {2} (line {3})";
+                (what, OTHER_BUS, first)
+            }
+            "tries" => {
+                let what = "bus {0} has a line `tries` already, line {3}";
+                (what, ONE_OF_TWO, self.like(1))
+            }
+            _ => {
+                let what = "the place {0}.{1} has a source already, in line {3}";
+                let cure = "give each source a place of its own, with another number";
+                (what, cure, self.like(2))
+            }
         };
-        let buses = numbers_of(line_at(self.bytes, first))[0];
-        let reason = if self.word == "buses" {
-            let what = "the number of buses is said twice, first in line {3}";
-            return self.reason(what, ONE_OF_TWO, first);
-        } else if bus >= buses {
-            let what = if buses == 1 {
-                "there is no bus {0}: there is bus 0 alone (line {3})"
-            } else {
-                "there is no bus {0}: there are 0 to {1} (line {3})"
-            };
-            let cure = "the first bus is 0; the line `buses` has the number of all buses";
-            Reason::of(what, cure).with([bus, buses.saturating_sub(1), 0, first as u64])
-        } else if self.word == "tries" {
-            let what = "bus {0} has a line `tries` already, line {3}";
-            self.reason(what, ONE_OF_TWO, self.like(1))
-        } else {
-            let what = "the place {0}.{1} has a source already, in line {3}";
-            let cure = "give each source a place of its own, with another number";
-            self.reason(what, cure, self.like(2))
-        };
+        let reason = Reason::of(what, cure);
+        let reason = reason.with([bus, number, buses.saturating_sub(1), line as u64]);
         let behind = self.word.len().saturating_add(1);
         reason.at(behind, behind)
     }
@@ -70,10 +80,11 @@ impl<'a> Said<'a> {
         if self.word == "tick" || self.word == "ticks" {
             return self.bad_ticks();
         }
-        if let Some((first, _)) = self.before(&["tick", "ticks", "event"], 0) {
+        let (ticked, _) = self.before(&["tick", "ticks", "event"], 0);
+        if ticked > 0 {
             let what = "{word} behind the first tick or event, in line {3}";
             let cure = "say what is on the buses, and what becomes of frames, before that";
-            return self.reason(what, cure, first).at(0, self.word.len());
+            return self.reason(what, cure, ticked).at(0, self.word.len());
         }
         let (count, line_before) = match self.word {
             "instance" => (3, "device {0} {1}\n"),
@@ -91,18 +102,16 @@ impl<'a> Said<'a> {
             _ => "there is no gear {1} on bus {0} up to here",
         };
         let cure = "declare gear, devices and instances once, and before a line that names them";
-        let reason = self.reason(what, cure, first);
-        reason.meaning(Meant::With(line_before))
+        self.reason(what, cure, first)
+            .meaning(Meant::With(line_before))
     }
 
     /// Why the ticks of one line cannot be: their last moment is before the first, the first falls,
     /// or they are too many.
     fn bad_ticks(&self) -> Reason {
         let [first, last, _] = self.numbers;
-        let (before, line) = match self.before(&["tick", "ticks"], 0) {
-            Some((_, line)) => (last_moment(line_at(self.bytes, line)), line),
-            None => (0, 1),
-        };
+        let (_, line) = self.before(&["tick", "ticks"], 0);
+        let before = last_moment(line_of(self.bytes, line));
         if self.word == "ticks" && last < first {
             let what = "the last moment {1} is before the first, {0}";
             let cure = "write the first moment, the last one, and the time from one to the next";
@@ -111,8 +120,9 @@ impl<'a> Said<'a> {
             let what = "moment {0} comes behind moment {1}, in line {3}";
             let reason = Reason::of(what, "moments stay or rise, from tick to tick");
             let behind = self.word.len().saturating_add(1);
-            let reason = reason.with([first, before, 0, line as u64]);
-            reason.at(behind, behind)
+            reason
+                .with([first, before, 0, line.max(1) as u64])
+                .at(behind, behind)
         } else {
             let what = "more ticks than the 149,796 lines of a scenario";
             let cure = "take a longer time from one to the next, or play it in two parts";
@@ -130,15 +140,16 @@ impl<'a> Said<'a> {
     /// where there is none.
     fn like(&self, count: usize) -> usize {
         match self.before(&[self.word], count) {
-            Some((first, _)) => first,
-            None => self.number,
+            (0, _) => self.number,
+            (first, _) => first,
         }
     }
 
     /// The numbers of the first and of the last line before it that begin with one of these words
-    /// and then have so many of its numbers.
-    fn before(&self, words: &[&str], count: usize) -> Option<(usize, usize)> {
-        let mut found = None;
+    /// and then have so many of its numbers; 0 where there is none.
+    fn before(&self, words: &[&str], count: usize) -> (usize, usize) {
+        let mut first = 0;
+        let mut last = 0;
         for (index, line) in self.bytes.split(|byte| *byte == b'\n').enumerate() {
             let number = index.saturating_add(1);
             if number >= self.number {
@@ -147,11 +158,11 @@ impl<'a> Said<'a> {
             let (word, numbers) = (first_word(line), numbers_of(line));
             let is_like = (0..count).all(|index| numbers.get(index) == self.numbers.get(index));
             if is_like && words.iter().any(|one| one.as_bytes() == word) {
-                let (first, _) = found.unwrap_or((number, number));
-                found = Some((first, number));
+                first = if first == 0 { number } else { first };
+                last = number;
             }
         }
-        found
+        (first, last)
     }
 }
 
@@ -159,23 +170,16 @@ impl<'a> Said<'a> {
 fn numbers_of(line: &[u8]) -> [u64; 3] {
     let mut numbers = [0; 3];
     let words = line.split(|byte| *byte == b' ' || *byte == b'.' || *byte == b'\r');
-    for (index, word) in words.skip(1).take(3).enumerate() {
-        if let Some(number) = numbers.get_mut(index) {
-            *number = number_of(word, u64::MAX).unwrap_or(0);
-        }
+    for (number, word) in numbers.iter_mut().zip(words.skip(1)) {
+        *number = number_of(word, u64::MAX).unwrap_or(0);
     }
     numbers
 }
 
-/// The moment to which the clock comes by a line of ticks.
+/// The moment to which the clock comes by a line of ticks; 0 by none.
 fn last_moment(line: &[u8]) -> u64 {
     let [first, last, step] = numbers_of(line);
     let time = last.saturating_sub(first);
     let over = time.checked_rem(step).unwrap_or(0);
     first.saturating_add(time.saturating_sub(over))
-}
-
-/// The line of this number, without its end.
-pub(crate) fn line_at(bytes: &[u8], number: usize) -> &[u8] {
-    Spot::of(bytes, place_of(bytes, number, 1)).line()
 }

@@ -71,29 +71,40 @@ impl Reason {
     ) -> Result<String, AllocError> {
         let mut filled = String::new(alloc);
         for (index, piece) in text.split(['{', '}']).enumerate() {
-            match piece {
-                _ if index % 2 == 0 => filled.push_str(piece)?,
-                "word" => filled.push_str(&shown_text(alloc, part(line, self.from, self.to))?)?,
-                "name" => filled.push_str(self.name)?,
-                "list" => filled.push_str(self.list)?,
-                "words" => push_words(&mut filled, forms)?,
-                _ => {
-                    let digit = number_of(piece.as_bytes(), 3).unwrap_or(0);
-                    let number = self.numbers.get(digit as usize).unwrap_or(&0);
-                    filled.push_str(&format!(in alloc; "{number}")?)?;
-                }
+            if index % 2 == 0 {
+                filled.push_str(piece)?;
+            } else {
+                filled.push_str(&self.shown(alloc, piece, line, forms)?)?;
             }
         }
         Ok(filled)
     }
 
+    /// What fills a slot.
+    fn shown(
+        &self,
+        alloc: Global,
+        slot: &str,
+        line: &[u8],
+        forms: &[Form],
+    ) -> Result<String, AllocError> {
+        match slot {
+            "word" => shown_text(alloc, part(line, self.from, self.to)),
+            "words" => first_words(alloc, forms),
+            "name" => String::from_str(alloc, self.name),
+            "list" => String::from_str(alloc, self.list),
+            _ => {
+                let digit = number_of(slot.as_bytes(), 3).unwrap_or(0);
+                let number = self.numbers.get(digit as usize).unwrap_or(&0);
+                format!(in alloc; "{number}")
+            }
+        }
+    }
+
     /// The line as it is meant.
     pub(crate) fn meant_line(&self, alloc: Global, line: &[u8]) -> Result<Vec<u8>, AllocError> {
         match self.meant {
-            Meant::InSmallLetters => line
-                .iter()
-                .map(|byte| byte.to_ascii_lowercase())
-                .collect(alloc),
+            Meant::InSmallLetters => line.to_ascii_lowercase(alloc),
             Meant::Spaced => spaced(alloc, line),
             Meant::With(text) => {
                 let with = self.filled(alloc, text, line, &[])?;
@@ -103,17 +114,18 @@ impl Reason {
     }
 }
 
-/// Adds the words with which lines begin, six on the first line.
-fn push_words(text: &mut String, forms: &[Form]) -> Result<(), AllocError> {
+/// The words with which lines begin, six on the first line.
+fn first_words(alloc: Global, forms: &[Form]) -> Result<String, AllocError> {
+    let mut words = String::new(alloc);
     for (index, form) in forms.iter().enumerate() {
-        text.push_str(match index {
+        words.push_str(match index {
             0 => "",
             6 => ",\n",
             _ => ", ",
         })?;
-        text.push_str(form.0)?;
+        words.push_str(form.0)?;
     }
-    Ok(())
+    Ok(words)
 }
 
 /// The words of a line with one blank between two.

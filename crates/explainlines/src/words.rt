@@ -9,6 +9,13 @@ use wordlines::{hex_of, number_of, parts_around_dot};
 /// Words with which a text begins.
 const TEXT: &[&str] = &["(*", "TYPE", "FUNCTION", "PROGRAM", "CONFIGURATION"];
 
+/// What helps where no line begins with a word, and where one of another file does.
+const KNOWN: &str = "lines begin with {words}, or # for a comment";
+
+const ORDER: &str =
+    "the text comes first, the binding second and the scenario third; a comment of\n\
+    a binding or a scenario has # before it";
+
 /// What stands between the words of a list.
 const SIGNS: [char; 3] = [',', ' ', '\n'];
 
@@ -25,7 +32,7 @@ pub(crate) fn bad_words(line: &[u8], forms: &'static [Form]) -> Result<&'static 
     }
     let word = first_word(line);
     let Some(form) = form_of(forms, word) else {
-        return Err(foreign(word).unwrap_or(unknown(word, forms)));
+        return Err(unknown(word, forms));
     };
     match bad_fields(line, form) {
         Some(reason) => Err(reason),
@@ -41,15 +48,19 @@ pub(crate) fn first_word(line: &[u8]) -> &[u8] {
 /// Why the blanks of a line are bad.
 fn bad_blanks(line: &[u8]) -> Option<Reason> {
     let tab = line.iter().position(|byte| *byte == b'\t');
-    let (what, at) = match (tab, empty_word(line)) {
-        (Some(at), _) => ("a tab", at),
-        (None, Some(0)) => ("a blank at the front of the line", 0),
-        (None, Some(at)) if at >= line.len() => ("a blank at the end of the line", at),
-        (None, Some(at)) => ("two blanks", at),
-        (None, None) => return None,
+    let empty = empty_word(line);
+    let what = match (tab, empty) {
+        (Some(_), _) => "a tab",
+        (None, Some(0)) => "a blank at the front of the line",
+        (None, Some(at)) if at >= line.len() => "a blank at the end of the line",
+        _ => "two blanks",
     };
-    let at = at.min(line.len().saturating_sub(1));
-    let cure = "write one blank between two words, and none elsewhere";
+    let at = tab.or(empty)?.min(line.len().saturating_sub(1));
+    let cure = if line.contains(&b'#') {
+        "write one blank between two words, and give a comment a line of its own"
+    } else {
+        "write one blank between two words, and none elsewhere"
+    };
     Some(Reason::of(what, cure).at(at, at).meaning(Meant::Spaced))
 }
 
@@ -65,36 +76,27 @@ fn empty_word(line: &[u8]) -> Option<usize> {
     None
 }
 
-/// Why a first word is none, where lines of another file begin with it.
-fn foreign(word: &[u8]) -> Option<Reason> {
-    let what = if form_of(BINDING, word).is_some() {
-        "{word} begins a line of a binding"
-    } else if form_of(SCENARIO, word).is_some() {
-        "{word} begins a line of a scenario"
-    } else if is_one_of(word, TEXT) {
-        "{word} begins a text, or a line of one"
-    } else {
-        return None;
-    };
-    let cure = "the text comes first, the binding second and the scenario third; a comment of\n\
-        a binding or a scenario has # before it";
-    Some(Reason::of(what, cure).at(0, word.len()))
-}
-
-/// Why a first word is none: with the one that is meant, which is near, or differs in letter case.
+/// Why a first word is none: lines of another file begin with it; or with the one that is meant,
+/// which is near, or differs in letter case.
 fn unknown(word: &[u8], forms: &'static [Form]) -> Reason {
     let meant = forms.iter().find(|form| {
         let other = form.0.as_bytes();
         word.eq_ignore_ascii_case(other) || is_near(word, other)
     });
     let is_large = word.iter().any(|byte| byte.is_ascii_uppercase());
-    let (what, meant) = match meant {
-        Some(form) if is_large => ("{word} is not in small letters", Meant::With(form.0)),
-        Some(form) => ("no line begins with {word}", Meant::With(form.0)),
-        None => ("no line begins with {word}", Meant::InSmallLetters),
+    let (what, cure) = match meant {
+        Some(_) if is_large => ("{word} is not in small letters", KNOWN),
+        Some(_) => ("no line begins with {word}", KNOWN),
+        None if form_of(BINDING, word).is_some() => ("{word} begins a line of a binding", ORDER),
+        None if form_of(SCENARIO, word).is_some() => ("{word} begins a line of a scenario", ORDER),
+        None if is_one_of(word, TEXT) => ("{word} begins a text, or a line of one", ORDER),
+        None => ("no line begins with {word}", KNOWN),
     };
-    let reason = Reason::of(what, "lines begin with {words}, or # for a comment");
-    reason.at(0, word.len()).meaning(meant)
+    let reason = Reason::of(what, cure).at(0, word.len());
+    match meant {
+        Some(form) => reason.meaning(Meant::With(form.0)),
+        None => reason,
+    }
 }
 
 /// Why the words behind the first are bad: one is not what it has to be, is too much, or is
@@ -113,10 +115,7 @@ fn bad_fields(line: &[u8], form: &Form) -> Option<Reason> {
             [_, rest @ ..] => fields = rest,
             [] => match part_at(parts, word) {
                 Some((part, rest)) => (fields, parts) = (part.1, rest),
-                None => {
-                    let cure = left_out(form, word);
-                    return Some(Reason::of("{word} is a word too many", cure).at(from, to));
-                }
+                None => return Some(too_many(form, parts, word).at(from, to)),
             },
         }
         from = to.saturating_add(1);
@@ -155,8 +154,8 @@ fn unmet(field: Field, word: &[u8]) -> Reason {
         Field::Frame => ("frame", "", FRAME, 0, 0),
     };
     let is_number = number_of(word, u64::MAX).is_some();
-    let mut words = list.split(SIGNS);
-    let is_listed = words.any(|one| one.as_bytes().eq_ignore_ascii_case(word));
+    let near = near_in(list, word);
+    let is_listed = near.is_some_and(|one| one.as_bytes().eq_ignore_ascii_case(word));
     let what = match field {
         _ if word.is_empty() => "the {name} is missing",
         Field::Number(_, _, u64::MAX) if is_number => "the {name} is {word}, and not {0} or more",
@@ -166,11 +165,24 @@ fn unmet(field: Field, word: &[u8]) -> Reason {
         _ => "{word} is no {name}",
     };
     let reason = Reason::of(what, cure).with([least, most, 0, 0]);
+    let meant = match near {
+        Some(one) => Meant::With(one),
+        None => Meant::InSmallLetters,
+    };
     Reason {
         name,
         list,
+        meant,
         ..reason
     }
+}
+
+/// The word of a list that another one is meant for: it is near, or differs in letter case.
+fn near_in(list: &'static str, word: &[u8]) -> Option<&'static str> {
+    list.split(SIGNS).find(|one| {
+        let one = one.as_bytes();
+        word.eq_ignore_ascii_case(one) || is_near(word, one)
+    })
 }
 
 /// Whether a word is as its field says.
@@ -186,15 +198,34 @@ fn is_met(field: Field, word: &[u8]) -> bool {
     }
 }
 
-/// What helps where a word is one too many.
-fn left_out(form: &Form, word: &[u8]) -> &'static str {
-    if word.starts_with(b"#") {
-        "give a comment a line of its own"
-    } else if word.starts_with(b"(*") || word.starts_with(b"//") || word.starts_with(b";") {
-        "give a comment a line of its own, with # before it"
-    } else if parts_of(form).iter().any(|part| part.0.as_bytes() == word) {
-        "give the level once, then the groups, and then the scenes"
-    } else {
-        "leave out what stands here, or give it a line of its own"
-    }
+/// Why a word is one too many, where these parts may follow. A number of 64 on is no second
+/// address, but a level.
+fn too_many(form: &Form, parts: &[Part], word: &[u8]) -> Reason {
+    let is_level = number_of(word, 254).is_some_and(|level| level >= 64);
+    let (what, cure, meant) = match (word, parts) {
+        ([b'#', ..], _) => (TOO_MANY, "give a comment a line of its own", SMALL),
+        ([b'(', b'*', ..] | [b'/', b'/', ..] | [b';', ..], _) => {
+            let cure = "give a comment a line of its own, with # before it";
+            (TOO_MANY, cure, SMALL)
+        }
+        (_, [Part("level", ..), ..]) if is_level => {
+            let what = "{word} does not say that it is a level";
+            let cure = "write the word `level` before it";
+            (what, cure, Meant::With("level {word}"))
+        }
+        _ if parts_of(form).iter().any(|part| part.0.as_bytes() == word) => {
+            let cure = "give the level once, then the groups, and then the scenes";
+            (TOO_MANY, cure, SMALL)
+        }
+        _ => {
+            let cure = "leave out what stands here, or give it a line of its own";
+            (TOO_MANY, cure, SMALL)
+        }
+    };
+    Reason::of(what, cure).meaning(meant)
 }
+
+/// What is wrong with a word that is too much, and how its line is meant.
+const TOO_MANY: &str = "{word} is a word too many";
+
+const SMALL: Meant = Meant::InSmallLetters;
