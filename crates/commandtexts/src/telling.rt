@@ -4,7 +4,7 @@ use crate::objects::{write_explanation, write_noted, write_sizes, write_stop, wr
 use commandfiles::{Disk, Unserved, add_texts, bytes_at, named_at};
 use commandline::Question;
 use exitstatus::{ExitStatus, PlayStop};
-use explaining::{AskedText, explain_binding, explain_load, explain_scenario, load_with_source};
+use explaining::{AskedText, explain_binding, explain_load, explain_scenario};
 use ilcompile::Setup;
 use ilfacts::write_load;
 use illisting::write_task;
@@ -13,6 +13,7 @@ use ilsource::Source;
 use inquiries::{Stop, UnknownTask, binding_of, check};
 use options::Files;
 use page::Page;
+use plantload::load_with_source;
 use simbus::Scenario;
 use std::alloc::Global;
 use std::io;

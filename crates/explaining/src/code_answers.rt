@@ -1,145 +1,90 @@
 //! What is said of a refused word.
 
-use crate::block_commands::commands_of;
-use crate::code_causes::{
-    OTHER_TYPE, TRUTH, UNFIT, UNFIT_CONSTANT, UNFIT_INPUT, UNFIT_OPERAND, advice_of,
-};
-use crate::guards::guarded;
-use crate::mismatch::{Mismatch, ValueText, mismatch_at};
+use crate::code_causes::{Line, Said, Try, commands_of, said_of};
+use crate::code_edits::{edit_of, is_cure, limits_of};
+use crate::mismatch::{Mismatch, ValueText};
+use crate::refused::{Refused, input_of};
 use crate::taken::{Lack, lack_at, ways_up_to};
-use crate::ways::{Behind, operand_column};
-use explaincures::{
-    AskedText, Edit, EditOutcome, Example, FaultAnswer, Spot, first_column, line_of, part,
-    place_of, shown_text,
-};
-use ilblocks::BlockKind;
-use ilcode::{Code, Word};
-use illisting::{TaskNames, line_at};
+use explaincures::{Advice, Edit, Example, FaultAnswer, shown_text};
+use illisting::line_at;
 use ilranges::Cause;
 use iltypes::Range;
-use ilverify::Refusal;
 use std::alloc::{AllocError, Global};
 
-/// A refused word with what it is asked about.
-#[derive(Clone, Copy)]
-pub(crate) struct Refused<'q, 'n> {
-    pub asked: &'q AskedText<'q>,
-    pub names: &'n TaskNames<'n>,
-    pub task: usize,
-    pub word: usize,
-    pub line: usize,
-    pub cause: Cause,
-    /// The value of the wrong type, where that is the cause.
-    mismatch: Option<Mismatch>,
-}
-
-impl<'q, 'n> Refused<'q, 'n> {
-    /// The refusal of a task, with what its words name.
-    pub(crate) fn of(
-        alloc: Global,
-        asked: &'q AskedText<'q>,
-        names: &'n TaskNames<'n>,
-        refusal: Refusal,
-    ) -> Result<Refused<'q, 'n>, AllocError> {
-        let mismatch = match refusal.cause {
-            Cause::WrongType => mismatch_at(alloc, names.code, refusal.word)?,
-            _ => None,
-        };
-        Ok(Refused {
-            asked,
-            names,
-            task: names.task,
-            word: refusal.word,
-            line: refusal.line,
-            cause: refusal.cause,
-            mismatch,
-        })
-    }
-
-    /// The column of the operand that is of the wrong type, where one is.
-    pub(crate) fn mark(&self) -> Option<usize> {
-        if !self.mismatch?.is_operand {
-            return None;
-        }
-        let code = self.names.code;
-        let behind = match code.get(self.word) {
-            Some(Word::Pass { port, block, .. }) => {
-                Behind::Input(port_of(code, usize::from(block), usize::from(port))?.1)
-            }
-            Some(Word::Give { slot, .. }) => {
-                Behind::Function(operand_number(code, usize::from(slot)))
-            }
-            _ => Behind::Instruction,
-        };
-        operand_column(line_of(self.asked.text, self.line), behind)
-    }
-
-    /// The first word of the line.
-    pub(crate) fn spot(&self) -> Spot<'q> {
-        let text = self.asked.text;
-        Spot::of(
-            text,
-            place_of(text, self.line, first_column(text, self.line)),
-        )
-    }
-}
-
-/// Which operand of a call goes to the input in a slot, from 1 on.
-fn operand_number(code: &Code, slot: usize) -> usize {
-    let mut bodies = code.functions().iter().rev();
-    match bodies.find(|body| body.first <= slot) {
-        Some(body) => slot.saturating_sub(body.first),
-        None => 0,
-    }
-}
-
-/// The kind of a block instance, and the name of its port.
-fn port_of(code: &Code, block: usize, port: usize) -> Option<(BlockKind, &'static [u8])> {
-    let kind = code.kinds().get(block)?;
-    Some((*kind, kind.ports().get(port)?.name.spelling()))
-}
-
-/// What is said of a refused word.
+/// What is said of a refused word: with the first of the changes that are tried which helps, where
+/// one does.
 pub(crate) fn answer_code(alloc: Global, refused: &Refused) -> Result<FaultAnswer, AllocError> {
-    match refused.cause {
-        Cause::OutOfRange { found, allowed } => unfit(alloc, refused, found, allowed),
-        Cause::WrongType => wrong_type(alloc, refused),
-        Cause::MayBeZero => guarded(alloc, refused),
-        Cause::NoResult => {
-            let facts = lack_told(alloc, refused)?;
-            Ok(FaultAnswer::of(alloc, advice_of(refused.cause))?.with_facts(facts))
+    let said = said_of(refused);
+    let mut answer = answer_of(alloc, refused, said)?;
+    let Some((edit, cure)) = cure_of(alloc, refused, said.tries)? else {
+        return Ok(answer);
+    };
+    if !cure.is_empty() {
+        answer.cure = String::from_str(alloc, cure)?;
+    }
+    answer.with_tried(alloc, refused.asked.text, &edit)
+}
+
+/// The first of some changes that helps, and what is said of it.
+fn cure_of(
+    alloc: Global,
+    refused: &Refused,
+    tries: &'static [Try],
+) -> Result<Option<(Edit, &'static str)>, AllocError> {
+    for tried in tries {
+        if let Some(edit) = edit_of(alloc, refused, tried.0)? {
+            if is_cure(alloc, refused, tried.0, &edit)? {
+                return Ok(Some((edit, tried.1)));
+            }
         }
-        Cause::TooBig => {
-            let answer = FaultAnswer::of(alloc, advice_of(refused.cause))?;
-            let tried = ["MIN 1000000\nMAX -1000000", "MIN 1000\nMAX -1000"];
-            with_lines(alloc, refused, answer, &tried)
+    }
+    Ok(None)
+}
+
+/// What is said of it where no change helps.
+fn answer_of(alloc: Global, refused: &Refused, said: Said) -> Result<FaultAnswer, AllocError> {
+    let advice = Advice {
+        what: said.what,
+        cure: said.cure,
+        line: "",
+    };
+    let mut answer = FaultAnswer::of(alloc, advice)?;
+    answer.facts = facts_of(alloc, refused)?;
+    answer.example = Example::Other(example_of(alloc, refused, said.line)?);
+    Ok(answer)
+}
+
+/// What is known of a refused word, in lines.
+fn facts_of(alloc: Global, refused: &Refused) -> Result<String, AllocError> {
+    if let Some(mismatch) = refused.mismatch {
+        return found_wanted(alloc, mismatch);
+    }
+    match refused.refusal.cause {
+        Cause::OutOfRange { found, allowed } => {
+            ranges_told(alloc, found, allowed, commands_told(refused))
         }
-        cause => FaultAnswer::of(alloc, advice_of(cause)),
+        Cause::NoResult => lack_told(alloc, refused),
+        _ => Ok(String::new(alloc)),
     }
 }
 
-/// What is said of a value of the wrong type: what was found and what is wanted. A number is
-/// compared first, and 1 and 0 become TRUE and FALSE; else a value is chosen by a jump.
-fn wrong_type(alloc: Global, refused: &Refused) -> Result<FaultAnswer, AllocError> {
-    let Some(mismatch) = refused.mismatch else {
-        return FaultAnswer::of(alloc, OTHER_TYPE);
-    };
-    let text = refused.asked.text;
-    let facts = found_wanted(alloc, mismatch)?;
-    if let (Some(truth), Some(col)) = (mismatch.truth_meant(), refused.mark()) {
-        let spot = Spot::of(text, place_of(text, refused.line, col));
-        let edit = Edit::new(alloc, spot.at, spot.found_to(), truth.as_bytes())?;
-        if is_cure(alloc, refused, &edit, 0)? {
-            let answer = FaultAnswer::of(alloc, TRUTH)?.with_facts(facts);
-            return answer.with_tried(alloc, text, &edit);
-        }
+/// What the input may be that a word gives, where that is a command.
+fn commands_told(refused: &Refused) -> &'static str {
+    match input_of(refused.names.code, refused.refusal.word) {
+        Some((kind, b"CMD")) => commands_of(kind),
+        _ => "",
     }
-    let edit = inserted(alloc, refused, "NE 0")?;
-    if is_cure(alloc, refused, &edit, 1)? {
-        let answer = FaultAnswer::of(alloc, advice_of(refused.cause))?.with_facts(facts);
-        return answer.with_tried(alloc, text, &edit);
-    }
-    Ok(FaultAnswer::of(alloc, OTHER_TYPE)?.with_facts(facts))
+}
+
+/// What was found and what is allowed, in lines, and the commands that there are.
+fn ranges_told(
+    alloc: Global,
+    found: Range,
+    allowed: Range,
+    commands: &'static str,
+) -> Result<String, AllocError> {
+    let (lo, hi, least, most) = (found.lo, found.hi, allowed.lo, allowed.hi);
+    format!(in alloc; "found:   {lo}..{hi}\nallowed: {least}..{most}\n{commands}")
 }
 
 /// What was found and what is wanted, in lines.
@@ -155,9 +100,9 @@ fn found_wanted(alloc: Global, mismatch: Mismatch) -> Result<String, AllocError>
 
 /// Which lines bring values of two kinds to a word, or which one leaves none, in a line.
 fn lack_told(alloc: Global, refused: &Refused) -> Result<String, AllocError> {
-    let code = refused.names.code;
-    let ways = ways_up_to(alloc, code, refused.word)?;
-    match lack_at(code, &ways, refused.word) {
+    let (code, word) = (refused.names.code, refused.refusal.word);
+    let ways = ways_up_to(alloc, code, word)?;
+    match lack_at(code, &ways, word) {
         Some(Lack::Meeting((one, found), (other, met))) => {
             let (first, last) = (line_at(code, one), line_at(code, other));
             let (found, met) = (ValueText(Some(found)), ValueText(Some(met)));
@@ -171,121 +116,31 @@ fn lack_told(alloc: Global, refused: &Refused) -> Result<String, AllocError> {
     }
 }
 
-/// What is said of a number that may not fit.
-fn unfit(
-    alloc: Global,
-    refused: &Refused,
-    found: Range,
-    allowed: Range,
-) -> Result<FaultAnswer, AllocError> {
+/// Lines of another text.
+fn example_of(alloc: Global, refused: &Refused, line: Line) -> Result<String, AllocError> {
+    let Cause::OutOfRange { found, allowed } = refused.refusal.cause else {
+        return match line {
+            Line::Text(text) => String::from_str(alloc, text),
+            _ => Ok(String::new(alloc)),
+        };
+    };
     let limits = limits_of(alloc, found, allowed)?;
-    let mut facts = ranges_told(alloc, found, allowed)?;
-    let mut is_limited = false;
-    let (advice, lines) = match refused.names.code.get(refused.word) {
-        Some(Word::Give { .. }) => (UNFIT_OPERAND, format!(in alloc; "{limits}\nST limited")?),
-        Some(Word::Pass { port, block, .. }) => {
-            let port = port_of(refused.names.code, usize::from(block), usize::from(port));
-            facts.push_str(commands_told(port))?;
-            (UNFIT_INPUT, input_line(alloc, port, allowed.hi)?)
+    match line {
+        Line::Input => {
+            let Some((_, name)) = input_of(refused.names.code, refused.refusal.word) else {
+                return Ok(limits);
+            };
+            let (name, most) = (shown_text(alloc, name)?, allowed.hi);
+            format!(in alloc; "{name} := {most}")
         }
-        _ if found.lo == found.hi => {
+        Line::Limited => format!(in alloc; "{limits}\nST limited"),
+        Line::Nearest => {
             let nearest = found.hi.min(allowed.hi).max(allowed.lo);
-            (UNFIT_CONSTANT, format!(in alloc; "LD {nearest}")?)
+            format!(in alloc; "LD {nearest}")
         }
         _ => {
-            is_limited = true;
             let line = shown_text(alloc, refused.spot().rest())?;
-            (UNFIT, format!(in alloc; "{limits}\n{line}")?)
-        }
-    };
-    let mut answer = FaultAnswer::of(alloc, advice)?.with_facts(facts);
-    answer.example = Example::Other(lines);
-    if is_limited {
-        with_lines(alloc, refused, answer, &[limits.as_str()])
-    } else {
-        Ok(answer)
-    }
-}
-
-/// What an input may be, where that is a command.
-fn commands_told(port: Option<(BlockKind, &'static [u8])>) -> &'static str {
-    match port {
-        Some((kind, b"CMD")) => commands_of(kind),
-        _ => "",
-    }
-}
-
-/// A line that gives an input the most that it may be.
-fn input_line(
-    alloc: Global,
-    port: Option<(BlockKind, &'static [u8])>,
-    most: i64,
-) -> Result<String, AllocError> {
-    let Some((_, name)) = port else {
-        return Ok(String::new(alloc));
-    };
-    let name = shown_text(alloc, name)?;
-    format!(in alloc; "{name} := {most}")
-}
-
-/// What was found and what is allowed, in lines.
-fn ranges_told(alloc: Global, found: Range, allowed: Range) -> Result<String, AllocError> {
-    let mut text = format!(in alloc; "found:   {}..{}\n", found.lo, found.hi)?;
-    text.push_str(&format!(in alloc; "allowed: {}..{}\n", allowed.lo, allowed.hi)?)?;
-    Ok(text)
-}
-
-/// The operators that keep a number within what is allowed, in lines.
-fn limits_of(alloc: Global, found: Range, allowed: Range) -> Result<String, AllocError> {
-    let (least, most) = (allowed.lo, allowed.hi);
-    match (found.lo < least, found.hi > most) {
-        (true, true) => format!(in alloc; "MIN {most}\nMAX {least}"),
-        (false, true) => format!(in alloc; "MIN {most}"),
-        (true, false) => format!(in alloc; "MAX {least}"),
-        (false, false) => Ok(String::new(alloc)),
-    }
-}
-
-/// An answer with the first of these lines before the refused one that helps, where one does.
-fn with_lines(
-    alloc: Global,
-    refused: &Refused,
-    answer: FaultAnswer,
-    tried: &[&str],
-) -> Result<FaultAnswer, AllocError> {
-    for lines in tried {
-        let edit = inserted(alloc, refused, lines)?;
-        if is_cure(alloc, refused, &edit, lines.split('\n').count())? {
-            return answer.with_tried(alloc, refused.asked.text, &edit);
+            format!(in alloc; "{limits}\n{line}")
         }
     }
-    Ok(answer)
-}
-
-/// Lines before the refused one, set in as that is.
-fn inserted(alloc: Global, refused: &Refused, lines: &str) -> Result<Edit, AllocError> {
-    let spot = refused.spot();
-    let mut with = Vec::new(alloc);
-    for line in lines.split('\n') {
-        with.extend_from_slice(spot.front())?;
-        with.extend_from_slice(line.as_bytes())?;
-        with.push(b'\n')?;
-    }
-    Edit::new(alloc, spot.line_from, spot.line_from, &with)
-}
-
-/// Whether the word is accepted with the given number of words more before it.
-pub(crate) fn is_cure(
-    alloc: Global,
-    refused: &Refused,
-    edit: &Edit,
-    more: usize,
-) -> Result<bool, AllocError> {
-    Ok(match edit.outcome(alloc, refused.asked)? {
-        EditOutcome::Accepted => true,
-        EditOutcome::Code { task, word } => {
-            task > refused.task || task == refused.task && word > refused.word.saturating_add(more)
-        }
-        _ => false,
-    })
 }

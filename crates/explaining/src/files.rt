@@ -1,25 +1,18 @@
 //! Files with their faults.
 
-use crate::code_answers::{Refused, answer_code};
 use crate::further::Further;
-use crate::loading::NotLoaded;
-use crate::requests::print_requests;
-use crate::ways::print_way;
-use explaincures::{
-    AskedText, Example, FaultAnswer, first_column, place_of, write_answer, write_found, write_line,
-    write_place,
-};
+use crate::refused::{answer_task, print_refused};
+use crate::told::{Title, Told};
+use explaincures::{AskedText, Example, place_of};
 use explainlines::{LineFile, bad_line};
 use explainnames::{OtherFaults, answer_name};
 use explaintexts::answer_text;
-use ilcompile::compile;
-use illisting::{TaskNames, functions_in, print_deepest_calls, print_longest_calls};
-use ilranges::Cause;
-use ilscope::NameFault;
-use iltext::TextFault;
+use ilscope::{NameCause, NameFault};
+use ilsource::Source;
+use iltext::{TextCause, TextFault};
 use page::Page;
-use plantload::{LoadFault, RefusedTask};
-use std::alloc::Global;
+use plantload::{LoadFault, NotLoaded, RefusedTask};
+use std::alloc::{AllocError, Global};
 use std::io;
 use std::io::Write;
 use wordlines::{BindFault, LineFault, ScenarioFault};
@@ -35,156 +28,103 @@ pub fn explain_load<W: Write>(
     asked: &AskedText,
     stop: &NotLoaded,
 ) -> io::Result<()> {
-    match (&stop.fault, &stop.source) {
+    let told = match (&stop.fault, &stop.source) {
         (LoadFault::Text(TextFault::At { line, col, cause }), _) => {
-            let at = place_of(asked.text, *line, *col);
-            let answer = answer_text(alloc, asked, at, *cause)?;
-            let (number, what) = (cause.number(), answer.what.as_str());
-            let title = format!(in alloc; "text fault {number}: {what}")?;
-            write_at(out, asked, (*line, *col), &title, &answer)?;
-            write_behind(alloc, out, asked, &answer)
+            told_text(alloc, asked, (*line, *col), *cause)?
         }
         (LoadFault::Name(NameFault::At { line, col, cause }), Some(source)) => {
-            let at = place_of(asked.text, *line, *col);
-            let answer = answer_name(alloc, asked, source, at, *cause)?;
-            let (number, what) = (cause.number(), answer.what.as_str());
-            let title = format!(in alloc; "name fault {number}: {what}")?;
-            write_at(out, asked, (*line, *col), &title, &answer)?;
-            let others = OtherFaults::of(alloc, asked, source, at, *cause)?;
-            write_others(out, asked, &others)
+            told_name(alloc, asked, source, (*line, *col), *cause)?
         }
-        (LoadFault::Code(refused), _) => explain_code(alloc, out, asked, refused),
-        _ => write_memory(out),
-    }
+        (LoadFault::Code(refused), _) => told_code(alloc, asked, refused)?,
+        _ => return out.write_all(NO_MEMORY),
+    };
+    told.write_to(out, asked.text)
 }
 
-/// Writes the faults of a text behind one of which this is said, where lines were tried that cure
-/// it.
-fn write_behind<W: Write>(
+/// What is written where memory ran out.
+const NO_MEMORY: &[u8] = b"no memory\n";
+
+/// Explains a fault of a text; where lines were tried that cure it, its faults behind that are
+/// named.
+fn told_text(
     alloc: Global,
-    out: &mut W,
     asked: &AskedText,
-    answer: &FaultAnswer,
-) -> io::Result<()> {
+    place: (usize, usize),
+    cause: TextCause,
+) -> Result<Told, AllocError> {
+    let at = place_of(asked.text, place.0, place.1);
+    let answer = answer_text(alloc, asked, at, cause)?;
     let mut further = Further::of(alloc, asked);
     if let Example::TriedLines(tried) = &answer.example {
         further.add_behind(tried)?;
     }
-    further.write_to(out)
+    let title = Title::Fault("text", cause.number());
+    Ok(Told::of(alloc, asked.path, place, title, answer, further.into_page()))
 }
 
-/// Writes that memory ran out.
-fn write_memory<W: Write>(out: &mut W) -> io::Result<()> {
-    writeln!(out, "no memory")
-}
-
-/// Writes the first line of an explanation, and the line of the file with a mark at this column.
-fn write_fault<W: Write>(
-    out: &mut W,
-    path: &str,
-    bytes: &[u8],
-    (line, col): (usize, usize),
-    mark: Option<usize>,
-    title: &str,
-) -> io::Result<()> {
-    write_place(out, path, line, col)?;
-    writeln!(out, "{title}")?;
-    write_line(out, bytes, line, mark)
-}
-
-/// Writes what is wrong at a place of a text, what stands there, and what helps.
-fn write_at<W: Write>(
-    out: &mut W,
+/// Explains a fault of names; the others are named, a line each, and how many more there are.
+fn told_name(
+    alloc: Global,
     asked: &AskedText,
-    (line, col): (usize, usize),
-    title: &str,
-    answer: &FaultAnswer,
-) -> io::Result<()> {
-    write_fault(out, asked.path, asked.text, (line, col), Some(col), title)?;
-    write_found(out, asked.text, line, col)?;
-    write_answer(out, answer, line)
-}
-
-/// Writes the other faults of names, a line each, and how many more there are.
-fn write_others<W: Write>(out: &mut W, asked: &AskedText, others: &OtherFaults) -> io::Result<()> {
-    if others.named.is_empty() {
-        return Ok(());
-    }
-    writeln!(out)?;
-    for fault in &others.named {
-        write_place(out, asked.path, fault.line, fault.col)?;
-        let cause = fault.cause.number();
-        writeln!(out, "name fault {cause}: {}", fault.what.as_str())?;
-    }
-    let faults = if others.more == 1 { "fault" } else { "faults" };
-    match (others.more, others.is_cut) {
-        (0, false) => Ok(()),
-        (0, true) => writeln!(out, "there may be more faults of names"),
-        (more, false) => writeln!(out, "{more} more {faults} of names"),
-        (more, true) => writeln!(out, "at least {more} more {faults} of names"),
-    }
-}
-
-/// Explains a task whose code is refused: with a way to the word, and where what is wrong is the
-/// number of words or requests, or the depth of calls, with the calls that make it. Of each task
-/// behind it the first refused word is named.
-fn explain_code<'q, W: Write>(
-    alloc: Global,
-    out: &mut W,
-    asked: &'q AskedText<'q>,
-    refused: &RefusedTask,
-) -> io::Result<()> {
-    let code = compile(alloc, refused.plan(), refused.task())?;
-    let functions = functions_in(alloc, refused.plan(), refused.task())?;
-    let names = TaskNames {
-        plan: refused.plan(),
-        task: refused.task(),
-        code: &code,
-        functions: &functions,
-    };
-    let word = Refused::of(alloc, asked, &names, refused.refusal())?;
-    write_refused(alloc, out, &word, refused.task_name())?;
-    write_calls(alloc, out, &word)?;
+    source: &Source,
+    place: (usize, usize),
+    cause: NameCause,
+) -> Result<Told, AllocError> {
+    let at = place_of(asked.text, place.0, place.1);
+    let answer = answer_name(alloc, asked, source, at, cause)?;
+    let others = OtherFaults::of(alloc, asked, source, at, cause)?;
     let mut further = Further::of(alloc, asked);
-    further.add_tasks(refused.plan(), refused.task().saturating_add(1))?;
-    further.write_to(out)
-}
-
-/// Writes what is wrong with a refused word, with a mark at its operand where that is wrong, and
-/// what helps.
-fn write_refused<W: Write>(
-    alloc: Global,
-    out: &mut W,
-    refused: &Refused,
-    task: &str,
-) -> io::Result<()> {
-    let Refused {
-        asked,
-        word,
-        line,
-        cause,
-        ..
-    } = *refused;
-    let answer = answer_code(alloc, refused)?;
-    let (number, what) = (cause.number(), answer.what.as_str());
-    let title = format!(in alloc; "task {task} refused {number} at word {word}: {what}")?;
-    let mark = refused.mark();
-    let col = mark.unwrap_or(first_column(asked.text, line));
-    write_fault(out, asked.path, asked.text, (line, col), mark, &title)?;
-    write_answer(out, &answer, line)
-}
-
-/// Writes the calls or the way that lead to a refused word.
-fn write_calls<W: Write>(alloc: Global, out: &mut W, refused: &Refused) -> io::Result<()> {
-    let Refused { names, word, .. } = *refused;
-    let mut page = Page::new(alloc);
-    match refused.cause {
-        Cause::TooLong => print_longest_calls(alloc, &mut page, names)?,
-        Cause::BadCall => print_deepest_calls(alloc, &mut page, names, word)?,
-        Cause::TooManyRequests => print_requests(alloc, &mut page, names, word)?,
-        _ => print_way(alloc, &mut page, names, refused.asked.text, word)?,
+    for fault in &others.named {
+        let title = Title::Fault("name", fault.cause.number());
+        further.add(Some(fault.line), fault.col, title, &fault.what);
     }
-    page.write_to(out)
+    if !others.named.is_empty() {
+        print_more(&mut further.page, others.more, others.is_cut);
+    }
+    let title = Title::Fault("name", cause.number());
+    Ok(Told::of(alloc, asked.path, place, title, answer, further.into_page()))
+}
+
+/// Prints how many faults of names there are besides; where `is_cut` there may be more.
+fn print_more(page: &mut Page, more: usize, is_cut: bool) {
+    let (front, behind) = match (more, is_cut) {
+        (0, true) => return page.text("there may be more faults of names\n"),
+        (0, false) => return,
+        (1, true) => ("at least ", " more fault of names\n"),
+        (1, false) => ("", " more fault of names\n"),
+        (_, true) => ("at least ", " more faults of names\n"),
+        (_, false) => ("", " more faults of names\n"),
+    };
+    page.text(front);
+    page.count(more);
+    page.text(behind);
+}
+
+/// Explains a task whose code is refused: with what leads to the word. Of each task behind it the
+/// first refused word is named.
+fn told_code(alloc: Global, asked: &AskedText, refused: &RefusedTask) -> Result<Told, AllocError> {
+    let (plan, task, refusal) = (refused.plan(), refused.task(), refused.refusal());
+    let mut further = Further::of(alloc, asked);
+    let page = &mut further.page;
+    let (mark, answer) = answer_task(alloc, asked, page, true, plan, task, refusal)?;
+    further.add_tasks(plan, task.saturating_add(1))?;
+    let mut head = Page::new(alloc);
+    print_refused(
+        &mut head,
+        asked,
+        refused.task_name(),
+        refusal,
+        mark,
+        &answer.what,
+    );
+    Ok(Told {
+        head,
+        line: refusal.line,
+        mark,
+        is_found: false,
+        answer,
+        behind: further.into_page(),
+    })
 }
 
 /// Explains a fault of a binding.
@@ -227,16 +167,15 @@ fn explain_lines<Of, W: Write>(
     fault: &LineFault<Of>,
 ) -> io::Result<()> {
     let LineFault::At { line, cause } = fault else {
-        return write_memory(out);
+        return out.write_all(NO_MEMORY);
     };
     let line = line.number();
     let bad = bad_line(alloc, file, bytes, line, *cause)?;
-    let kind = match file {
-        LineFile::Binding => "bind",
-        LineFile::Scenario => "scenario",
+    let title = match file {
+        LineFile::Binding => Title::Line("bind"),
+        LineFile::Scenario => Title::Line("scenario"),
     };
-    let what = bad.answer.what.as_str();
-    let title = format!(in alloc; "{kind} fault: {what}")?;
-    write_fault(out, path, bytes, (line, bad.col), Some(bad.col), &title)?;
-    write_answer(out, &bad.answer, line)
+    let place = (line, bad.col);
+    let told = Told::of(alloc, path, place, title, bad.answer, Page::new(alloc));
+    told.write_to(out, bytes)
 }

@@ -2,10 +2,10 @@
 //! could stand there, and the cure; of a refused word also what is known there, and a way that
 //! leads there.
 //!
-//! What crosses the boundary: the bytes of a file with its fault ([`AskedText`] for a text, which
-//! [`load_with_source`] loads or says why not), and lines on a writer. Lines that are proposed as they could read were tried: with them the text is
-//! accepted, or its fault is gone. What is printed is fixed by worked rows (crates/rows); of the
-//! code it is proved that it is safe and ends.
+//! What crosses the boundary: the bytes of a file with its fault ([`AskedText`] for a text, and what
+//! `plantload::load_with_source` says of it), and lines on a writer. Lines that are proposed as they
+//! could read were tried: with them the text is accepted, or its fault is gone. What is printed is
+//! fixed by worked rows (crates/rows); of the code it is proved that it is safe and ends.
 //!
 //! ```text
 //! let Err(stop) = load_with_source(alloc, &text, &binding) else { .. };
@@ -13,19 +13,18 @@
 //! ```
 #![tactic(auto)]
 
-mod block_commands;
 mod code_answers;
 mod code_causes;
+mod code_edits;
 mod cured;
 mod files;
 mod further;
-mod guards;
-mod loading;
 mod mismatch;
+mod refused;
 mod requests;
 mod taken;
+mod told;
 mod ways;
 
 pub use explaincures::AskedText;
 pub use files::{explain_binding, explain_load, explain_scenario};
-pub use loading::{NotLoaded, load_with_source};

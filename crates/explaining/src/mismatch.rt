@@ -1,9 +1,10 @@
 //! What was found and what is wanted, where a value is of the wrong type.
 
-use ilcode::{Code, Target, Word, WordOperand};
-use ilranges::{Entry, Known};
+use ilcode::{Code, Word, WordOperand};
+use illisting::{read_by, written_by};
+use ilranges::{Cause, Entry, Known};
 use iltypes::{Function, Operator};
-use ilverify::{Pass, Passed};
+use ilverify::{Pass, Passed, Refusal};
 use std::alloc::{AllocError, Global};
 use std::fmt;
 
@@ -25,37 +26,34 @@ const NUMBER: Option<Known> = None;
 impl Mismatch {
     /// The truth value that an operand means that is 1 or 0.
     pub(crate) fn truth_meant(self) -> Option<&'static str> {
-        match (self.found, self.wanted) {
-            (Known::Int(range), Some(Known::Bool)) if self.is_operand && range.lo == range.hi => {
-                match range.lo {
-                    0 => Some("FALSE"),
-                    1 => Some("TRUE"),
-                    _ => None,
-                }
-            }
+        match (self.found, self.wanted, self.is_operand) {
+            (Known::Int(range), Some(Known::Bool), true) => match (range.lo, range.hi) {
+                (0, 0) => Some("FALSE"),
+                (1, 1) => Some("TRUE"),
+                _ => None,
+            },
             _ => None,
         }
     }
 }
 
-/// The value of the wrong type at a word, where there is one.
-///
-/// # Errors
-///
-/// The allocator is out of memory.
+/// The value of the wrong type at a refused word, where that is the cause.
 pub(crate) fn mismatch_at(
     alloc: Global,
     code: &Code,
-    place: usize,
+    refusal: Refusal,
 ) -> Result<Option<Mismatch>, AllocError> {
+    if !matches!(refusal.cause, Cause::WrongType) {
+        return Ok(None);
+    }
     let mut pass = Pass::begin(alloc, code)?;
-    for _ in 0..place {
+    for _ in 0..refusal.word {
         let Passed::On(next) = pass.advance()? else {
             return Ok(None);
         };
         pass = next;
     }
-    Ok(match (pass.entry(), code.get(place)) {
+    Ok(match (pass.entry(), code.get(refusal.word)) {
         (Some(entry), Some(word)) => mismatch_of(code, entry, word),
         _ => None,
     })
@@ -64,35 +62,22 @@ pub(crate) fn mismatch_at(
 /// The value of the wrong type, by what is known before a word.
 fn mismatch_of(code: &Code, entry: &Entry, word: Word) -> Option<Mismatch> {
     let result = entry.result;
+    let read = known_of(code, entry, read_by(word));
+    let declared = type_of(code, written_by(word));
     match word {
-        Word::Load { operand, .. } => at_operand(known_of(code, entry, operand), TRUTH),
-        Word::Apply(operator, operand) => {
+        Word::Load { .. } => at_operand(read, TRUTH),
+        Word::Apply(operator, _) => {
             let wanted = wanted_by(operator, result);
-            at_result(result, wanted).or(at_operand(known_of(code, entry, operand), wanted))
+            at_result(result, wanted).or(at_operand(read, wanted))
         }
         Word::Transform(Function::Not) | Word::Jump { .. } => at_result(result, TRUTH),
         Word::Transform(_) => at_result(result, NUMBER),
-        Word::Store { negated, variable } => {
-            let declared = Some(type_of(code, variable)?);
+        Word::Store { negated, .. } => {
             let wanted = if negated { TRUTH } else { declared };
             at_operand(declared, wanted).or(at_result(result, wanted))
         }
-        Word::Set(variable) | Word::Reset(variable) => {
-            let declared = type_of(code, variable)?;
-            at_result(result, TRUTH).or(at_operand(Some(declared), TRUTH))
-        }
-        Word::Pass {
-            port,
-            block,
-            operand,
-        } => {
-            let declared = type_of(code, Target::Port { port, block })?;
-            at_operand(known_of(code, entry, operand), Some(declared))
-        }
-        Word::Give { operand, slot } => {
-            let declared = type_of(code, Target::Slot(slot))?;
-            at_operand(known_of(code, entry, operand), Some(declared))
-        }
+        Word::Set(_) | Word::Reset(_) => at_result(result, TRUTH).or(at_operand(declared, TRUTH)),
+        Word::Pass { .. } | Word::Give { .. } => at_operand(read, declared),
         Word::Close => {
             let opened = entry.nesting.innermost()?;
             let saved = Some(opened.saved);
@@ -135,21 +120,21 @@ fn at_result(known: Option<Known>, wanted: Option<Known>) -> Option<Mismatch> {
 }
 
 /// What is known of an operand.
-fn known_of(code: &Code, entry: &Entry, operand: WordOperand) -> Option<Known> {
+fn known_of(code: &Code, entry: &Entry, operand: Option<WordOperand>) -> Option<Known> {
     match operand {
-        WordOperand::Slot(slot) => entry.slots.get(usize::from(slot)),
-        WordOperand::Constant(number) => {
-            Some(Known::of_value(*code.constants().get(usize::from(number))?))
-        }
-        WordOperand::Port { port, block } => type_of(code, Target::Port { port, block }),
+        Some(WordOperand::Slot(slot)) => entry.slots.get(usize::from(slot)),
+        _ => type_of(code, operand),
     }
 }
 
-/// What is known of a variable or a port by its type.
-fn type_of(code: &Code, variable: Target) -> Option<Known> {
-    let declared = match variable {
-        Target::Slot(slot) => code.slots().get(usize::from(slot)).copied(),
-        Target::Port { port, block } => {
+/// What is known of an operand by its type, or its value.
+fn type_of(code: &Code, operand: Option<WordOperand>) -> Option<Known> {
+    let declared = match operand? {
+        WordOperand::Slot(slot) => code.slots().get(usize::from(slot)).copied(),
+        WordOperand::Constant(number) => {
+            return Some(Known::of_value(*code.constants().get(usize::from(number))?));
+        }
+        WordOperand::Port { port, block } => {
             let kind = code.kinds().get(usize::from(block))?;
             kind.port_type(code.buses(), usize::from(port))
         }

@@ -1,8 +1,8 @@
 //! The calls that make too many requests.
 
+use crate::taken::{Way, ways_up_to};
 use ilcode::{Code, Word};
 use illisting::{TaskNames, WordText, line_at};
-use iltypes::Condition;
 use page::Page;
 use std::alloc::{AllocError, Global};
 
@@ -21,69 +21,16 @@ pub(crate) fn print_requests(
     names: &TaskNames,
     word: usize,
 ) -> Result<(), AllocError> {
-    let most = most_up_to(alloc, names.code, word)?;
-    let calls = calls_to(alloc, names.code, &most, word)?;
+    let ways = ways_up_to(alloc, names.code, word)?;
+    let calls = calls_to(alloc, names.code, &ways, word)?;
     page.text("the calls on a way there, whatever its jumps test:\n");
     for place in calls.iter().rev() {
-        print_call(alloc, page, names, *place)?;
-    }
-    Ok(())
-}
-
-/// Prints a call with its line.
-fn print_call(
-    alloc: Global,
-    page: &mut Page,
-    names: &TaskNames,
-    place: usize,
-) -> Result<(), AllocError> {
-    if let Some(word) = names.code.get(place) {
-        let line = line_at(names.code, place);
-        let text = WordText { names, word };
-        page.text(&format!(in alloc; "{line:>6} | {text}\n")?);
-    }
-    Ok(())
-}
-
-/// The most requests on ways up to each place of the programs, where there is one, up to a word.
-fn most_up_to(alloc: Global, code: &Code, word: usize) -> Result<Vec<Option<Most>>, AllocError> {
-    let mut most = vec![in alloc; None; word.saturating_add(1)]?;
-    let none = Most {
-        requests: 0,
-        before: 0,
-    };
-    meet(&mut most, 0, none);
-    for place in 0..word {
-        if let Some(Some(found)) = most.get(place) {
-            let on = Most {
-                requests: found.requests.saturating_add(requests_of(code, place)),
-                before: place,
-            };
-            follow(code, &mut most, place, on);
+        if let Some(word) = names.code.get(*place) {
+            let (line, text) = (line_at(names.code, *place), WordText { names, word });
+            page.text(&format!(in alloc; "{line:>6} | {text}\n")?);
         }
     }
-    Ok(most)
-}
-
-/// Goes on from a place to the places that its word leads to.
-fn follow(code: &Code, most: &mut [Option<Most>], place: usize, on: Most) {
-    let mut is_next = true;
-    if let Some(Word::Jump { condition, target }) = code.get(place) {
-        meet(most, target as usize, on);
-        is_next = condition != Condition::Always;
-    }
-    if is_next {
-        meet(most, place.saturating_add(1), on);
-    }
-}
-
-/// A way leads to a place.
-fn meet(most: &mut [Option<Most>], to: usize, on: Most) {
-    if let Some(kept) = most.get_mut(to) {
-        if !matches!(kept, Some(found) if found.requests >= on.requests) {
-            *kept = Some(on);
-        }
-    }
+    Ok(())
 }
 
 /// How many requests a word may make.
@@ -101,9 +48,10 @@ fn requests_of(code: &Code, place: usize) -> usize {
 fn calls_to(
     alloc: Global,
     code: &Code,
-    most: &[Option<Most>],
+    ways: &[Way],
     word: usize,
 ) -> Result<Vec<usize>, AllocError> {
+    let most = most_by(alloc, code, ways, word)?;
     let mut calls = Vec::new(alloc);
     let mut place = word;
     for _ in 0..most.len() {
@@ -111,9 +59,32 @@ fn calls_to(
             calls.push(place)?;
         }
         match most.get(place) {
-            Some(Some(found)) if place > 0 => place = found.before,
+            Some(found) if place > 0 => place = found.before,
             _ => break,
         }
     }
     Ok(calls)
+}
+
+/// The most requests on ways up to each place; where there are none, the place before it is the
+/// first.
+fn most_by(alloc: Global, code: &Code, ways: &[Way], word: usize) -> Result<Vec<Most>, AllocError> {
+    let none = Most {
+        requests: 0,
+        before: 0,
+    };
+    let mut most = vec![in alloc; none; word.saturating_add(1)]?;
+    for way in ways {
+        let before = most.get(way.from).copied().unwrap_or(none);
+        let requests = before.requests.saturating_add(requests_of(code, way.from));
+        if let Some(kept) = most.get_mut(way.to) {
+            if kept.requests < requests {
+                *kept = Most {
+                    requests,
+                    before: way.from,
+                };
+            }
+        }
+    }
+    Ok(most)
 }

@@ -132,6 +132,11 @@ fn lack_before(code: &Code, ways: &[Way], place: usize) -> Option<Lack> {
 
 /// The last place from which a value goes to this one: the one before it, or else the last jump.
 pub(crate) fn place_before(ways: &[Way], place: usize) -> Option<usize> {
-    let way = ways.iter().rev().find(|way| way.to == place)?;
-    Some(way.from)
+    let mut before = None;
+    for way in ways {
+        if way.to == place {
+            before = Some(way.from);
+        }
+    }
+    before
 }

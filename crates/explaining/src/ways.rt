@@ -1,7 +1,7 @@
 //! A way that leads to a word, with what is known on it.
 
 use crate::taken::{Way, place_before, ways_up_to};
-use explaincures::{Spot, part, place_of, shown_text};
+use explaincures::{line_of, part, shown_text};
 use ilcode::{Code, Word};
 use illisting::{KnownText, TaskNames, WordText, line_at};
 use iltokens::Keyword::{Jmp, Jmpc, Jmpcn, Ret, Retc, Retcn};
@@ -95,7 +95,7 @@ fn spelled(
     line: usize,
 ) -> Result<String, AllocError> {
     if matches!(word, Word::Jump { .. }) {
-        if let Some(written) = jump_on(text, line) {
+        if let Some(written) = jump_on(line_of(text, line)) {
             return shown_text(alloc, written);
         }
     }
@@ -104,8 +104,7 @@ fn spelled(
 }
 
 /// The jump that is written on a line, with its label.
-fn jump_on(text: &[u8], line: usize) -> Option<&[u8]> {
-    let line = Spot::of(text, place_of(text, line, 1)).line();
+fn jump_on(line: &[u8]) -> Option<&[u8]> {
     let mut jump: Option<usize> = None;
     let mut at: usize = 0;
     for _ in 0..line.len() {
@@ -113,16 +112,11 @@ fn jump_on(text: &[u8], line: usize) -> Option<&[u8]> {
             break;
         };
         at = to;
-        if jump.is_none() && is_jump(what) {
-            jump = Some(from);
+        if matches!(what, What::Keyword(Jmp | Jmpc | Jmpcn | Ret | Retc | Retcn)) {
+            jump = jump.or(Some(from));
         }
     }
     Some(part(line, jump?, at))
-}
-
-/// Whether a token is a jump.
-fn is_jump(what: What) -> bool {
-    matches!(what, What::Keyword(Jmp | Jmpc | Jmpcn | Ret | Retc | Retcn))
 }
 
 /// What an operand stands behind on its line.

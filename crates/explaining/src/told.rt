@@ -1,0 +1,115 @@
+//! What is said of what stands against a file, and how it is printed.
+
+use explaincures::{FaultAnswer, write_answer, write_found, write_line};
+use page::Page;
+use std::alloc::Global;
+use std::io;
+use std::io::Write;
+
+/// What is said of what stands against a file.
+#[derive(Drop)]
+pub(crate) struct Told {
+    /// The first line: where it stands, and what it is.
+    pub head: Page,
+    pub line: usize,
+    /// The column that is marked, where there is one.
+    pub mark: Option<usize>,
+    /// Whether it is said what was found there.
+    pub is_found: bool,
+    pub answer: FaultAnswer,
+    pub behind: Page,
+}
+
+/// What stands against a file, with its number.
+#[derive(Clone, Copy)]
+pub(crate) enum Title<'a> {
+    /// A fault of this kind.
+    Fault(&'static str, u8),
+    /// A bad line of this kind of file.
+    Line(&'static str),
+    /// A task of this name is refused, at this word.
+    Refused(&'a str, u8, usize),
+}
+
+impl Told {
+    /// What is said of a fault at a place, and behind it.
+    pub(crate) fn of(
+        alloc: Global,
+        path: &str,
+        place: (usize, usize),
+        title: Title,
+        answer: FaultAnswer,
+        behind: Page,
+    ) -> Told {
+        let mut head = Page::new(alloc);
+        print_head(&mut head, path, place, title, &answer.what);
+        Told {
+            head,
+            line: place.0,
+            mark: Some(place.1),
+            is_found: matches!(title, Title::Fault(..)),
+            answer,
+            behind,
+        }
+    }
+
+    /// Writes it, of a file of these bytes.
+    pub(crate) fn write_to<W: Write>(self, out: &mut W, bytes: &[u8]) -> io::Result<()> {
+        let Told {
+            head,
+            line,
+            mark,
+            is_found,
+            answer,
+            behind,
+        } = self;
+        head.write_to(out)?;
+        write_line(out, bytes, line, mark)?;
+        if let (Some(col), true) = (mark, is_found) {
+            write_found(out, bytes, line, col)?;
+        }
+        write_answer(out, &answer, line)?;
+        behind.write_to(out)
+    }
+}
+
+/// Prints where a fault stands, as editors read it, and what it is, in a line.
+pub(crate) fn print_head(
+    page: &mut Page,
+    path: &str,
+    (line, col): (usize, usize),
+    title: Title,
+    what: &str,
+) {
+    page.text(path);
+    page.text(":");
+    page.count(line);
+    page.text(":");
+    page.count(col);
+    page.text(": ");
+    print_title(page, title);
+    page.text(": ");
+    page.text(what);
+    page.text("\n");
+}
+
+/// Prints what stands against a file.
+fn print_title(page: &mut Page, title: Title) {
+    let (front, between, number) = match title {
+        Title::Fault(kind, number) => (kind, " fault ", usize::from(number)),
+        Title::Line(kind) => {
+            page.text(kind);
+            return page.text(" fault");
+        }
+        Title::Refused(task, number, word) => {
+            page.text("task ");
+            page.text(task);
+            page.text(" refused ");
+            page.count(usize::from(number));
+            ("", " at word ", word)
+        }
+    };
+    page.text(front);
+    page.text(between);
+    page.count(number);
+}
