@@ -4,8 +4,8 @@ use Rattle.std.specs.Io.KnownBytes.{Appends}
 use Rattle.std.specs.Option.{option_copied}
 use Rattle.options.specs.declared.files.Files.{Files}
 use Rattle.inquiries.specs.declared.stop.Stop.{Stop}
-use Rattle.exitstatus.specs.ExitStatuses.{status_of_stop}
-use Rattle.exitstatus.specs.declared.exit_status.ExitStatus.{ExitStatus}
+use Rattle.commandfiles.specs.ExitStatuses.{status_of_stop}
+use Rattle.commandfiles.specs.ExitStatus.{ExitStatus}
 use Rattle.commandcodes.specs.CodeFiles.{IsCodeServed, IsCodeStop}
 use Rattle.commandfiles.specs.Reports.{stop_text}
 use Rattle.commandfiles.specs.Served.{IsGiven}

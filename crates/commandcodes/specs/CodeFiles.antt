@@ -12,9 +12,9 @@ use Rattle.inquiries.specs.declared.stop.Stop.{Stop}
 use Rattle.inquiries.specs.Coding.{IsCodeAnswer, IsCodeFile}
 use Rattle.inquiries.specs.CodePrinted.{printed}
 use Rattle.inquiries.specs.declared.code_answer.CodeAnswer.{CodeAnswer}
-use Rattle.exitstatus.specs.ExitStatuses.{status_of_code_answer, status_of_stop}
-use Rattle.exitstatus.specs.declared.exit_status.ExitStatus.{ExitStatus}
-use Rattle.exitstatus.specs.declared.exit_status.ExitStatus.TheVariants.{Accepted}
+use Rattle.commandfiles.specs.ExitStatuses.{status_of_code_answer, status_of_stop}
+use Rattle.commandfiles.specs.ExitStatus.{ExitStatus}
+use Rattle.commandfiles.specs.ExitStatus.TheVariants.{Accepted}
 use Rattle.commandfiles.specs.Reports.{ended, stop_text}
 use Rattle.commandfiles.specs.Served.{IsFirstUnread, IsGiven}
 use Rattle.commandfiles.specs.declared.reading.DiskFault.{DiskFault}

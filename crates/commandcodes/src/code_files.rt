@@ -4,13 +4,12 @@ ghost use Rattle.std.specs.Prelude.{◌≡◌, IfErr, IfOk, option_map};
 ghost use Rattle.std.specs.Io.KnownBytes.{Appends};
 ghost use Rattle.std.specs.Option.{option_copied};
 ghost use Rattle.inquiries.specs.CodePrinted.{printed};
-ghost use Rattle.exitstatus.specs.ExitStatuses.{status_of_code_answer, status_of_stop};
+ghost use Rattle.commandfiles.specs.ExitStatuses.{status_of_code_answer, status_of_stop};
 ghost use Rattle.commandcodes.specs.CodeFiles.{IsCodeJudged, IsCodeServed, IsCodeStop, IsCodeUnder};
 ghost use Rattle.commandcodes.specs.CodeFiles.{IsCodeUnserved, IsUnjudged};
 ghost use Rattle.commandfiles.specs.Reports.{ended, stop_text};
 
-use commandfiles::{Disk, Unserved, bytes_at, named_at, print_answer, write_at};
-use exitstatus::ExitStatus;
+use commandfiles::{Disk, ExitStatus, Unserved, bytes_at, named_at, print_answer, write_at};
 use inquiries::{Answer, CodeAnswer, Stop, binding_of, code_of, judge};
 use options::Files;
 use std::alloc::Global;

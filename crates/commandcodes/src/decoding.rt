@@ -1,9 +1,8 @@
 //! The lines of a log, with what the frames in them say.
 
 use crate::wording::{add_frame, frame_of};
-use commandfiles::{DiskFault, Unserved, reason};
+use commandfiles::{DiskFault, ExitStatus, Unserved, reason};
 use daliwords::FrameWords;
-use exitstatus::ExitStatus;
 use page::Page;
 use std::alloc::Global;
 use std::fs::File;

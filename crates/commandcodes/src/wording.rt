@@ -1,11 +1,10 @@
 //! Frames in words, and the line of a scenario for an event.
 
 use crate::decoding::{STANDARD_INPUT, serve_log};
-use commandfiles::{Disk, Unserved, add_texts, bytes_at};
+use commandfiles::{Disk, ExitStatus, Unserved, add_texts, bytes_at};
 use commandline::GivenFrames;
 use daliframe::{Frame, Frame16, Frame24};
 use daliwords::{FrameWords, frame_of_event};
-use exitstatus::ExitStatus;
 use inquiries::{Stop, binding_of};
 use page::Page;
 use std::alloc::{AllocError, Global};

@@ -6,9 +6,9 @@ use Rattle.livekeep.specs.KeptFiles.{KeptEntry, KeptState}
 use Rattle.plantevents.specs.declared.event.Event.{Event}
 use Rattle.plantevents.specs.Plants.{Plant}
 use Rattle.plantevents.specs.Legal.{AreLegal}
-use Rattle.plantload.specs.Loading.{IsSetup}
-use Rattle.plantload.specs.KeptLoading.{IsKeptSetup}
-use Rattle.plantload.specs.MeantScans.{AreAsMeant}
+use Rattle.inquiries.specs.Loading.{IsSetup}
+use Rattle.inquiries.specs.KeptLoading.{IsKeptSetup}
+use Rattle.inquiries.specs.MeantScans.{AreAsMeant}
 use Rattle.commandfiles.specs.Beginnings.{IsBegunWith, tree_of}
 
 -- the law of the scans of a text

@@ -9,8 +9,8 @@ use Rattle.livekeep.specs.KeptFiles.{IsKeptFile, KeptState}
 use Rattle.livekeep.specs.KeptPlans.{left_out_of}
 use Rattle.livekeep.specs.Faults.{IsKeptFault}
 use Rattle.livekeep.specs.declared.fault.KeptFault.{KeptFault}
-use Rattle.plantload.specs.Loading.{IsSetup}
-use Rattle.plantload.specs.KeptLoading.{IsKeptSetup}
+use Rattle.inquiries.specs.Loading.{IsSetup}
+use Rattle.inquiries.specs.KeptLoading.{IsKeptSetup}
 use Rattle.inquiries.specs.Answered.{IsCheckStop, IsStopOrMemory}
 use Rattle.inquiries.specs.Connected.{IsBindingStop, IsConnected}
 use Rattle.inquiries.specs.declared.stop.Stop.{Stop}

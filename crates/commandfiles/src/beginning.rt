@@ -8,10 +8,9 @@ ghost use Rattle.commandfiles.specs.Beginnings.{IsStopUnder};
 use crate::reading::{Disk, DiskFault};
 use crate::serving::Unserved;
 use ilcompile::Setup;
-use inquiries::{Stop, binding_of, check};
+use inquiries::{Stop, begin_kept, binding_of, check};
 use jiff::Timestamp;
 use livekeep::{Kept, KeptAt, KeptFault, LeftOut};
-use plantload::begin_kept;
 use std::alloc::{AllocError, Global};
 use std::fmt;
 

@@ -22,6 +22,8 @@ mod serving;
 mod texts;
 
 pub use beginning::{Beginning, KeptNote, beginning_of, kept_at, setup_of};
+pub use exitstatus::{ExitStatus, PlayStop};
+pub use inquiries::{Stop, UnknownTask, binding_of, check, task_line};
 pub use reading::{Disk, DiskFault, HostDisk, reason};
 pub use report::print_answer;
 pub use serving::{Unserved, bytes_at, named_at, serve, write_at};

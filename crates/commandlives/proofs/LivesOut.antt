@@ -4,8 +4,8 @@ use Rattle.buslink.specs.BusLog.{BusLog}
 use Rattle.buslink.specs.ClockLog.{ClockLog}
 use Rattle.ilcompile.specs.Loaded.{Loaded}
 use Rattle.plant.specs.Shown.{plant_of}
-use Rattle.plantlive.specs.declared.living.Lived.{Lived}
-use Rattle.plantlive.specs.Lives.{HasLived}
+use Rattle.livehouse.specs.Lived.{Lived}
+use Rattle.livehouse.specs.Lives.{HasLived}
 use Rattle.options.specs.declared.live_options.LiveOptions.{LiveOptions}
 use Rattle.options.specs.declared.live_options.RunSize.{RunSize}
 use Rattle.options.specs.declared.line_word.LineWord.{LineWord}

@@ -5,16 +5,16 @@ use Rattle.buslink.specs.ClockLog.{ClockLog}
 use Rattle.ilcompile.specs.Loaded.{Loaded}
 use Rattle.plantload.specs.MeantScans.{AreAsMeant}
 use Rattle.plantdriving.specs.Downs.{has_down}
-use Rattle.plantlive.specs.declared.living.Lived.{Lived}
-use Rattle.plantlive.specs.Lives.{HasLived}
+use Rattle.livehouse.specs.Lived.{Lived}
+use Rattle.livehouse.specs.Lives.{HasLived}
 use Rattle.options.specs.declared.files.LiveFiles.{LiveFiles}
 use Rattle.options.specs.declared.live_options.LiveOptions.{LiveOptions}
 use Rattle.options.specs.declared.live_options.RunSize.{RunSize}
 use Rattle.options.specs.declared.line_word.LineWord.{LineWord}
 use Rattle.livekeep.specs.KeptFiles.{KeptState}
-use Rattle.exitstatus.specs.declared.exit_status.ExitStatus.{ExitStatus}
-use Rattle.exitstatus.specs.declared.exit_status.ExitStatus.TheVariants.{Failed, Misused}
-use Rattle.exitstatus.specs.ExitStatuses.{status_of_run, status_of_stop}
+use Rattle.commandfiles.specs.ExitStatus.{ExitStatus}
+use Rattle.commandfiles.specs.ExitStatus.TheVariants.{Failed, Misused}
+use Rattle.commandfiles.specs.ExitStatuses.{status_of_run, status_of_stop}
 use Rattle.livehouse.specs.declared.buildings.Building.{Building}
 use Rattle.livehouse.specs.declared.stops.LiveStop.{LiveStop}
 use Rattle.livehouse.specs.declared.stops.LiveStop.TheVariants.{Lineup}

@@ -20,5 +20,6 @@ mod tools;
 
 pub use live_status::status_of_live_stop;
 pub use lived::LiveLeft;
+pub use livehouse::{Care, Departure, LiveStop, Site, Storage};
 pub use living::{Grounds, Halted, LiveEnd, Notice, serve_live, status_of_live};
 pub use tools::{ToolEnd, ToolLine, ToolStop, binding_at, opened, setup_at};

@@ -3,7 +3,7 @@
 ghost use Rattle.std.specs.Prelude.{◌≡◌};
 ghost use Rattle.commandlives.specs.Buildings.{status_of_live_stop};
 
-use exitstatus::ExitStatus;
+use commandfiles::ExitStatus;
 use livehouse::LiveStop;
 
 /// How the program ends where this stands against a building.

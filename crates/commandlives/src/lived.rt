@@ -1,13 +1,11 @@
 //! What a building left, and its report.
 
 use buslink::{Bus, Clock};
+use livehouse::{Ended, Lived};
 use plant::Plant;
-use plantlive::Lived;
-use plantplay::write_globals;
-use plantrun::{ended_name, write_tasks};
+use plantrun::{ended_name, write_globals, write_tasks};
 use std::io;
 use std::io::Write;
-use workers::Ended;
 
 /// What a building left.
 #[derive(Drop)]

@@ -9,16 +9,14 @@ ghost use Rattle.commandlives.specs.Buildings.{IsUnobserved, status_of_live_end}
 use crate::live_status::status_of_live_stop;
 use crate::lived::LiveLeft;
 use buslink::{Bus, Clock};
-use commandfiles::{Beginning, Disk, KeptNote, Unserved, beginning_of, bytes_at, kept_at};
-use exitstatus::ExitStatus;
-use inquiries::Stop;
-use livehouse::{Departure, LiveStop, Site, open};
-use livejournal::{BuildingObserver, Storage};
+use commandfiles::{
+    Beginning, Disk, ExitStatus, KeptNote, Stop, Unserved, beginning_of, bytes_at, kept_at,
+};
+use livehouse::{BuildingObserver, Departure, Gate, LiveStop, OpenGate, Site, Storage, open};
 use options::{LineWord, LiveFiles, LiveOptions};
 use plant::StartFault;
 use plantdriving::has_down;
 use plantload::{kept_scans_are_as_meant, scans_are_as_meant};
-use plantturns::{Gate, OpenGate};
 use std::alloc::Global;
 use std::io;
 use std::io::{BufWriter, Write};

@@ -1,9 +1,8 @@
 //! What the commands at one line work with: the line, and the files that they read.
 
-use commandfiles::{Disk, Unserved, bytes_at, setup_of};
+use commandfiles::{Disk, Stop, Unserved, binding_of, bytes_at, setup_of};
 use daliframe::BusNumber;
 use ilcompile::Setup;
-use inquiries::{Stop, binding_of};
 use livehouse::{LineupFault, LiveStop, Site, SiteFault};
 use livesurvey::Served;
 use options::{LineWord, LiveFiles};

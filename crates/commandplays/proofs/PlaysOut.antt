@@ -12,7 +12,7 @@ use Rattle.plantplay.specs.Stage.{Stage, IsPlayedTo}
 use Rattle.plantplay.specs.declared.installation.Installation.{Installation}
 use Rattle.plantplay.specs.declared.ending.Ending.{Ending}
 use Rattle.plant.specs.Shown.{Shown}
-use Rattle.exitstatus.specs.declared.exit_status.ExitStatus.{ExitStatus}
+use Rattle.commandfiles.specs.ExitStatus.{ExitStatus}
 use Rattle.options.specs.declared.expected_word.ExpectedWord.{ExpectedWord}
 use Rattle.commandplays.specs.Plays.{PlayBytes, AreNames, IsJudgedBy, IsSetupOf, IsStarted, IsPlayedOut, IsPlayedUnder}
 use Rattle.commandplays.specs.Plays.{status_of_played}

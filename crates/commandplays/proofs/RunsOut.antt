@@ -7,7 +7,7 @@ use Rattle.simbus.specs.ScriptedTicks.{ScriptedTicks}
 use Rattle.simbus.specs.Simulated.{Simulated}
 use Rattle.plant.specs.Shown.{plant_of}
 use Rattle.plantrun.specs.Runs.{IsRun}
-use Rattle.workers.specs.declared.closed.ClosedParts.{ClosedParts}
+use Rattle.plantrun.specs.ClosedParts.{ClosedParts}
 use Rattle.options.specs.declared.live_options.RunSize.{RunSize}
 use Rattle.commandplays.specs.Plays.{PlayBytes, IsSetupOf}
 use Rattle.commandplays.specs.Runs.{IsRunOut}

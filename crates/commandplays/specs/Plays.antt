@@ -20,19 +20,19 @@ use Rattle.plantplay.specs.Installations.{IsInstallation, IsStartFault, stage_of
 use Rattle.plantplay.specs.Stage.{IsPlayedTo}
 use Rattle.plantplay.specs.declared.installation.Installation.{Installation}
 use Rattle.plantplay.specs.declared.ending.Ending.{Ending}
-use Rattle.exitstatus.specs.declared.exit_status.ExitStatus.{ExitStatus}
-use Rattle.exitstatus.specs.declared.exit_status.ExitStatus.TheVariants.{Accepted, Refused, Misused}
+use Rattle.commandfiles.specs.ExitStatus.{ExitStatus}
+use Rattle.commandfiles.specs.ExitStatus.TheVariants.{Accepted, Refused, Misused}
 use Rattle.options.specs.declared.expected_word.ExpectedWord.{ExpectedWord}
 use Rattle.options.specs.declared.files.PlayFiles.{PlayFiles}
-use Rattle.exitstatus.specs.declared.play_stop.PlayStop.{PlayStop}
-use Rattle.exitstatus.specs.declared.play_stop.PlayStop.TheVariants.{Text, Scenario, Start}
+use Rattle.commandfiles.specs.PlayStop.{PlayStop}
+use Rattle.commandfiles.specs.PlayStop.TheVariants.{Text, Scenario, Start}
 use Rattle.inquiries.specs.declared.stop.Stop.{Stop}
 use Rattle.commandfiles.specs.declared.reading.DiskFault.{DiskFault}
 use Rattle.commandfiles.specs.declared.serving.Unserved.{Unserved}
 use Rattle.commandfiles.specs.declared.serving.Unserved.TheVariants.{NotRead, NotWritten, NotPrinted}
 use Rattle.commandfiles.specs.Beginnings.{AreUsed, IsBegunUnder, IsStopUnder, tree_of}
 use Rattle.commandfiles.specs.Served.{IsGiven}
-use Rattle.exitstatus.specs.ExitStatuses.{status_of_play, status_of_play_stop}
+use Rattle.commandfiles.specs.ExitStatuses.{status_of_play, status_of_play_stop}
 use Rattle.playexpect.specs.Expected.{AreKnown, AreMet}
 use Rattle.playwatch.specs.Watched.{AreWatchable}
 

@@ -7,12 +7,12 @@ use Rattle.simbus.specs.ScriptedTicks.{ScriptedTicks}
 use Rattle.simbus.specs.Simulated.{Simulated}
 use Rattle.plantdriving.specs.Downs.{has_down}
 use Rattle.plantrun.specs.Runs.{IsRun}
-use Rattle.workers.specs.declared.closed.ClosedParts.{ClosedParts}
-use Rattle.exitstatus.specs.declared.exit_status.ExitStatus.{ExitStatus}
+use Rattle.plantrun.specs.ClosedParts.{ClosedParts}
+use Rattle.commandfiles.specs.ExitStatus.{ExitStatus}
 use Rattle.options.specs.declared.files.PlayFiles.{PlayFiles}
 use Rattle.options.specs.declared.live_options.RunSize.{RunSize}
-use Rattle.exitstatus.specs.declared.play_stop.PlayStop.{PlayStop}
-use Rattle.exitstatus.specs.ExitStatuses.{status_of_play_stop, status_of_run}
+use Rattle.commandfiles.specs.PlayStop.{PlayStop}
+use Rattle.commandfiles.specs.ExitStatuses.{status_of_play_stop, status_of_run}
 use Rattle.commandplays.specs.Plays.{PlayBytes, AreGiven, AreMeantBy, IsPlayStop, IsSetupOf}
 
 -- The plant of the text's setup under the binding, which begins with kept values where a file of them is used, was run

@@ -4,9 +4,8 @@
 use crate::pages::{Pages, read_pages};
 use crate::playing::start;
 use crate::unknown::write_unwatchable;
-use commandfiles::{Disk, Unserved, write_at};
+use commandfiles::{Disk, ExitStatus, PlayStop, Unserved, write_at};
 use commandline::LookOptions;
-use exitstatus::{ExitStatus, PlayStop};
 use options::PlayFiles;
 use page::Page;
 use plant::Plant;

@@ -5,12 +5,11 @@ ghost use Rattle.commandplays.specs.Plays.{IsPlayStop, IsUnplayed};
 ghost use Rattle.commandplays.specs.Runs.{IsRunServed, IsRunEnd, IsRunOut, status_of_run_end};
 
 use crate::pages::{Pages, beginning_in, read_pages, scenario_of};
-use commandfiles::{Beginning, Disk, Unserved};
-use exitstatus::{ExitStatus, PlayStop};
+use commandfiles::{Beginning, Disk, ExitStatus, PlayStop, Unserved};
 use options::{PlayFiles, RunSize};
 use plantdriving::has_down;
 use plantload::{kept_scans_are_as_meant, scans_are_as_meant};
-use plantrun::{run, write_run};
+use plantrun::{Closed, run, write_run};
 use simbus::{ScriptedClock, SimBus};
 use std::alloc::Global;
 use std::io;
@@ -18,7 +17,6 @@ use std::io::{BufWriter, Write};
 use std::sync::Wait;
 use std::thread::Threads;
 use std::time::Clock as Timer;
-use workers::Closed;
 
 /// What a run came to: what it left, or what stands against it. Only a run leaves a `Closed`.
 pub type RunEnd = Result<Closed<SimBus, ScriptedClock>, PlayStop>;

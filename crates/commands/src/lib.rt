@@ -18,9 +18,9 @@ mod shell;
 mod shell_tools;
 
 pub use commandcodes::{serve_check_code, serve_code};
-pub use commandfiles::{Beginning, Disk, DiskFault, HostDisk, KeptNote, Unserved, serve};
 pub use commandlives::{Grounds, Halted, LiveEnd, LiveLeft, Notice, serve_live, status_of_live};
 pub use commandplays::{RunEnd, serve_look, serve_play, serve_run, status_of_run};
-pub use commandtexts::serve_question;
-pub use exitstatus::ExitStatus;
+pub use commandtexts::{
+    Beginning, Disk, DiskFault, ExitStatus, HostDisk, KeptNote, Unserved, serve, serve_question,
+};
 pub use shell::run;

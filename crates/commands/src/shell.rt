@@ -3,15 +3,15 @@
 use crate::shell_tools::{Complaints, run_ask, run_blink, run_listen, run_probe};
 use buslink::{Bus, Clock};
 use commandcodes::{serve_check_code, serve_code, serve_event, serve_frames};
-use commandfiles::{DiskFault, HostDisk, KeptNote, Unserved, serve};
 use commandline::{Invocation, Tool};
-use commandlives::{Grounds, Notice, ToolLine, serve_live, status_of_live};
+use commandlives::{
+    Departure, Grounds, LiveStop, Notice, Site, Storage, ToolLine, serve_live, status_of_live,
+};
 use commandpaths::{PathFault, check_invocation};
 use commandplays::{serve_look, serve_play, serve_run, status_of_run};
-use commandtexts::{NamedFiles, hint_of, serve_question};
-use exitstatus::ExitStatus;
-use livehouse::{Departure, LiveStop, Site};
-use livejournal::Storage;
+use commandtexts::{
+    DiskFault, ExitStatus, HostDisk, KeptNote, NamedFiles, Unserved, hint_of, serve, serve_question,
+};
 use options::{LineWord, LiveFiles, LiveOptions, PlayFiles, RunSize};
 use std::rt::{Env, Files};
 use std::sync::Wait;

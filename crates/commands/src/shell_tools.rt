@@ -2,17 +2,15 @@
 
 use crate::shell::{HostNotice, no_memory, not_printed, not_served};
 use commandcodes::request_in;
-use commandfiles::{HostDisk, Unserved};
 use commandline::{GivenListenEnd, GivenRequest};
 use commandlives::{
-    Notice, ToolEnd, ToolLine, ToolStop, binding_at, opened, setup_at, status_of_live_stop,
+    Care, Notice, Site, Storage, ToolEnd, ToolLine, ToolStop, binding_at, opened, setup_at,
+    status_of_live_stop,
 };
+use commandtexts::{ExitStatus, HostDisk, Unserved};
 use daliframe::ShortAddress;
-use exitstatus::ExitStatus;
 use gearcmd::Command;
 use liveclock::StopCondition;
-use livehouse::Site;
-use livejournal::{Care, Storage};
 use livesurvey::{
     DeclaredBus, ListenEnd, ProbeForm, Served, serve_ask, serve_blink, serve_listen, serve_probe,
 };

@@ -16,5 +16,8 @@ mod hints;
 mod objects;
 mod telling;
 
+pub use commandfiles::{
+    Beginning, Disk, DiskFault, ExitStatus, HostDisk, KeptNote, Unserved, serve,
+};
 pub use hints::{Hint, NamedFiles, hint_of};
 pub use telling::serve_question;

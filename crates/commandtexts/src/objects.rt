@@ -3,12 +3,11 @@
 ghost use Rattle.std.specs.Prelude.{◌<◌, length};
 
 use crate::telling::is_listed;
-use exitstatus::ExitStatus;
+use commandfiles::{ExitStatus, Stop, task_line};
 use ilcompile::Setup;
 use illisting::write_task;
 use ilnotes::{NotesAsked, Played, Quoted, write_notes};
 use ilsource::Source;
-use inquiries::{Stop, task_line};
 use page::Page;
 use std::alloc::Global;
 use std::io;

@@ -1,16 +1,17 @@
 //! Telling what installers ask of a text: notes on it, its words, and what stands against it.
 
 use crate::objects::{write_explanation, write_noted, write_sizes, write_stop, write_words};
-use commandfiles::{Disk, Unserved, add_texts, bytes_at, named_at};
+use commandfiles::{
+    Disk, ExitStatus, PlayStop, Stop, UnknownTask, Unserved, add_texts, binding_of, bytes_at,
+    check, named_at,
+};
 use commandline::Question;
-use exitstatus::{ExitStatus, PlayStop};
 use explaining::{AskedText, explain_binding, explain_load, explain_scenario};
 use ilcompile::Setup;
 use ilfacts::write_load;
 use illisting::write_task;
 use ilnotes::{NOTE_NAMES, NotedFiles, NotesAsked, Played, is_note_name};
 use ilsource::Source;
-use inquiries::{Stop, UnknownTask, binding_of, check};
 use options::Files;
 use page::Page;
 use plantload::load_with_source;

@@ -3,3 +3,4 @@ pub mod EventSchemes
 pub mod Frames
 pub mod Opcodes
 pub mod Printed
+pub use Rattle.limits.specs.Limits

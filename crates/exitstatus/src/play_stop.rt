@@ -2,9 +2,9 @@
 
 use crate::exit_status::ExitStatus;
 use inquiries::Stop;
-use plant::StartFault;
 use simbus::ScenarioFault;
 use std::fmt;
+use workers::StartFault;
 
 /// The first of what stands against playing or running a scenario, in the order in which it is
 /// reported.

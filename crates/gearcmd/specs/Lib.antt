@@ -2,3 +2,8 @@ pub mod Commands
 pub mod FrameLists
 pub mod Printed
 pub mod Requests
+pub use Rattle.daliframe.specs.Addresses
+pub use Rattle.daliframe.specs.EventSchemes
+pub use Rattle.daliframe.specs.Limits
+pub use Rattle.daliframe.specs.declared.addressing.Address
+pub use Rattle.daliframe.specs.declared.schemes.EventScheme

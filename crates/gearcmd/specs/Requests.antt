@@ -1,6 +1,6 @@
 -- What a request of a program is to the bus: its class, the frames that it spells, and whose answer it brings.
 use Rattle.std.specs.Prelude.{ℕ, ◌<◌, ◌^◌, List, [], ◌∷◌, slice_index, Option, Some, None}
-use Rattle.limits.specs.Limits.{most_buses}
+use Rattle.daliframe.specs.Limits.{most_buses}
 use Rattle.daliframe.specs.declared.forward.Frame.{Frame}
 use Rattle.daliframe.specs.declared.forward.Frame.TheVariants.{Forward16, Forward24}
 use Rattle.daliframe.specs.declared.addressing.Address.TheVariants.{Short}

@@ -23,6 +23,7 @@ pub use commands::{
     dev_ask_opcode, dev_do_opcode, gear_ask_opcode, gear_do_opcode, gear_pair_opcode,
     gear_set_opcode,
 };
+pub use daliframe::{Address, EventScheme, Number};
 pub use lines::RequestLine;
 pub use requests::{Answerer, Command, Request, TaskKind};
 pub use spelling::MOST_FRAMES;

@@ -1,12 +1,12 @@
 -- Addresses and event schemes are those of their numbers.
 use Rattle.std.proofs.Common.{◌≡◌, ℕ, ◌+◌, ◌<◌, Some, refl, subst, arith}
 use Rattle.std.proofs.lemmas.Bool.Decides.{nat_tests}
-use Rattle.daliframe.specs.declared.addressing.Address.{Address}
-use Rattle.daliframe.specs.declared.addressing.Address.TheVariants.{Short, Group, Broadcast}
-use Rattle.daliframe.specs.declared.schemes.EventScheme.{EventScheme}
-use Rattle.daliframe.specs.declared.schemes.EventScheme.TheVariants as schemes
-use Rattle.daliframe.specs.Addresses.{IsAddress, address_number}
-use Rattle.daliframe.specs.EventSchemes.{scheme_number}
+use Rattle.gearcmd.specs.Address.{Address}
+use Rattle.gearcmd.specs.Address.TheVariants.{Short, Group, Broadcast}
+use Rattle.gearcmd.specs.EventScheme.{EventScheme}
+use Rattle.gearcmd.specs.EventScheme.TheVariants as schemes
+use Rattle.gearcmd.specs.Addresses.{IsAddress, address_number}
+use Rattle.gearcmd.specs.EventSchemes.{scheme_number}
 use Rattle.ilblocks.specs.Calls.{address_of, scheme_of}
 
 short_of : (n : ℕ) → n < 64 → Some (Short n) ≡ address_of n

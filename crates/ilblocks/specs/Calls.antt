@@ -6,10 +6,10 @@ use Rattle.std.specs.Prelude.{Option, Some, None, option_map, slice_get, slice_s
 use Rattle.iltypes.specs.declared.value.Value.{Value}
 use Rattle.iltypes.specs.declared.value.Value.TheVariants as values
 use Rattle.iltypes.specs.Values.{AreOf}
-use Rattle.daliframe.specs.declared.addressing.Address.{Address}
-use Rattle.daliframe.specs.declared.addressing.Address.TheVariants.{Short, Group, Broadcast}
-use Rattle.daliframe.specs.declared.schemes.EventScheme.{EventScheme}
-use Rattle.daliframe.specs.declared.schemes.EventScheme.TheVariants as schemes
+use Rattle.gearcmd.specs.Address.{Address}
+use Rattle.gearcmd.specs.Address.TheVariants.{Short, Group, Broadcast}
+use Rattle.gearcmd.specs.EventScheme.{EventScheme}
+use Rattle.gearcmd.specs.EventScheme.TheVariants as schemes
 use Rattle.gearcmd.specs.declared.requests.Command.{Command}
 use Rattle.gearcmd.specs.declared.requests.Command.TheVariants as commands
 use Rattle.gearcmd.specs.declared.requests.Request.{Request}

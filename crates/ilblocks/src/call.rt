@@ -1,7 +1,7 @@
 //! One call of an instance.
 
 ghost use Rattle.std.specs.Prelude.{◌≡◌, ℕ, ◌≤◌, ◌<◌, ◌^◌, length, IfSome};
-ghost use Rattle.limits.specs.Limits.{most_buses};
+ghost use Rattle.gearcmd.specs.Limits.{most_buses};
 ghost use Rattle.ilblocks.specs.Calls.{IsBlockOf, after_call, requested, count, elapsed, start_of};
 ghost use Rattle.ilblocks.specs.Calls.{ports_of_trigger, ports_of_counter, ports_of_timer};
 

@@ -18,6 +18,7 @@ mod request;
 mod state;
 
 pub use call::step;
+pub use gearcmd::TaskKind;
 pub use kind::BlockKind;
 pub use port::{Direction, MOST_PORTS, Port, PortName, PortValues};
 pub use state::BlockState;

@@ -1,13 +1,12 @@
 //! The request of a block's ports.
 ghost use Rattle.std.specs.Prelude.{◌≡◌, ◌<◌, ◌≤◌, Some};
-ghost use Rattle.limits.specs.Limits.{most_buses};
+ghost use Rattle.gearcmd.specs.Limits.{most_buses};
 ghost use Rattle.ilblocks.specs.Calls.{IsBlockOf, natural, address_of, scheme_of};
 ghost use Rattle.ilblocks.specs.Calls.{command_of, request_of};
 
 use crate::kind::BlockKind;
 use crate::state::BlockState;
-use daliframe::{Address, EventScheme, Number};
-use gearcmd::{Command, Request};
+use gearcmd::{Address, Command, EventScheme, Number, Request};
 
 /// The number at a port, which is below 256.
 fn byte(block: &BlockState, port: usize) -> u8

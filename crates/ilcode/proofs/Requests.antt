@@ -11,8 +11,8 @@ use Rattle.iltypes.specs.declared.operator.Operator.{Operator}
 use Rattle.iltypes.specs.Conditions.{holds}
 use Rattle.iltypes.specs.Functions.{modified, value_of_function}
 use Rattle.iltypes.specs.Operators.{both}
-use Rattle.limits.specs.Limits.{most_nesting, most_calls}
-use Rattle.gearcmd.specs.declared.requests.Request.{Request}
+use Rattle.ilblocks.specs.Limits.{most_nesting, most_calls}
+use Rattle.ilblocks.specs.Request.{Request}
 use Rattle.ilblocks.specs.declared.kind.BlockKind.{BlockKind}
 use Rattle.ilblocks.specs.declared.kind.BlockKind.TheVariants as kinds
 use Rattle.ilblocks.specs.Calls.{Block, requested, rises}

@@ -1,9 +1,9 @@
 -- Worked codes with the two block instances: t, a TON, and g, a GEAR_DO.
 use Rattle.std.specs.Prelude.{ℕ, zero, suc, ◌+◌, Bool, true, false, List, [], ◌∷◌}
 use Rattle.iltypes.specs.declared.value.Value.TheVariants as values
-use Rattle.daliframe.specs.declared.addressing.Address.{Address}
-use Rattle.gearcmd.specs.declared.requests.Command.TheVariants as commands
-use Rattle.gearcmd.specs.declared.requests.Request.{Request}
+use Rattle.ilblocks.specs.Address.{Address}
+use Rattle.ilblocks.specs.Command.TheVariants as commands
+use Rattle.ilblocks.specs.Request.{Request}
 use Rattle.ilblocks.specs.declared.kind.BlockKind.TheVariants.{Ton, GearDo}
 use Rattle.ilblocks.specs.Calls.{Block, at_first}
 use Rattle.ilblocks.specs.Stores.{Store}

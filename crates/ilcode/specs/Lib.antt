@@ -8,3 +8,7 @@ pub mod Rows
 pub mod Steps
 pub mod WordRows
 pub mod Words
+pub use Rattle.ilblocks.specs.Calls
+pub use Rattle.ilblocks.specs.Ports
+pub use Rattle.ilblocks.specs.Stores
+pub use Rattle.ilblocks.specs.declared.kind.BlockKind

@@ -2,7 +2,7 @@
 //! it.
 
 ghost use Rattle.std.specs.Prelude.{◌≡◌, [], ◌∷◌, ◌++◌, true, false, Some, None};
-ghost use Rattle.daliframe.specs.declared.addressing.Address.TheVariants.{Short, Group};
+ghost use Rattle.ilblocks.specs.Address.TheVariants.{Short, Group};
 ghost use Rattle.iltypes.specs.declared.value.Value.TheVariants.{Bool as truth};
 ghost use Rattle.ilcode.specs.declared.word.Word.TheVariants.{Call, Load, Pass};
 ghost use Rattle.ilcode.specs.declared.word.WordOperand.TheVariants.{Constant, Port, Slot};

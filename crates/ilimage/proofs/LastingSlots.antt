@@ -5,8 +5,8 @@ use Rattle.std.proofs.lemmas.List.{length-take, take_all, take_min}
 use Rattle.iltypes.specs.declared.value.Value.{Value}
 use Rattle.iltypes.specs.Values.{AreOf}
 use Rattle.ilblocks.proofs.Blocks.{as_long}
-use Rattle.ilcode.specs.declared.function.FunctionBody.{FunctionBody}
-use Rattle.ilcode.specs.Listings.{Listing, first_or, slots_end, lasting_types}
+use Rattle.ilverify.specs.FunctionBody.{FunctionBody}
+use Rattle.ilverify.specs.Listings.{Listing, first_or, slots_end, lasting_types}
 
 -- there is a slot for each value
 pub lasting_within : (code : Listing) (values : List Value) → AreOf values (lasting_types code)

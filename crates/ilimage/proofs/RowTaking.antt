@@ -9,7 +9,7 @@ use Rattle.iltypes.specs.declared.value.IlType.{IlType}
 use Rattle.iltypes.specs.declared.value.Value.{Value}
 use Rattle.iltypes.specs.Values.{IsOf, AreOf}
 use Rattle.ilblocks.proofs.Blocks.{as_long}
-use Rattle.ilcode.specs.Listings.{lasting_types}
+use Rattle.ilverify.specs.Listings.{lasting_types}
 use Rattle.ilimage.specs.declared.overriding.Override.{Override}
 use Rattle.ilimage.specs.declared.slots.TaskSlot.{TaskSlot}
 use Rattle.ilimage.specs.Images.{TaskLayout, TaskImage, ProcessImage, layout_of, value_of, verified_of, blocks_of}

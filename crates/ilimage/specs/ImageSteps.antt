@@ -4,7 +4,7 @@ use Rattle.iltypes.specs.declared.value.IlType.{IlType}
 use Rattle.iltypes.specs.declared.value.Value.{Value}
 use Rattle.iltypes.specs.declared.value.Value.TheVariants as values
 use Rattle.iltypes.specs.Values.{AreOf}
-use Rattle.ilcode.specs.Listings.{lasting_types}
+use Rattle.ilverify.specs.Listings.{lasting_types}
 use Rattle.ilimage.specs.declared.external.External.{External}
 use Rattle.ilimage.specs.declared.overriding.Override.{Override}
 use Rattle.ilimage.specs.Images.{TaskLayout, TaskImage, AreTyped}

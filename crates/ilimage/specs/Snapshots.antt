@@ -7,7 +7,7 @@ use Rattle.iltypes.specs.declared.value.Value.{Value}
 use Rattle.iltypes.specs.Values.{IsOf, AreOf}
 use Rattle.ilblocks.specs.Calls.{IsBlockOf}
 use Rattle.ilblocks.specs.Stores.{Lasting, blocks_at_first}
-use Rattle.ilcode.specs.Listings.{Listing, lasting_types}
+use Rattle.ilverify.specs.Listings.{Listing, lasting_types}
 use Rattle.ilverify.specs.Verdicts.{Accepted}
 
 -- the code with its bound, what lasts from the scan before, and the moment

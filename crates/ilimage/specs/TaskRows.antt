@@ -5,7 +5,7 @@ use Rattle.iltypes.specs.declared.value.IlType.{IlType}
 use Rattle.iltypes.specs.declared.value.Value.{Value}
 use Rattle.iltypes.specs.Values.{AreOf}
 use Rattle.ilblocks.specs.Calls.{Block, IsBlockOf}
-use Rattle.ilcode.specs.Listings.{lasting_types}
+use Rattle.ilverify.specs.Listings.{lasting_types}
 use Rattle.ilverify.specs.Verdicts.{Accepted}
 use Rattle.ilimage.specs.declared.external.External.{External}
 use Rattle.ilimage.specs.Images.{TaskLayout, TaskImage, ProcessImage, image_of}

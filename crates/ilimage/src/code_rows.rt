@@ -3,12 +3,12 @@
 ghost use Rattle.std.specs.Prelude.{◌≡◌, IfOk};
 ghost use Rattle.iltypes.specs.Values.{AreOf};
 ghost use Rattle.ilblocks.specs.Stores.{blocks_at_first};
-ghost use Rattle.ilcode.specs.Listings.{lasting_types};
+ghost use Rattle.ilverify.specs.Listings.{lasting_types};
 
 use ilblocks::{BlockKind, BlockState};
-use ilcells::{RowLayout, ValueRow};
-use ilcode::Code;
+use ilready::{RowLayout, ValueRow};
 use iltypes::Value;
+use ilverify::Code;
 use std::alloc::{AllocError, Global};
 use std::sync::Arc;
 

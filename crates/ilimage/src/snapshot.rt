@@ -3,7 +3,7 @@
 use crate::code_rows::{first_blocks, row_of};
 use crate::prepared::PreparedCode;
 use ilblocks::BlockState;
-use ilcells::ValueRow;
+use ilready::ValueRow;
 use iltypes::Value;
 use ilverify::Verified;
 use std::alloc::{AllocError, Global};
@@ -52,7 +52,7 @@ impl Snapshot {
     ghost use Rattle.iltypes.specs.Values.{AreOf};
     ghost use Rattle.ilblocks.specs.Calls.{IsBlockOf};
     ghost use Rattle.ilblocks.specs.Stores.{Lasting};
-    ghost use Rattle.ilcode.specs.Listings.{lasting_types};
+    ghost use Rattle.ilverify.specs.Listings.{lasting_types};
     ghost use Rattle.ilimage.specs.Snapshots.{ScanStart, IsLastingOf, MayHave};
     ghost use Rattle.ilimage.specs.Snapshots.{start_of, first_start};
 

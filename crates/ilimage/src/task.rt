@@ -42,7 +42,7 @@ impl TaskImage {
     ghost use Rattle.std.specs.Arc.{arc_value};
     ghost use Rattle.iltypes.specs.Values.{AreOf};
     ghost use Rattle.ilblocks.specs.Calls.{IsBlockOf};
-    ghost use Rattle.ilcode.specs.Listings.{lasting_types};
+    ghost use Rattle.ilverify.specs.Listings.{lasting_types};
     ghost use Rattle.ilimage.specs.Images.{TaskLayout, TaskImage, own_types, first_task};
     ghost use Rattle.ilimage.specs.ImageSteps.{slot_values};
 

@@ -12,7 +12,7 @@ use crate::slots::StoredSlot;
 use crate::snapshot::Snapshot;
 use crate::task::TaskImage;
 use ilblocks::BlockState;
-use ilcells::ValueRow;
+use ilready::ValueRow;
 use iltypes::Value;
 use std::alloc::{AllocError, Global};
 use std::marker::Model;
@@ -49,7 +49,7 @@ impl TaskRow {
     ghost use Rattle.std.specs.List.{AllZip};
     ghost use Rattle.iltypes.specs.Values.{AreOf};
     ghost use Rattle.ilblocks.specs.Calls.{IsBlockOf};
-    ghost use Rattle.ilcode.specs.Listings.{lasting_types};
+    ghost use Rattle.ilverify.specs.Listings.{lasting_types};
     ghost use Rattle.ilimage.specs.ImageSteps.{HasGlobals};
     ghost use Rattle.ilimage.specs.Snapshots.{MayHave, start_of};
     ghost use Rattle.ilimage.specs.TaskRows.{TaskRow, IsTaskRow, ready_task};

@@ -2,3 +2,11 @@ pub mod MachineSteps
 pub mod Nestings
 pub mod ReadySteps
 pub mod Scans
+pub use Rattle.ilcode.specs.Listings
+pub use Rattle.ilcode.specs.declared.word.Target
+pub use Rattle.ilcode.specs.declared.word.Word
+pub use Rattle.ilcode.specs.declared.word.WordOperand
+pub use Rattle.ilimage.specs.Images
+pub use Rattle.ilimage.specs.Snapshots
+pub use Rattle.ilimage.specs.Verdicts
+pub use Rattle.ilimage.specs.declared.external.External

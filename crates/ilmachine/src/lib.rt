@@ -30,4 +30,5 @@ mod waiting;
 mod whole_row;
 mod word;
 
+pub use ilimage::Snapshot;
 pub use scans::{ScanResult, Work, scan, scan_into};

@@ -8,3 +8,9 @@ pub mod Printed
 pub mod Rows
 pub mod StoreSteps
 pub mod UsageSteps
+pub use Rattle.ilblocks.specs.Calls
+pub use Rattle.ilsource.specs.declared.instruction.Instruction
+pub use Rattle.ilsource.specs.declared.instruction.Line
+pub use Rattle.ilsource.specs.declared.name.Name
+pub use Rattle.ilsource.specs.declared.operand.Operand
+pub use Rattle.wordlines.specs.Wirings

@@ -26,8 +26,8 @@ use Rattle.ilsource.specs.Uses.{uses_in}
 use Rattle.ilsource.specs.Words.{words_of_lines, AreShallow}
 use Rattle.ilsource.specs.declared.name.Name.{Name}
 use Rattle.ilsource.specs.Names.{text_of}
-use Rattle.gearcmd.specs.declared.requests.TaskKind.{TaskKind}
-use Rattle.gearcmd.specs.declared.requests.TaskKind.TheVariants as kinds
+use Rattle.ilblocks.specs.TaskKind.{TaskKind}
+use Rattle.ilblocks.specs.TaskKind.TheVariants as kinds
 use Rattle.ilblocks.specs.declared.kind.BlockKind.{BlockKind}
 use Rattle.ilblocks.specs.Calls.{Block, IsBlockOf}
 use Rattle.ilblocks.specs.Ports.{ports_of}

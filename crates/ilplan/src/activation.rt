@@ -1,6 +1,6 @@
 //! What starts a task.
 
-use gearcmd::TaskKind;
+use ilblocks::TaskKind;
 
 /// What starts a task (IEC 61131-3, 2.7.2).
 #[derive(Clone, Copy)]

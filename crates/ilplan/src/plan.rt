@@ -12,7 +12,7 @@ use crate::slot::SlotOwner;
 use crate::state::TaskState;
 use crate::task::Task;
 use crate::usage::used_functions;
-use gearcmd::TaskKind;
+use ilblocks::TaskKind;
 use iltypes::Value;
 use std::alloc::{AllocError, Global as GlobalAllocator};
 use std::marker::Model;

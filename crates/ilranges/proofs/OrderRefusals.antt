@@ -27,7 +27,7 @@ use Rattle.ilranges.specs.declared.entry.Entry.{Entry}
 use Rattle.ilranges.specs.declared.known.Known.{Known}
 use Rattle.ilranges.specs.declared.known.Known.TheVariants as knowns
 use Rattle.ilranges.specs.declared.nesting.KnownOpened.{KnownOpened}
-use Rattle.ilblocks.specs.declared.kind.BlockKind.{BlockKind}
+use Rattle.ilcode.specs.BlockKind.{BlockKind}
 use Rattle.ilranges.specs.Entries.{IsResultInto, IsOpenedInto, IsInto}
 use Rattle.ilranges.specs.Operands.{known_of, type_of_variable, in_programs, may_name, may_set, may_store, may_write}
 use Rattle.ilranges.specs.Knowns.{IsKnown, IsKnownWithin}

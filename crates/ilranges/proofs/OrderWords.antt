@@ -5,7 +5,7 @@ use Rattle.std.specs.Prelude.{slice_get, slice_set, ⊤}
 use Rattle.std.specs.List.{AllZip}
 use Rattle.std.specs.Option.{option_map}
 use Rattle.iltypes.specs.declared.value.IlType.{IlType}
-use Rattle.ilblocks.specs.Stores.{type_of_port}
+use Rattle.ilcode.specs.Stores.{type_of_port}
 use Rattle.iltypes.specs.declared.function.Function.{Function}
 use Rattle.iltypes.specs.declared.function.Function.TheVariants as functions
 use Rattle.iltypes.specs.declared.operator.Operator.{Operator}

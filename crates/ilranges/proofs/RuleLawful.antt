@@ -13,7 +13,7 @@ use Rattle.iltypes.specs.declared.function.Function.{Function}
 use Rattle.iltypes.specs.declared.function.Function.TheVariants as functions
 use Rattle.iltypes.specs.declared.operator.Operator.{Operator}
 use Rattle.iltypes.specs.Functions.{modified, value_of_function}
-use Rattle.ilblocks.specs.declared.kind.BlockKind.{BlockKind}
+use Rattle.ilcode.specs.BlockKind.{BlockKind}
 use Rattle.ilcode.specs.declared.word.Target.TheVariants as variables
 use Rattle.ilcode.specs.declared.word.Word.{Word}
 use Rattle.ilcode.specs.declared.word.Word.TheVariants as words

@@ -16,7 +16,7 @@ use Rattle.iltypes.specs.Comparisons.{compares, turned}
 use Rattle.iltypes.specs.Functions.{modified, value_of_function}
 use Rattle.iltypes.specs.Operators.{both}
 use Rattle.iltypes.proofs.Comparisons.{has_outcome, has_opposite_outcome}
-use Rattle.ilblocks.specs.Stores.{Store}
+use Rattle.ilcode.specs.Stores.{Store}
 use Rattle.ilcode.specs.declared.word.WordOperand.{WordOperand}
 use Rattle.ilcode.specs.declared.word.WordOperand.TheVariants.{Slot, Constant, Port}
 use Rattle.ilcode.specs.Listings.{Listing}

@@ -10,10 +10,10 @@ use Rattle.iltypes.specs.declared.value.IlType.TheVariants as types
 use Rattle.iltypes.specs.declared.value.Value.{Value}
 use Rattle.iltypes.specs.declared.value.Value.TheVariants as values
 use Rattle.iltypes.specs.Values.{IsOf, AreOf}
-use Rattle.ilblocks.specs.Stores.{type_of_port, called, Shape, Store, IsStoreOf, type_of_input, with_port}
-use Rattle.ilblocks.proofs.Blocks.{set_typed}
-use Rattle.ilblocks.proofs.Stores.{is_with_slot, and_then_made, with_port_is, with_port_typed, input_is_stored}
-use Rattle.ilblocks.proofs.Stores.{called_is, kind_is_called, called_typed}
+use Rattle.ilcode.specs.Stores.{type_of_port, called, Shape, Store, IsStoreOf, type_of_input, with_port}
+use Rattle.ilcode.proofs.Blocks.{set_typed}
+use Rattle.ilcode.proofs.Stores.{is_with_slot, and_then_made, with_port_is, with_port_typed, input_is_stored}
+use Rattle.ilcode.proofs.Stores.{called_is, kind_is_called, called_typed}
 use Rattle.iltypes.specs.Functions.{modified}
 use Rattle.ilcode.specs.declared.word.WordOperand.{WordOperand}
 use Rattle.ilcode.specs.declared.word.Target.{Target}
@@ -21,9 +21,9 @@ use Rattle.ilcode.specs.declared.word.Target.TheVariants as variables
 use Rattle.ilcode.specs.declared.word.Word.TheVariants as words
 use Rattle.ilcode.specs.Listings.{Listing, shape_of, body_at}
 use Rattle.ilcode.specs.Steps.{Configuration, at, value_of, stored_at, with_store, sets, calls, effect}
-use Rattle.ilblocks.specs.declared.kind.BlockKind.{BlockKind}
-use Rattle.ilblocks.specs.Ports.{port_type, input_type}
-use Rattle.ilblocks.proofs.Inputs.{input_is_port}
+use Rattle.ilcode.specs.BlockKind.{BlockKind}
+use Rattle.ilcode.specs.Ports.{port_type, input_type}
+use Rattle.ilcode.proofs.Inputs.{input_is_port}
 use Rattle.ilranges.specs.declared.entry.Entry.{Entry}
 use Rattle.ilranges.specs.declared.known.Known.{Known}
 use Rattle.ilranges.specs.declared.known.Known.TheVariants as knowns

@@ -9,8 +9,8 @@ use Rattle.iltypes.specs.declared.value.IlType.{IlType}
 use Rattle.iltypes.specs.declared.value.Value.{Value}
 use Rattle.iltypes.specs.declared.value.Value.TheVariants as values
 use Rattle.iltypes.specs.Values.{IsOf}
-use Rattle.ilblocks.specs.Stores.{Shape, Store, IsStoreOf, port_value, type_of_port}
-use Rattle.ilblocks.proofs.Stores.{port_value_typed, port_value_has_type}
+use Rattle.ilcode.specs.Stores.{Shape, Store, IsStoreOf, port_value, type_of_port}
+use Rattle.ilcode.proofs.Stores.{port_value_typed, port_value_has_type}
 use Rattle.iltypes.specs.declared.function.Function.{Function}
 use Rattle.iltypes.specs.declared.function.Function.TheVariants as functions
 use Rattle.iltypes.specs.declared.operator.Operator.{Operator}

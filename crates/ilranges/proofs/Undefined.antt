@@ -11,8 +11,8 @@ use Rattle.iltypes.specs.declared.value.Value.{Value}
 use Rattle.iltypes.specs.declared.value.Value.TheVariants as values
 use Rattle.iltypes.specs.Conditions.{holds, chosen}
 use Rattle.iltypes.specs.Operators.{both}
-use Rattle.ilblocks.specs.declared.kind.BlockKind.{BlockKind}
-use Rattle.ilblocks.specs.Stores.{Store, called, after_block}
+use Rattle.ilcode.specs.BlockKind.{BlockKind}
+use Rattle.ilcode.specs.Stores.{Store, called, after_block}
 use Rattle.ilcode.specs.declared.nesting.Opened.{Opened}
 use Rattle.ilcode.specs.declared.word.Word.{Word}
 use Rattle.ilcode.specs.declared.word.Word.TheVariants as words

@@ -12,14 +12,14 @@ use Rattle.iltypes.specs.declared.value.Value.{Value}
 use Rattle.iltypes.specs.declared.value.Value.TheVariants as values
 use Rattle.iltypes.specs.Values.{IsOf, AreOf}
 use Rattle.iltypes.proofs.Limits.{holds_low}
-use Rattle.ilblocks.specs.declared.kind.BlockKind.{BlockKind}
-use Rattle.ilblocks.specs.Calls.{Block, at_first, IsBlockOf}
-use Rattle.ilblocks.specs.Ports.{port_type, types_of_ports, input_type}
-use Rattle.ilblocks.specs.Stores.{Store, IsStoreOf, blocks_at_first, type_of_port, type_of_input}
-use Rattle.ilblocks.proofs.Blocks.{at_first_typed, set_typed}
-use Rattle.ilblocks.proofs.Inputs.{input_is_port}
-use Rattle.ilblocks.proofs.Stores.{map_made, and_then_made, set_zip, partner_at, item_at, at_first_are}
-use Rattle.ilblocks.proofs.Stores.{with_value, with_slot_is, with_port_is, port_value_has_type, port_of_type}
+use Rattle.ilcode.specs.BlockKind.{BlockKind}
+use Rattle.ilcode.specs.Calls.{Block, at_first, IsBlockOf}
+use Rattle.ilcode.specs.Ports.{port_type, types_of_ports, input_type}
+use Rattle.ilcode.specs.Stores.{Store, IsStoreOf, blocks_at_first, type_of_port, type_of_input}
+use Rattle.ilcode.proofs.Blocks.{at_first_typed, set_typed}
+use Rattle.ilcode.proofs.Inputs.{input_is_port}
+use Rattle.ilcode.proofs.Stores.{map_made, and_then_made, set_zip, partner_at, item_at, at_first_are}
+use Rattle.ilcode.proofs.Stores.{with_value, with_slot_is, with_port_is, port_value_has_type, port_of_type}
 use Rattle.ilcode.specs.declared.nesting.Opened.{Opened}
 use Rattle.ilcode.specs.declared.word.WordOperand.{WordOperand}
 use Rattle.ilcode.specs.declared.word.WordOperand.TheVariants as operands

@@ -14,7 +14,7 @@ use Rattle.iltypes.specs.Functions.{modified, value_of_function, least_of, great
 use Rattle.iltypes.specs.Operators.{both}
 use Rattle.iltypes.specs.Ranges.{Holds, IsWithin}
 use Rattle.iltypes.proofs.Limits.{holds_low, holds_high}
-use Rattle.ilblocks.specs.Stores.{Store}
+use Rattle.ilcode.specs.Stores.{Store}
 use Rattle.ilcode.specs.declared.word.WordOperand.{WordOperand}
 use Rattle.ilcode.specs.declared.word.Word.TheVariants as words
 use Rattle.ilcode.specs.Listings.{Listing}

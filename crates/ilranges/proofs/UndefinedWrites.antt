@@ -12,7 +12,7 @@ use Rattle.iltypes.specs.Functions.{modified}
 use Rattle.iltypes.specs.Ranges.{Holds, IsWithin}
 use Rattle.iltypes.specs.Values.{IsOf}
 use Rattle.iltypes.proofs.Limits.{holds_low, holds_high}
-use Rattle.ilblocks.specs.Stores.{Store, type_of_input}
+use Rattle.ilcode.specs.Stores.{Store, type_of_input}
 use Rattle.ilcode.specs.declared.word.WordOperand.{WordOperand}
 use Rattle.ilcode.specs.declared.word.Target.{Target}
 use Rattle.ilcode.specs.declared.word.Target.TheVariants as variables

@@ -2,7 +2,7 @@
 use Rattle.std.specs.Prelude.{◌≡◌, Option, Some, None, ⊤}
 use Rattle.std.specs.List.{AllZip}
 use Rattle.iltypes.specs.declared.value.Value.{Value}
-use Rattle.ilblocks.specs.Stores.{IsStoreOf}
+use Rattle.ilcode.specs.Stores.{IsStoreOf}
 use Rattle.ilcode.specs.declared.nesting.Opened.{Opened}
 use Rattle.ilcode.specs.Listings.{Listing, shape_of}
 use Rattle.ilcode.specs.Steps.{Configuration}

@@ -3,7 +3,7 @@ use Rattle.std.specs.Prelude.{ℕ, ◌-◌, ◌==◌, ◌&&◌, ◌||◌, nat_le
 use Rattle.std.specs.List.{list_any}
 use Rattle.std.specs.Option.{option_map, option_and_then}
 use Rattle.iltypes.specs.declared.value.IlType.{IlType}
-use Rattle.ilblocks.specs.Stores.{type_of_port, type_of_input}
+use Rattle.ilcode.specs.Stores.{type_of_port, type_of_input}
 use Rattle.ilcode.specs.declared.function.FunctionBody.{FunctionBody}
 use Rattle.ilcode.specs.declared.word.WordOperand.{WordOperand}
 use Rattle.ilcode.specs.declared.word.WordOperand.TheVariants as operands

@@ -6,7 +6,7 @@ use Rattle.iltypes.specs.declared.range.Range.{Range}
 use Rattle.iltypes.specs.declared.value.IlType.{IlType}
 use Rattle.iltypes.specs.declared.value.Value.{Value}
 use Rattle.iltypes.specs.declared.value.Value.TheVariants as values
-use Rattle.ilblocks.specs.declared.kind.BlockKind.{BlockKind}
+use Rattle.ilcode.specs.BlockKind.{BlockKind}
 use Rattle.iltypes.specs.declared.condition.Condition.{Condition}
 use Rattle.iltypes.specs.declared.condition.Condition.TheVariants.{Always}
 use Rattle.iltypes.specs.declared.function.Function.{Function}

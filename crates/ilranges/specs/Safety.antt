@@ -2,7 +2,7 @@
 use Rattle.std.specs.Prelude.{◌≡◌, ℕ, ◌+◌, ◌≤◌, ◌<◌, ◌⊎◌, Bool, List, [], Some, None, IsTrue, ⊤}
 use Rattle.std.specs.Prelude.{slice_get, slice_set}
 use Rattle.iltypes.specs.declared.value.Value.{Value}
-use Rattle.ilblocks.specs.Stores.{Store, IsStoreOf}
+use Rattle.ilcode.specs.Stores.{Store, IsStoreOf}
 use Rattle.ilcode.specs.declared.word.Target.TheVariants as variables
 use Rattle.ilcode.specs.declared.word.Word.{Word}
 use Rattle.ilcode.specs.declared.word.Word.TheVariants as words

@@ -2,7 +2,7 @@
 
 ghost use Rattle.std.specs.Prelude.{◌≡◌, slice_get};
 ghost use Rattle.std.specs.List.{list_any};
-ghost use Rattle.ilblocks.specs.Stores.{type_of_port, type_of_input};
+ghost use Rattle.ilcode.specs.Stores.{type_of_port, type_of_input};
 ghost use Rattle.ilcode.specs.Listings.{shape_of, body_at, slots_start};
 ghost use Rattle.ilranges.specs.Operands.{known_of, known_of_result, type_of_variable};
 ghost use Rattle.ilranges.specs.Operands.{may_name, may_set, may_store, may_write};

@@ -13,3 +13,5 @@ pub mod Tables
 pub mod Through
 pub mod VerdictSteps
 pub mod Verdicts
+pub use Rattle.ilcode.specs.Listings
+pub use Rattle.ilcode.specs.declared.function.FunctionBody

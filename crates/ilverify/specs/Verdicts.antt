@@ -1,7 +1,7 @@
 -- What holds of a code that the verifier accepts.
 use Rattle.std.specs.Prelude.{ℕ, ◌+◌, ◌≤◌, length}
 use Rattle.limits.specs.Limits.{most_requests}
-use Rattle.ilblocks.specs.Stores.{Store, IsStoreOf}
+use Rattle.ilcode.specs.Stores.{Store, IsStoreOf}
 use Rattle.ilcode.specs.Listings.{Listing, shape_of}
 use Rattle.ilcode.specs.Paths.{IsBound}
 use Rattle.ilcode.specs.Steps.{Configuration, Runs, start, IsSafe, Ends}

@@ -28,6 +28,7 @@ mod through;
 mod verified;
 mod verifier;
 
+pub use ilcode::Code;
 pub use longest::LongestWays;
 pub use passed::Passed;
 pub use passing::Pass;

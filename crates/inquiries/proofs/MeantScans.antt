@@ -13,9 +13,9 @@ use Rattle.ilblocks.specs.Stores.{Lasting, Store, store_at}
 use Rattle.ilsource.specs.SourceTrees.{Tree}
 use Rattle.ilplan.specs.declared.slot.Slot.{Slot}
 use Rattle.ilplan.specs.Plans.{Planned, PlannedTask, first_values, types_of}
-use Rattle.ilsyms.specs.Meaning.{source_scan}
-use Rattle.ilsyms.specs.Resolved.{planned_task}
-use Rattle.ilsyms.specs.Tasks.{SourceTask, tasks_of}
+use Rattle.plantload.specs.Meaning.{source_scan}
+use Rattle.plantload.specs.Resolved.{planned_task}
+use Rattle.plantload.specs.Tasks.{SourceTask, tasks_of}
 use Rattle.ilcode.specs.Listings.{lasting_types, slots_end}
 use Rattle.ilcompile.specs.Meant.{IsMeant}
 use Rattle.ilverify.specs.Verdicts.{Accepted}

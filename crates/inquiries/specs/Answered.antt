@@ -8,10 +8,10 @@ use Rattle.gearcmd.specs.declared.requests.Request.{Request}
 use Rattle.ilblocks.specs.Stores.{Store, Lasting, lasting_of, store_at, blocks_at_first}
 use Rattle.ilsource.specs.SourceTrees.{Tree}
 use Rattle.ilplan.specs.Plans.{Planned, first_values}
-use Rattle.ilsyms.specs.Meaning.{source_scan}
-use Rattle.ilsyms.specs.Resolved.{planned_task}
-use Rattle.ilsyms.specs.Tasks.{SourceTask, tasks_of}
-use Rattle.ilsyms.specs.Variables.{blocks_of}
+use Rattle.plantload.specs.Meaning.{source_scan}
+use Rattle.plantload.specs.Resolved.{planned_task}
+use Rattle.plantload.specs.Tasks.{SourceTask, tasks_of}
+use Rattle.plantload.specs.Variables.{blocks_of}
 use Rattle.ilcompile.specs.Loaded.{Loaded}
 use Rattle.plantload.specs.Loading.{IsLoadFault, IsPlanOfText, IsSetup}
 use Rattle.plantload.specs.declared.fault.LoadFault.{LoadFault}

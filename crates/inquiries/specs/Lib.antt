@@ -7,3 +7,6 @@ pub mod Responses
 pub mod Stepping
 pub mod Stops
 pub mod Taking
+pub use Rattle.plantload.specs.KeptLoading
+pub use Rattle.plantload.specs.Loading
+pub use Rattle.plantload.specs.MeantScans

@@ -29,6 +29,7 @@ pub use answers::{Answer, binding_of, check, respond, step};
 pub use code_answer::CodeAnswer;
 pub use coding::{code_of, judge};
 pub use lines::{ScanLine, TaskLine, VariableLine};
+pub use plantload::begin_kept;
 pub use scans::{Scans, Taken, make};
 pub use stepped::{Stepped, task_line};
 pub use stop::{Stop, UnknownTask};

@@ -11,7 +11,7 @@ use Rattle.options.specs.declared.line_word.LineWord.{LineWord}
 use Rattle.options.specs.declared.live_options.LiveOptions.{LiveOptions}
 use Rattle.options.specs.declared.live_options.RunSize.{RunSize}
 use Rattle.plant.specs.declared.start_fault.StartFault.TheVariants.{Memory, Plant}
-use Rattle.workers.specs.Starts.{IsStartFault}
+use Rattle.plantlive.specs.Starts.{IsStartFault}
 use Rattle.plantlive.specs.declared.living.Lived.{Lived}
 use Rattle.plantlive.specs.Lives.{HasLived}
 use Rattle.livehouse.specs.declared.buildings.Building.{Building}

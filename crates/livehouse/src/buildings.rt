@@ -21,14 +21,12 @@ use ilcompile::Setup;
 use limits::{FEW_BUSES, LEAST_EVENTS_OF_MANY};
 use options::{LineWord, LiveOptions, RunSize};
 use plant::{OpenFault, StartFault};
-use plantlive::{Lived, live, period_of};
-use plantturns::Gate;
+use plantlive::{Gate, Lived, Opening, live, period_of};
 use std::alloc::{AllocError, Global};
 use std::num::NonZeroU64;
 use std::sync::{Arc, Wait};
 use std::thread::Threads;
 use std::time::Clock as Timer;
-use workers::Opening;
 
 /// A building whose lines are being opened and greeted. Nothing was sent yet.
 #[derive(Drop)]

@@ -3,8 +3,7 @@
 ghost use Rattle.std.specs.Prelude.{◌≡◌};
 
 use liveclock::StopCondition;
-use plantdriving::Happened;
-use plantturns::Gate;
+use plantlive::{Gate, Happened};
 use std::fs;
 use std::rt::Files;
 use std::sync::Arc;

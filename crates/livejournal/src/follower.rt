@@ -3,8 +3,8 @@
 use ilcompile::Setup;
 use limits::MOST_EVENTS;
 use plant::{OpenFault, Plant};
-use plantdriving::Happened;
 use plantsteps::{Step, StepReply, SteppedPlant};
+use plantturns::Happened;
 use std::alloc::Global;
 use transact::{Mark, Report};
 

@@ -8,7 +8,7 @@ use crate::record::Record;
 use crate::unsorted::Told;
 use ilcompile::Setup;
 use jiff::Timestamp;
-use plantdriving::Happened;
+use plantturns::Happened;
 use std::alloc::{AllocError, Global};
 use std::io::Write;
 use std::{io, mem};

@@ -36,4 +36,5 @@ mod told;
 mod unsorted;
 
 pub use observer::BuildingObserver;
+pub use plantturns::{Gate, OpenGate};
 pub use storage::{Care, Storage};

@@ -3,8 +3,8 @@
 use daliwords::{FrameWords, HeardWords, OutcomeWords, RequestWords};
 use ilplan::Plan;
 use jiff::Timestamp;
-use plantdriving::Happened;
 use plantevents::Origin;
+use plantturns::Happened;
 use std::fmt;
 use transact::{Mark, Outcome, Reply, Report, Transaction};
 

@@ -5,8 +5,7 @@ use crate::storage::Storage;
 use crate::unsorted::{Told, Unsorted};
 use ilcompile::Setup;
 use options::Beside;
-use plantdriving::Happened;
-use plantturns::Gate;
+use plantturns::{Gate, Happened};
 use std::alloc::{AllocError, Global};
 use std::sync::{Mutex, Wait};
 

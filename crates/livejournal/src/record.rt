@@ -3,8 +3,8 @@
 use gearcmd::{Command, Request};
 use ilplan::{Location, Plan};
 use limits::MOST_BYTES;
-use plantdriving::Happened;
 use plantevents::Origin;
+use plantturns::Happened;
 use std::alloc::{AllocError, Global};
 use std::io;
 use std::io::Write;

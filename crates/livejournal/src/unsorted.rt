@@ -1,6 +1,6 @@
 //! Events that were told, in the order in which workers told them.
 
-use plantdriving::Happened;
+use plantturns::Happened;
 use std::alloc::Global;
 
 /// An event with its place in the history.

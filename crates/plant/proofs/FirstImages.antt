@@ -18,7 +18,7 @@ use Rattle.ilplan.specs.Plans as plans
 use Rattle.ilplan.specs.Plans.{PlannedTask, Planned, Precedes, AreOrdered, IsDeclared, type_and_initial}
 use Rattle.ilplan.specs.Plans.{HasStates, KeepsLimits, IsTaskOf, kinds_of}
 use Rattle.ilcode.specs.Listings.{Listing, lasting_types}
-use Rattle.ilverify.specs.Verdicts.{Accepted}
+use Rattle.ilimage.specs.Verdicts.{Accepted}
 use Rattle.ilimage.specs.declared.external.External.{External}
 use Rattle.ilimage.specs.Images.{IsImage, image_of}
 use Rattle.ilimage.specs.Images.{AreTyped, AreApart, IsLawfulTask, TaskImage, first_task}

@@ -1,6 +1,6 @@
 -- A scan that a worker has open is its own: it began from the snapshot of what the worker took.
 use Rattle.std.proofs.Common.{◌≡◌, ◌∙◌, ℕ, Some, sym, ap}
-use Rattle.ilmachine.specs.Scans.{Scan}
+use Rattle.plantevents.specs.Scans.{Scan}
 use Rattle.plantevents.specs.Histories.{OpenScan}
 use Rattle.plant.specs.Shown.{Shown}
 use Rattle.plant.specs.Matches.{IsOpenScan, IsOwnScan}

@@ -13,7 +13,7 @@ use Rattle.ilplan.specs.declared.instance.FunctionBlock.{FunctionBlock}
 use Rattle.ilplan.specs.declared.slot.Slot.{Slot}
 use Rattle.ilplan.specs.Beginnings.{HasEach}
 use Rattle.ilcode.specs.Listings.{Listing, lasting_types}
-use Rattle.ilverify.specs.Verdicts.{Accepted}
+use Rattle.ilimage.specs.Verdicts.{Accepted}
 use Rattle.ilcompile.specs.Loaded.{AreCodes}
 use Rattle.ilcompile.proofs.CodeLemmas.{all_last, code_at}
 use Rattle.ilimage.specs.Images.{ProcessImage, Layout, layout_of, verified_of}

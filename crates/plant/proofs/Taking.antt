@@ -10,7 +10,7 @@ use Rattle.ilplan.specs.Plans.{PlannedTask}
 use Rattle.ilplan.specs.declared.global.Location.{Location}
 use Rattle.ilplan.specs.declared.global.Location.TheVariants.{Level, GearAnswer, DeviceAnswer, Information, Count}
 use Rattle.ilplan.specs.declared.global.Location.TheVariants.{Trigger}
-use Rattle.ilverify.specs.Verdicts.{Accepted}
+use Rattle.ilimage.specs.Verdicts.{Accepted}
 use Rattle.ilimage.specs.declared.overriding.Override.{Override}
 use Rattle.ilimage.specs.Images.{ProcessImage, TaskImage, TaskLayout, ImageVariable, Global, Own, layout_of, value_of}
 use Rattle.ilimage.specs.Images.{verified_of, blocks_of, variable_in, overridden, value_under}

@@ -14,7 +14,7 @@ use Rattle.ilimage.specs.Images.{ProcessImage, TaskImage, TaskLayout, Layout, Im
 use Rattle.ilimage.specs.Images.{value_of, blocks_of, own_types, written_at, written_in}
 use Rattle.ilimage.proofs.Places.{externals_fit, layout_at}
 use Rattle.ilimage.proofs.Commits.{past_end, lawful_task}
-use Rattle.ilmachine.specs.Scans.{Scan}
+use Rattle.plantevents.specs.Scans.{Scan}
 use Rattle.plantevents.specs.declared.event.Event.{Event}
 use Rattle.plantevents.specs.declared.event.Event.TheVariants.{Commit}
 use Rattle.plantevents.specs.Plants.{Plant, layout}

@@ -2,7 +2,7 @@
 use Rattle.std.specs.Prelude.{◌≡◌, ℕ, ◌<◌, ◌≤◌, All, length, Some}
 use Rattle.limits.specs.Limits.{most_requests}
 use Rattle.ilimage.specs.Images.{verified_of}
-use Rattle.ilmachine.specs.Scans.{Scan}
+use Rattle.plantevents.specs.Scans.{Scan}
 use Rattle.plantevents.specs.Plants.{layout}
 use Rattle.plantevents.specs.Legal.{IsCommit}
 use Rattle.plant.specs.Shown.{Shown}

@@ -2,7 +2,7 @@
 use Rattle.std.specs.Prelude.{◌≡◌, ℕ, ◌<◌, Some}
 use Rattle.gearcmd.specs.FrameLists.{FrameList}
 use Rattle.transact.specs.Attempts.{ReportParts}
-use Rattle.ilmachine.specs.Scans.{Scan}
+use Rattle.plantevents.specs.Scans.{Scan}
 use Rattle.plantevents.specs.Histories as histories
 use Rattle.plantevents.specs.Histories.{OpenScan, OpenHand}
 use Rattle.plantevents.specs.Plants.{tries_of}

@@ -2,7 +2,7 @@
 use Rattle.std.specs.Prelude.{◌≡◌, ℕ, List, All, map, slice_get, Some}
 use Rattle.iltypes.specs.declared.value.IlType.{IlType}
 use Rattle.ilplan.specs.Plans.{PlannedTask, Planned}
-use Rattle.ilverify.specs.Verdicts.{Accepted}
+use Rattle.ilimage.specs.Verdicts.{Accepted}
 use Rattle.ilimage.specs.Images.{TaskImage, first_task, IsLawfulTask}
 use Rattle.ilcompile.specs.Loaded.{Loaded}
 use Rattle.plantevents.specs.Plants.{Plant, externals_of, own_initials}

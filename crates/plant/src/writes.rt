@@ -10,8 +10,7 @@ ghost use Rattle.plantevents.specs.Histories as histories;
 ghost use Rattle.plantbuses.specs.KeptSteps.{ImageFollows};
 
 use ilimage::Image;
-use ilmachine::ScanResult;
-use plantevents::what_a_scan_writes;
+use plantevents::{ScanResult, what_a_scan_writes};
 
 /// Writes what a scan of a task came to: the global variables that the task stores, its own
 /// variables and its block instances. It takes no memory.

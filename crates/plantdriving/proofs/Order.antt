@@ -7,8 +7,8 @@ use Rattle.std.specs.Prelude.{OnOk, Result, Ok, Err}
 use Rattle.std.specs.Result.{IsErrAnd}
 use Rattle.buslink.specs.BusLog.{BusLog}
 use Rattle.gearcmd.specs.FrameLists.{FrameList}
-use Rattle.ilimage.specs.Snapshots.{ScanStart}
-use Rattle.ilmachine.specs.Scans.{Scan}
+use Rattle.plantevents.specs.Snapshots.{ScanStart}
+use Rattle.plantevents.specs.Scans.{Scan}
 use Rattle.transact.specs.Attempts.{ReportParts}
 use Rattle.transact.specs.declared.marks.Outcome.TheVariants as outcome
 use Rattle.plantevents.specs.declared.event.Event.{Event}

@@ -1,8 +1,8 @@
 -- A scan is taken and committed.
 use Rattle.std.proofs.Common.{◌≡◌, ℕ, ◌+◌, ◌<◌, Bool, true, false, [], ◌∷◌, None, Some, refl, sym, ap, ◌∙◌, subst, length, arith}
 use Rattle.std.specs.Prelude.{if◌then◌else◌, ◌==◌}
-use Rattle.ilimage.specs.Snapshots.{ScanStart}
-use Rattle.ilmachine.specs.Scans.{Scan}
+use Rattle.plantevents.specs.Snapshots.{ScanStart}
+use Rattle.plantevents.specs.Scans.{Scan}
 use Rattle.plantevents.specs.declared.event.Event.TheVariants.{Take, Commit}
 use Rattle.plantevents.specs.Histories.{scan}
 use Rattle.plant.specs.Matches.{IsOpenScan}

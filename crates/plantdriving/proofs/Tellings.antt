@@ -2,8 +2,8 @@
 use Rattle.std.proofs.Common.{◌≡◌, ◌≢◌, ℕ, suc, ◌+◌, Bool, List, [], ◌∷◌, ◌++◌, length, length-append, None, Some, refl, sym, ap, ◌∙◌, subst, ⊎_elim, arith}
 use Rattle.std.proofs.lemmas.List.{append_assoc}
 use Rattle.std.specs.Prelude.{Option, Result, Ok, Err, IsErrAnd}
-use Rattle.ilimage.specs.Snapshots.{ScanStart}
-use Rattle.ilmachine.specs.Scans.{Scan}
+use Rattle.plantevents.specs.Snapshots.{ScanStart}
+use Rattle.plantevents.specs.Scans.{Scan}
 use Rattle.transact.specs.Attempts.{ReportParts}
 use Rattle.gearcmd.specs.FrameLists.{FrameList}
 use Rattle.transact.specs.declared.marks.Outcome.{Outcome}

@@ -6,7 +6,7 @@ use Rattle.std.proofs.lemmas.Bool.Decides.{eqb_tells}
 use Rattle.std.proofs.lemmas.List.{append_assoc, length-map, map-set, get_or-set_other}
 use Rattle.std.proofs.lemmas.Option.{slice_get-get_or, get_or_from_slice_get, slice_get-map}
 use Rattle.std.specs.Prelude.{Ok, slice_get, slice_set, option_map}
-use Rattle.ilimage.proofs.Commits.{get_set_same, get_set_other}
+use Rattle.plantevents.proofs.Commits.{get_set_same, get_set_other}
 use Rattle.buslink.specs.BusLog.{BusLog, IsSameBus}
 use Rattle.plantevents.specs.declared.event.Event.{Event}
 use Rattle.plantevents.specs.Histories.{is_down}

@@ -10,8 +10,8 @@ ghost use Rattle.plantdriving.specs.TurnSteps.{GoesOn, IsScanStep, IsTold, Tells
 ghost use Rattle.plantdriving.specs.declared.happened.Happened.TheVariants as what;
 
 use crate::{Halt, Happened, Observer};
-use ilmachine::scan_into;
 use plant::{CallError, CallRefusal, Plant};
+use plantevents::scan_into;
 use std::alloc::Global;
 use std::io;
 

@@ -5,7 +5,7 @@ use Rattle.daliframe.specs.declared.addressing.Address.TheVariants.{Short}
 use Rattle.transact.specs.declared.marks.Mark.TheVariants as mark
 use Rattle.transact.specs.Attempts.{IsReportParts}
 use Rattle.iltypes.specs.Values.{IsOf}
-use Rattle.ilimage.specs.Images.{variable_in}
+use Rattle.ilmachine.specs.Images.{variable_in}
 use Rattle.ilmachine.specs.Scans.{IsScan, store_of}
 use Rattle.plantevents.specs.declared.event.Event.TheVariants.{Tick}
 use Rattle.plantevents.specs.Plants.{layout}

@@ -20,3 +20,4 @@ mod Taking
 mod Waiting
 mod Writes
 mod Writing
+pub use Rattle.ilmachine.proofs.Commits

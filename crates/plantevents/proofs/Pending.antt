@@ -9,7 +9,7 @@ use Rattle.ilplan.specs.declared.activation.Activation as activations
 use Rattle.ilplan.specs.declared.activation.Activation.TheVariants.{Cyclic, Event as OnEvent}
 use Rattle.ilplan.specs.declared.global.Location.TheVariants.{Trigger, Information, Count}
 use Rattle.ilplan.specs.Plans.{PlannedTask}
-use Rattle.ilimage.specs.Images.{Global}
+use Rattle.ilmachine.specs.Images.{Global}
 use Rattle.plantevents.specs.declared.activator.PendingEvent.{PendingEvent}
 use Rattle.plantevents.specs.declared.activator.Activator.{Activator}
 use Rattle.plantevents.specs.declared.activator.Activator.TheVariants.{Messages}

@@ -5,15 +5,15 @@ use Rattle.std.proofs.lemmas.Option.{slice_get-map, slice_get_past}
 use Rattle.std.specs.Prelude.{slice_get, filter_map, option_map, option_and_then, option_to_list}
 use Rattle.std.specs.List.{AllByRecursion, cons_option}
 use Rattle.iltypes.specs.declared.value.Value.{Value}
-use Rattle.ilsource.specs.declared.name.Name.{Name}
+use Rattle.ilplan.specs.Name.{Name}
 use Rattle.ilplan.specs.declared.slot.Slot.{Slot}
 use Rattle.ilplan.specs.declared.slot.SlotOwner as slots
 use Rattle.ilplan.specs.declared.slot.SlotOwner.TheVariants as slot
 use Rattle.ilplan.specs.Plans.{PlannedTask, stores, Precedes, AreOrdered}
-use Rattle.ilverify.specs.Verdicts.{Accepted}
-use Rattle.ilimage.specs.declared.external.External.{External}
-use Rattle.ilimage.specs.Images.{TaskLayout, first_task, variable_at}
-use Rattle.ilimage.specs.Images.{written_at}
+use Rattle.ilmachine.specs.Verdicts.{Accepted}
+use Rattle.ilmachine.specs.External.{External}
+use Rattle.ilmachine.specs.Images.{TaskLayout, first_task, variable_at}
+use Rattle.ilmachine.specs.Images.{written_at}
 use Rattle.plantevents.specs.Plants.{Plant, task_at, external_in, externals_from, externals_of, own_by, own_initials}
 use Rattle.plantevents.specs.Plants.{first_tasks, layout}
 use Rattle.plantevents.specs.Slots.{own_number, IsSlotOf}

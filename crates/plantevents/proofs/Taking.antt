@@ -2,9 +2,9 @@
 use Rattle.std.proofs.Common.{◌≡◌, ℕ, suc, List, [], ◌∷◌, Some, refl, sym, ap, ◌∙◌, subst, arith}
 use Rattle.std.specs.Prelude.{slice_get}
 use Rattle.iltypes.specs.declared.value.Value.{Value}
-use Rattle.ilblocks.specs.Calls.{Block}
-use Rattle.ilverify.specs.Verdicts.{Accepted}
-use Rattle.ilimage.specs.Snapshots.{ScanStart, start_of}
+use Rattle.ilplan.specs.Calls.{Block}
+use Rattle.ilmachine.specs.Verdicts.{Accepted}
+use Rattle.ilmachine.specs.Snapshots.{ScanStart, start_of}
 use Rattle.plantevents.specs.declared.event.Event.{Event}
 use Rattle.plantevents.specs.Plants.{Plant}
 use Rattle.plantevents.specs.Variables.{IsSnapshot}

@@ -1,7 +1,7 @@
 -- The value of a variable is that of the last write to it.
 use Rattle.std.proofs.Common.{◌≡◌, ◌⊎◌, ⊎_elim, inl, inr, List, [], ◌∷◌, ◌++◌, Option, Some, None, refl, ap, ◌∙◌, subst}
 use Rattle.iltypes.specs.declared.value.Value.{Value}
-use Rattle.ilimage.specs.Images.{ImageVariable}
+use Rattle.ilmachine.specs.Images.{ImageVariable}
 use Rattle.plantevents.specs.declared.event.Event.{Event}
 use Rattle.plantevents.specs.Plants.{Plant}
 use Rattle.plantevents.specs.Variables.{newest, write_of, value}

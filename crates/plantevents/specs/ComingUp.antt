@@ -1,6 +1,6 @@
 -- What is so once a bus came up again, asked of a whole history.
 use Rattle.std.specs.Prelude.{◌≡◌, ◌≢◌, ℕ, ◌≤◌, List, Option, Some}
-use Rattle.ilimage.specs.Images.{ImageVariable, Global}
+use Rattle.ilmachine.specs.Images.{ImageVariable, Global}
 use Rattle.plantevents.specs.declared.activator.Activator.{Activator}
 use Rattle.plantevents.specs.declared.event.Event.{Event}
 use Rattle.plantevents.specs.Plants.{Plant, output_at}

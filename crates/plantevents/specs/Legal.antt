@@ -4,7 +4,7 @@ use Rattle.gearcmd.specs.FrameLists.{FrameList, IsLegal}
 use Rattle.transact.specs.Attempts.{ReportParts, IsReportParts}
 use Rattle.ilplan.specs.Plans.{PlannedTask}
 use Rattle.ilplan.specs.PlanMeaning.{plan_scan}
-use Rattle.ilimage.specs.Snapshots.{ScanStart}
+use Rattle.ilmachine.specs.Snapshots.{ScanStart}
 use Rattle.ilmachine.specs.Scans.{Scan, IsScan, store_of}
 use Rattle.plantevents.specs.declared.event.Origin.{Origin}
 use Rattle.plantevents.specs.declared.event.Event.{Event}

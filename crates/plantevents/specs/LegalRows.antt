@@ -7,13 +7,13 @@ use Rattle.transact.specs.declared.marks.Mark.TheVariants as mark
 use Rattle.transact.specs.declared.marks.Reply.TheVariants as reply
 use Rattle.transact.specs.declared.marks.Outcome.TheVariants as outcome
 use Rattle.transact.specs.Attempts.{ReportParts}
-use Rattle.ilcode.specs.declared.word.WordOperand.TheVariants.{Slot}
-use Rattle.ilcode.specs.declared.word.Target.TheVariants as variables
-use Rattle.ilcode.specs.declared.word.Word.TheVariants.{Load, Store as St}
-use Rattle.ilcode.specs.Listings.{listing_of}
+use Rattle.ilmachine.specs.WordOperand.TheVariants.{Slot}
+use Rattle.ilmachine.specs.Target.TheVariants as variables
+use Rattle.ilmachine.specs.Word.TheVariants.{Load, Store as St}
+use Rattle.ilmachine.specs.Listings.{listing_of}
 use Rattle.ilplan.specs.Plans.{types_of}
-use Rattle.ilverify.specs.Verdicts.{Accepted}
-use Rattle.ilimage.specs.Snapshots.{ScanStart, start_of}
+use Rattle.ilmachine.specs.Verdicts.{Accepted}
+use Rattle.ilmachine.specs.Snapshots.{ScanStart, start_of}
 use Rattle.ilmachine.specs.Scans.{Scan}
 use Rattle.plantevents.specs.declared.event.Event.{Event}
 use Rattle.plantevents.specs.declared.event.Event.TheVariants.{Tick, Take, Commit, Hand, Done, Down, Up}

@@ -15,3 +15,5 @@ pub mod Slots
 pub mod Variables
 pub mod Waiting
 pub mod Writes
+pub use Rattle.ilmachine.specs.Snapshots
+pub use Rattle.ilmachine.specs.Scans

@@ -5,7 +5,7 @@ use Rattle.std.specs.Prelude.{unwrap_or, if◌then◌else◌}
 use Rattle.std.specs.List.{list_any}
 use Rattle.iltypes.specs.declared.value.Value.{Value}
 use Rattle.iltypes.specs.declared.value.Value.TheVariants as values
-use Rattle.wordlines.specs.Wirings.{tries_in}
+use Rattle.ilplan.specs.Wirings.{tries_in}
 use Rattle.dalievent.specs.declared.messages.EventSource.{EventSource}
 use Rattle.gearcmd.specs.declared.requests.TaskKind as kinds
 use Rattle.gearcmd.specs.declared.requests.TaskKind.TheVariants as kind
@@ -18,9 +18,9 @@ use Rattle.ilplan.specs.declared.slot.Slot.{Slot}
 use Rattle.ilplan.specs.declared.slot.SlotOwner as slots
 use Rattle.ilplan.specs.declared.slot.SlotOwner.TheVariants as slot
 use Rattle.ilplan.specs.Plans.{Planned, PlannedTask, stores, task_kind}
-use Rattle.ilverify.specs.Verdicts.{Accepted}
-use Rattle.ilimage.specs.declared.external.External.{External}
-use Rattle.ilimage.specs.Images.{ProcessImage, TaskImage, Layout, image_of, layout_of, first_task}
+use Rattle.ilmachine.specs.Verdicts.{Accepted}
+use Rattle.ilmachine.specs.External.{External}
+use Rattle.ilmachine.specs.Images.{ProcessImage, TaskImage, Layout, image_of, layout_of, first_task}
 use Rattle.plantevents.specs.declared.activator.Activator.{Activator}
 use Rattle.plantevents.specs.declared.activator.Activator.TheVariants.{Interval, Messages}
 

@@ -17,11 +17,11 @@ use Rattle.gearcmd.specs.declared.requests.Command.TheVariants.{GearLevel, GearR
 use Rattle.gearcmd.specs.FrameLists.{FrameList}
 use Rattle.transact.specs.declared.marks.Outcome.{Outcome}
 use Rattle.transact.specs.Attempts.{ReportParts}
-use Rattle.ilsource.specs.declared.instruction.Instruction.{Instruction}
-use Rattle.ilsource.specs.declared.instruction.Instruction.TheVariants as instructions
-use Rattle.ilsource.specs.declared.instruction.Line.{Line}
-use Rattle.ilsource.specs.declared.operand.Operand.TheVariants.{Name, Constant}
-use Rattle.ilsource.specs.declared.name.Name as names
+use Rattle.ilplan.specs.Instruction.{Instruction}
+use Rattle.ilplan.specs.Instruction.TheVariants as instructions
+use Rattle.ilplan.specs.Line.{Line}
+use Rattle.ilplan.specs.Operand.TheVariants.{Name, Constant}
+use Rattle.ilplan.specs.Name as names
 use Rattle.ilplan.specs.declared.activation.Activation.{Activation}
 use Rattle.ilplan.specs.declared.activation.Activation.TheVariants as activations
 use Rattle.ilplan.specs.declared.global.Global.{Global as GlobalVariable}
@@ -32,9 +32,9 @@ use Rattle.ilplan.specs.declared.place.Place.TheVariants.{Slot}
 use Rattle.ilplan.specs.declared.slot.Slot as slots
 use Rattle.ilplan.specs.declared.slot.SlotOwner.TheVariants as variable
 use Rattle.ilplan.specs.Plans.{PlannedTask, plan_of, task_of, types_of}
-use Rattle.ilcode.specs.Listings.{listing_of}
-use Rattle.ilverify.specs.Verdicts.{Accepted}
-use Rattle.ilimage.specs.Snapshots.{ScanStart, start_of}
+use Rattle.ilmachine.specs.Listings.{listing_of}
+use Rattle.ilmachine.specs.Verdicts.{Accepted}
+use Rattle.ilmachine.specs.Snapshots.{ScanStart, start_of}
 use Rattle.ilmachine.specs.Scans.{Scan}
 use Rattle.plantevents.specs.declared.event.Event.{Event}
 use Rattle.plantevents.specs.declared.event.Event.TheVariants.{Tick, Heard, Take, Commit, Hand, Done, Down, Up}

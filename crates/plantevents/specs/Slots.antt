@@ -4,7 +4,7 @@ use Rattle.iltypes.specs.declared.value.Value.{Value}
 use Rattle.ilplan.specs.declared.slot.SlotOwner as slots
 use Rattle.ilplan.specs.declared.slot.SlotOwner.TheVariants as slot
 use Rattle.ilplan.specs.Plans.{PlannedTask, stores}
-use Rattle.ilimage.specs.Images.{Global, Own, variable_in, written_in, value_of}
+use Rattle.ilmachine.specs.Images.{Global, Own, variable_in, written_in, value_of}
 use Rattle.plantevents.specs.Plants.{Plant, externals_of, opening, layout}
 
 -- the number of a slot among those of a task's own variables, which stand behind the global ones

@@ -11,12 +11,12 @@ use Rattle.transact.specs.declared.marks.Reply.{Reply}
 use Rattle.transact.specs.declared.marks.Reply.TheVariants.{Quiet, Answer, Damaged, Lost}
 use Rattle.transact.specs.declared.marks.Outcome as outcomes
 use Rattle.transact.specs.declared.marks.Outcome.TheVariants as outcome
-use Rattle.ilblocks.specs.Calls.{Block}
+use Rattle.ilplan.specs.Calls.{Block}
 use Rattle.ilplan.specs.declared.global.Location.{Location}
 use Rattle.ilplan.specs.declared.global.Location.TheVariants.{GearAnswer, DeviceAnswer, Information, Count, Trigger}
-use Rattle.ilimage.specs.declared.external.External.{External}
-use Rattle.ilimage.specs.Images.{TaskLayout, ImageVariable, Global, Own, value_of, blocks_of, variable_in}
-use Rattle.ilimage.specs.Snapshots.{ScanStart}
+use Rattle.ilmachine.specs.External.{External}
+use Rattle.ilmachine.specs.Images.{TaskLayout, ImageVariable, Global, Own, value_of, blocks_of, variable_in}
+use Rattle.ilmachine.specs.Snapshots.{ScanStart}
 use Rattle.plantevents.specs.declared.activator.PendingEvent.{PendingEvent}
 use Rattle.plantevents.specs.declared.event.Origin.{Origin}
 use Rattle.plantevents.specs.declared.event.Origin.TheVariants.{Queued, Output}

@@ -14,8 +14,8 @@ use Rattle.gearcmd.specs.declared.requests.TaskKind.{TaskKind}
 use Rattle.gearcmd.specs.declared.requests.TaskKind.TheVariants.{Cyclic}
 use Rattle.gearcmd.specs.FrameLists.{FrameList}
 use Rattle.gearcmd.specs.Requests.{frames_of, class_of, task_class}
-use Rattle.ilblocks.specs.Calls.{address_of}
-use Rattle.ilimage.specs.Images.{Global}
+use Rattle.ilplan.specs.Calls.{address_of}
+use Rattle.ilmachine.specs.Images.{Global}
 use Rattle.plantevents.specs.declared.event.Origin.{Origin}
 use Rattle.plantevents.specs.declared.event.Origin.TheVariants.{Queued, Output}
 use Rattle.plantevents.specs.declared.event.Event.{Event}

@@ -1,7 +1,7 @@
 -- How what a scan writes is said of the process image, and which write of a history is the last.
 use Rattle.std.specs.Prelude.{◌≡◌, ◌≢◌, ℕ, List, ◌∷◌, ◌++◌, slice_get, Some, None}
 use Rattle.iltypes.specs.declared.value.Value.{Value}
-use Rattle.ilimage.specs.Images.{Layout, TaskLayout, ImageVariable, value_of, written_in}
+use Rattle.ilmachine.specs.Images.{Layout, TaskLayout, ImageVariable, value_of, written_in}
 use Rattle.plantevents.specs.declared.event.Event.{Event}
 use Rattle.plantevents.specs.Plants.{Plant, opening}
 use Rattle.plantevents.specs.Variables.{scan_write, write_of, value}

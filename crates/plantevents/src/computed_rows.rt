@@ -5,7 +5,7 @@ ghost use Rattle.iltypes.specs.declared.value.Value.TheVariants.{Bool as truth};
 ghost use Rattle.daliframe.specs.declared.forward.Frame.TheVariants.{Forward16};
 ghost use Rattle.transact.specs.declared.marks.Reply.TheVariants.{Quiet, Answer, Damaged};
 ghost use Rattle.transact.specs.declared.marks.Outcome.TheVariants.{Done, GaveUp};
-ghost use Rattle.ilimage.specs.Images.{Global, Own};
+ghost use Rattle.ilmachine.specs.Images.{Global, Own};
 ghost use Rattle.plantevents.specs.declared.event.Origin.TheVariants.{Queued, Output};
 ghost use Rattle.plantevents.specs.Plants.{activator};
 ghost use Rattle.plantevents.specs.Histories.{moment, is_scanned, hand, is_down};

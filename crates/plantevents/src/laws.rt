@@ -6,10 +6,10 @@ ghost use Rattle.std.specs.Prelude.{map, drop, length, slice_get, ◌+◌, ◌%�
 ghost use Rattle.iltypes.specs.declared.value.Value.{Value};
 ghost use Rattle.dalievent.specs.declared.messages.EventSource.{EventSource};
 ghost use Rattle.gearcmd.specs.FrameLists.{FrameList, IsLegal};
-ghost use Rattle.ilimage.specs.Snapshots.{ScanStart};
-ghost use Rattle.ilimage.specs.Images.{Layout, TaskLayout, ImageVariable};
+ghost use Rattle.ilmachine.specs.Snapshots.{ScanStart};
+ghost use Rattle.ilmachine.specs.Images.{Layout, TaskLayout, ImageVariable};
 ghost use Rattle.ilmachine.specs.Scans.{Scan};
-ghost use Rattle.ilverify.specs.Verdicts.{Accepted};
+ghost use Rattle.ilmachine.specs.Verdicts.{Accepted};
 ghost use Rattle.ilplan.specs.Plans.{PlannedTask, AreOrdered};
 ghost use Rattle.ilplan.specs.declared.slot.Slot.{Slot};
 ghost use Rattle.ilplan.specs.declared.global.Location.TheVariants.{Trigger};

@@ -20,6 +20,7 @@ mod role;
 
 pub use activator::{Activator, PendingEvent};
 pub use event::{Event, Origin};
+pub use ilmachine::{ScanResult, Work, scan_into};
 pub use laws::{
     counts_go_on, each_event_is_in_one_part, one_take_is_legal, requests_are_accepted_or_dropped,
     since_is_least, slots_are_those_of_the_plan, the_last_write_counts,

@@ -3,8 +3,7 @@
 ghost use Rattle.std.specs.Prelude.{◌≡◌};
 
 use ghosts::Memo;
-use ilimage::Snapshot;
-use ilmachine::ScanResult;
+use ilmachine::{ScanResult, Snapshot};
 use std::marker::Model;
 
 /// What a scan starts from, for contracts alone.
@@ -14,7 +13,7 @@ pub struct NotedSnapshot {
 }
 
 impl Model for NotedSnapshot {
-    ghost use Rattle.ilimage.specs.Snapshots.{ScanStart};
+    ghost use Rattle.ilmachine.specs.Snapshots.{ScanStart};
 
     ghost Value = { ScanStart };
 

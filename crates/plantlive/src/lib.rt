@@ -18,3 +18,4 @@ mod period;
 
 pub use living::{Lived, live};
 pub use period::period_of;
+pub use workers::{Ended, Gate, Happened, Opening};

@@ -13,7 +13,7 @@ use Rattle.ilplan.proofs.BegunScans.{begun_task}
 use Rattle.ilsyms.specs.Meaning.{source_scan}
 use Rattle.ilsyms.specs.Resolved.{plan_of_tree, planned_functions, planned_task}
 use Rattle.ilsyms.specs.Tasks.{SourceTask, tasks_of}
-use Rattle.ilmachine.specs.Scans.{Scan, store_of}
+use Rattle.plantevents.specs.Scans.{Scan, store_of}
 use Rattle.plantevents.specs.declared.event.Event.{Event}
 use Rattle.plantevents.specs.declared.event.Event.TheVariants.{Commit}
 use Rattle.plantevents.specs.Plants.{Plant}

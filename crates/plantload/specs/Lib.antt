@@ -4,3 +4,7 @@ pub mod MeantScans
 pub mod Printed
 pub mod PrintedFaults
 pub mod RefusedTasks
+pub use Rattle.ilsyms.specs.Meaning
+pub use Rattle.ilsyms.specs.Resolved
+pub use Rattle.ilsyms.specs.Tasks
+pub use Rattle.ilsyms.specs.Variables

@@ -3,7 +3,7 @@ use Rattle.std.specs.Prelude.{◌≡◌, ℕ, List, ◌∷◌, ◌++◌, slice_g
 use Rattle.ilsource.specs.SourceTrees.{Tree}
 use Rattle.ilsyms.specs.Meaning.{source_scan}
 use Rattle.ilsyms.specs.Tasks.{SourceTask, tasks_of}
-use Rattle.ilmachine.specs.Scans.{Scan, store_of}
+use Rattle.plantevents.specs.Scans.{Scan, store_of}
 use Rattle.plantevents.specs.declared.event.Event.{Event}
 use Rattle.plantevents.specs.declared.event.Event.TheVariants.{Commit}
 use Rattle.plantevents.specs.Histories.{OpenScan, scan}

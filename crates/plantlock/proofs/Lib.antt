@@ -5,3 +5,4 @@ mod Fitting
 mod Places
 pub mod Refusing
 mod Since
+pub use Rattle.plantreceipts.proofs.Eaching

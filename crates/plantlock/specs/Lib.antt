@@ -1,2 +1,10 @@
 pub mod Answers
 pub mod Tied
+pub use Rattle.plant.specs.Refusals
+pub use Rattle.plant.specs.Shown
+pub use Rattle.plant.specs.declared.plant.taking.Order
+pub use Rattle.plant.specs.declared.refusal.CallError
+pub use Rattle.plant.specs.declared.refusal.CallRefusal
+pub use Rattle.plantreceipts.specs.Each
+pub use Rattle.plantreceipts.specs.Receipts
+pub use Rattle.plantreceipts.specs.Seats

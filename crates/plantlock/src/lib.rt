@@ -19,5 +19,6 @@ mod lock_notes;
 mod locked_plant;
 mod shared;
 
+pub use plant::{CallRefusal, Handed};
 pub use plantreceipts::{LockStart, NotedPart, Share, Shares};
 pub use shared::{Final, Shared};

@@ -13,8 +13,8 @@ use Rattle.simbus.specs.Staged.{IsOnStage, bus_of}
 use Rattle.ilcompile.specs.Loaded.{Loaded}
 use Rattle.plantevents.specs.Histories.{heard_in, is_down}
 use Rattle.plantevents.specs.Plants.{Plant}
-use Rattle.plantdriving.specs.Links.{IsLinked, log_of, no_frame}
-use Rattle.plantdriving.specs.Quiet.{HasNoFrame}
+use Rattle.workers.specs.Links.{IsLinked, log_of, no_frame}
+use Rattle.workers.specs.Quiet.{HasNoFrame}
 use Rattle.workers.specs.declared.closed.ClosedParts.{ClosedParts}
 use Rattle.workers.specs.declared.ended.Ended.TheVariants.{Asked}
 use Rattle.workers.specs.Runs.{HasRun}

@@ -10,10 +10,10 @@ use Rattle.plantevents.specs.Histories.{given_in}
 use Rattle.plantevents.specs.Legal.{AreLegal}
 use Rattle.plantevents.specs.Plants.{Plant}
 use Rattle.plant.specs.Shown.{Shown, is_full, plant_of}
-use Rattle.plantdriving.specs.Links.{IsLinked, IsNoLess, log_of}
-use Rattle.plantdriving.specs.Open.{HasNothingOpen}
-use Rattle.plantdriving.specs.Quiet.{IsQuiet}
-use Rattle.plantturns.specs.Logs.{HasEnded}
+use Rattle.workers.specs.Links.{IsLinked, IsNoLess, log_of}
+use Rattle.workers.specs.Open.{HasNothingOpen}
+use Rattle.workers.specs.Quiet.{IsQuiet}
+use Rattle.workers.specs.Logs.{HasEnded}
 use Rattle.workers.specs.declared.closed.ClosedParts.{ClosedParts}
 use Rattle.workers.specs.Closings.{IsClosed}
 use Rattle.workers.specs.Runs.{HasEndedQuietly, HasRun}

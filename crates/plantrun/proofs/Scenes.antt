@@ -20,8 +20,8 @@ use Rattle.simbus.specs.Staged.{IsOnStage, bus_of, equipment_of}
 use Rattle.plantevents.specs.declared.event.Event.{Event}
 use Rattle.plantevents.specs.Histories.{given_in, heard_in, is_down, sent_in}
 use Rattle.plant.specs.Shown.{Shown}
-use Rattle.plantdriving.specs.Links.{IsLinked}
-use Rattle.plantdriving.specs.Quiet.{HasNoFrame}
+use Rattle.workers.specs.Links.{IsLinked}
+use Rattle.workers.specs.Quiet.{HasNoFrame}
 use Rattle.plantplay.specs.Installations.{sim_log}
 use Rattle.plantrun.specs.Scenes.{IsBusFollowing, IsBusOf, events_on, script_of}
 

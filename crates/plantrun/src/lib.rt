@@ -16,5 +16,7 @@ mod report;
 mod running;
 mod staging;
 
+pub use plantplay::write_globals;
 pub use report::{ended_name, write_run, write_tasks};
 pub use running::run;
+pub use workers::Closed;

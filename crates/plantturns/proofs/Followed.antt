@@ -7,8 +7,8 @@ use Rattle.transact.specs.Attempts.{ReportParts}
 use Rattle.buslink.specs.BusLog.{BusLog}
 use Rattle.plantevents.specs.declared.event.Event.TheVariants.{Up}
 use Rattle.plantevents.specs.Parts.{shown_down, shown_downs}
-use Rattle.plant.specs.Shown.{Shown}
-use Rattle.plantreceipts.specs.Receipts.{ShareParts, whole}
+use Rattle.plantlock.specs.Shown.{Shown}
+use Rattle.plantlock.specs.Receipts.{ShareParts, whole}
 use Rattle.plantdriving.specs.declared.halt.Halt.{Halt}
 use Rattle.plantdriving.specs.declared.halt.Halt.TheVariants.{Refused, Memory, Unwritten}
 use Rattle.plantdriving.specs.Links.{HasGrown, HasHeard, IsAsked}

@@ -8,7 +8,7 @@ use Rattle.plantevents.specs.declared.event.Event.TheVariants.{Take, Hand}
 use Rattle.plantevents.specs.declared.event.Origin.{Origin}
 use Rattle.plantevents.specs.Parts.{Placed, placed, shown_scan, shown_hand}
 use Rattle.plantlock.specs.Answers.{ShowsScan, ShowsTransaction}
-use Rattle.plantreceipts.specs.Receipts.{ShareParts, IsNoted, whole}
+use Rattle.plantlock.specs.Receipts.{ShareParts, IsNoted, whole}
 
 pub noted_whole : (n : ℕ) (e : Event) (s t : ShareParts) → IsNoted n e s t → whole t ≡ placed n e ∷ whole s
 noted_whole n e s t is =

@@ -6,17 +6,17 @@ use Rattle.ilimage.specs.Snapshots.{ScanStart}
 use Rattle.ilmachine.specs.Scans.{Scan}
 use Rattle.plantevents.specs.declared.event.Event.TheVariants.{Take, Commit}
 use Rattle.plantevents.specs.Parts.{Placed, placed}
-use Rattle.plant.specs.declared.plant.taking.Order.{Order}
-use Rattle.plant.specs.declared.refusal.CallError.{CallError}
-use Rattle.plant.specs.declared.refusal.CallError.TheVariants as errors
-use Rattle.plant.specs.declared.refusal.CallRefusal.TheVariants as refusal
-use Rattle.plant.specs.Refusals.{GivesFirstOrMemory, first_refusal, take_cases}
-use Rattle.plant.specs.Shown.{Shown}
+use Rattle.plantlock.specs.Order.{Order}
+use Rattle.plantlock.specs.CallError.{CallError}
+use Rattle.plantlock.specs.CallError.TheVariants as errors
+use Rattle.plantlock.specs.CallRefusal.TheVariants as refusal
+use Rattle.plantlock.specs.Refusals.{GivesFirstOrMemory, first_refusal, take_cases}
+use Rattle.plantlock.specs.Shown.{Shown}
 use Rattle.plantlock.specs.Answers.{Answer}
 use Rattle.plantdriving.specs.Halts.{IsHaltOf}
 use Rattle.plantdriving.specs.declared.halt.Halt.{Halt}
 use Rattle.plantdriving.specs.declared.halt.Halt.TheVariants.{Refused, Memory, Unwritten}
-use Rattle.plantreceipts.specs.Receipts.{ShareParts, IsNoted, whole}
+use Rattle.plantlock.specs.Receipts.{ShareParts, IsNoted, whole}
 use Rattle.plantturns.specs.Outcomes.{HasScannedOnce, ScansTurn, turn_where_refused}
 use Rattle.plantturns.specs.TurnSteps.{ScansOnce}
 use Rattle.plantturns.proofs.Rounds.{noted_whole}

@@ -9,12 +9,12 @@ use Rattle.buslink.specs.Performing.{after_report}
 use Rattle.plantevents.specs.declared.event.Event.TheVariants.{Hand, Done, Down}
 use Rattle.plantevents.specs.declared.event.Origin.{Origin}
 use Rattle.plantevents.specs.Parts.{Placed, placed, shown_down}
-use Rattle.plant.specs.declared.refusal.CallRefusal.TheVariants as refusal
-use Rattle.plant.specs.Shown.{Shown}
+use Rattle.plantlock.specs.CallRefusal.TheVariants as refusal
+use Rattle.plantlock.specs.Shown.{Shown}
 use Rattle.plantdriving.specs.declared.halt.Halt.{Halt}
 use Rattle.plantdriving.specs.declared.halt.Halt.TheVariants.{Refused, Memory, Unwritten}
 use Rattle.plantdriving.proofs.Handed.{has_failed}
-use Rattle.plantreceipts.specs.Receipts.{ShareParts, IsNoted, whole}
+use Rattle.plantlock.specs.Receipts.{ShareParts, IsNoted, whole}
 use Rattle.plantturns.specs.declared.turn.Turn.{Turn}
 use Rattle.plantturns.specs.declared.turn.Turn.TheVariants as turns
 use Rattle.plantturns.specs.Outcomes.{HasSentOnce, SendsTurn, turn_where_refused}

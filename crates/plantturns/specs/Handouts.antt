@@ -5,7 +5,7 @@ use Rattle.plantevents.specs.declared.event.Event.{Event}
 use Rattle.plantevents.specs.declared.event.Event.TheVariants.{Hand}
 use Rattle.plantevents.specs.Parts.{Placed, shown_downs}
 use Rattle.plantdriving.specs.Links.{HasHeard}
-use Rattle.plantreceipts.specs.Receipts.{ShareParts, whole}
+use Rattle.plantlock.specs.Receipts.{ShareParts, whole}
 
 -- how many transactions a bus was handed
 abbrev pub handouts_by : Event → ℕ → ℕ

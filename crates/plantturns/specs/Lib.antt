@@ -2,3 +2,12 @@ pub mod Handouts
 pub mod Logs
 pub mod Outcomes
 pub mod TurnSteps
+pub use Rattle.plantdriving.specs.Driven
+pub use Rattle.plantdriving.specs.Links
+pub use Rattle.plantdriving.specs.Open
+pub use Rattle.plantdriving.specs.Quiet
+pub use Rattle.plantdriving.specs.declared.halt.Halt
+pub use Rattle.plantlock.specs.Each
+pub use Rattle.plantlock.specs.Receipts
+pub use Rattle.plantlock.specs.Seats
+pub use Rattle.plantlock.specs.Tied

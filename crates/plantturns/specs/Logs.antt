@@ -6,7 +6,7 @@ use Rattle.plantevents.specs.Parts.{shown_ups, shown_given}
 use Rattle.buslink.specs.BusLog.{BusLog, one_more}
 use Rattle.buslink.specs.ClockLog.{ClockLog, HasGivenAll, IsNotBefore}
 use Rattle.plantdriving.specs.Links.{HasGrown, IsNoLess, so_many_more}
-use Rattle.plantreceipts.specs.Receipts.{ShareParts, whole}
+use Rattle.plantlock.specs.Receipts.{ShareParts, whole}
 
 abbrev pub no_moment : ClockLog
 no_moment = record { moments = None; given = []; asks = 0; gave_none = false }

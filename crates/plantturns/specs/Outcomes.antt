@@ -9,12 +9,12 @@ use Rattle.ilmachine.specs.Scans.{Scan}
 use Rattle.plantevents.specs.declared.event.Event.TheVariants.{Take, Commit, Hand, Done, Down, Up}
 use Rattle.plantevents.specs.declared.event.Origin.{Origin}
 use Rattle.plantevents.specs.Parts.{placed, shown_down}
-use Rattle.plant.specs.declared.refusal.CallRefusal.{CallRefusal}
-use Rattle.plant.specs.declared.refusal.CallRefusal.TheVariants.{BusDown, NothingReady, Full}
-use Rattle.plant.specs.Refusals.{Case, first_refusal, hand_cases, take_cases}
-use Rattle.plant.specs.Shown.{Shown}
+use Rattle.plantlock.specs.CallRefusal.{CallRefusal}
+use Rattle.plantlock.specs.CallRefusal.TheVariants.{BusDown, NothingReady, Full}
+use Rattle.plantlock.specs.Refusals.{Case, first_refusal, hand_cases, take_cases}
+use Rattle.plantlock.specs.Shown.{Shown}
 use Rattle.plantlock.specs.Answers.{IsUnderLock}
-use Rattle.plantreceipts.specs.Receipts.{ShareParts, IsNoted, whole}
+use Rattle.plantlock.specs.Receipts.{ShareParts, IsNoted, whole}
 use Rattle.plantdriving.specs.declared.halt.Halt.{Halt}
 use Rattle.plantdriving.specs.declared.halt.Halt.TheVariants.{Refused, Memory, Unwritten}
 use Rattle.plantturns.specs.declared.turn.Turn.{Turn}

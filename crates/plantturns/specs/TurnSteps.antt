@@ -6,10 +6,10 @@ use Rattle.transact.specs.Attempts.{ReportParts}
 use Rattle.buslink.specs.BusLog.{BusLog}
 use Rattle.plantevents.specs.declared.event.Event.TheVariants.{Down}
 use Rattle.plantevents.specs.Parts.{Placed}
-use Rattle.plant.specs.Refusals.{hand_cases, take_cases}
-use Rattle.plant.specs.Shown.{Shown}
+use Rattle.plantlock.specs.Refusals.{hand_cases, take_cases}
+use Rattle.plantlock.specs.Shown.{Shown}
 use Rattle.plantlock.specs.Answers.{IsUnheard}
-use Rattle.plantreceipts.specs.Receipts.{ShareParts, IsNoted}
+use Rattle.plantlock.specs.Receipts.{ShareParts, IsNoted}
 use Rattle.plantdriving.specs.declared.halt.Halt.{Halt}
 use Rattle.plantdriving.specs.declared.halt.Halt.TheVariants.{Refused, Memory, Unwritten}
 use Rattle.plantturns.specs.declared.turn.Turn.{Turn}

@@ -4,7 +4,7 @@ ghost use Rattle.std.specs.Prelude.{◌≡◌, ◌≢◌, ℕ, false, OnOk, IfEr
 ghost use Rattle.transact.specs.declared.marks.Outcome.TheVariants as outcomes;
 ghost use Rattle.plantevents.specs.Parts.{shown_down};
 ghost use Rattle.plantevents.specs.declared.event.Event.TheVariants.{Down};
-ghost use Rattle.plantreceipts.specs.Receipts.{IsNoted, whole};
+ghost use Rattle.plantlock.specs.Receipts.{IsNoted, whole};
 ghost use Rattle.plantdriving.specs.Links.{HasGrown, log_of};
 ghost use Rattle.plantturns.specs.Handouts.{HasHandedNone};
 ghost use Rattle.plantturns.specs.Logs.{HasFailed, IsServed};
@@ -14,9 +14,8 @@ ghost use Rattle.plantturns.specs.TurnSteps.{IsDownWhereFailed, IsTold, IsUnaske
 use crate::links::Links;
 use crate::turn::Turn;
 use buslink::{Bus, perform};
-use plant::{CallRefusal, Handed};
 use plantdriving::{Halt, Happened, Observer};
-use plantlock::{LockStart, Share, Shared};
+use plantlock::{CallRefusal, Handed, LockStart, Share, Shared};
 use planttallies::{Tallies, Tally};
 use std::io;
 use std::sync::Wait;

@@ -28,5 +28,7 @@ pub use bus_worker::{BusWithShare, come_up, hear_turn, send_turn};
 pub use clock_worker::{ClockWithShare, tick_once};
 pub use gate::{Gate, OpenGate, Passing};
 pub use links::Links;
+pub use plantdriving::{Halt, Happened, Observer, settle};
+pub use plantlock::{Final, LockStart, NotedPart, Share, Shared, Shares};
 pub use scan_worker::scan_turn;
 pub use turn::Turn;

@@ -7,8 +7,8 @@ use Rattle.std.proofs.Math.Seq.{get_or-append_seam}
 use Rattle.std.proofs.lemmas.Bool.{ne_eqb}
 use Rattle.std.proofs.lemmas.Bool.Decides.{eqb_tells}
 use Rattle.std.specs.Prelude.{slice_set, slice_index_or}
-use Rattle.ilimage.specs.Snapshots.{ScanStart}
-use Rattle.ilmachine.specs.Scans.{Scan}
+use Rattle.plantevents.specs.Snapshots.{ScanStart}
+use Rattle.plantevents.specs.Scans.{Scan}
 use Rattle.dalievent.specs.declared.messages.EventSource.{EventSource}
 use Rattle.plantevents.specs.declared.activator.Activator.{Activator}
 use Rattle.plantevents.specs.declared.activator.Activator.TheVariants.{Interval, Messages}

@@ -1,8 +1,8 @@
 //! What is kept of one task.
 ghost use Rattle.std.specs.Prelude.{◌≡◌, ℕ, ◌+◌, ◌<◌, ◌^◌, [], ◌∷◌, List, length};
 ghost use Rattle.std.specs.Prelude.{◌||◌, true, false, IfOk, Some, slice_get};
-ghost use Rattle.ilimage.specs.Snapshots.{ScanStart};
-ghost use Rattle.ilmachine.specs.Scans.{Scan};
+ghost use Rattle.plantevents.specs.Snapshots.{ScanStart};
+ghost use Rattle.plantevents.specs.Scans.{Scan};
 ghost use Rattle.plantevents.specs.declared.event.Event.{Event};
 ghost use Rattle.plantevents.specs.declared.event.Event.TheVariants.{Tick, Heard, Take, Commit};
 ghost use Rattle.plantevents.specs.Histories.{OpenScan, moment, scan};

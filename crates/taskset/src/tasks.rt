@@ -1,8 +1,8 @@
 //! The tasks of a plant.
 ghost use Rattle.std.specs.Prelude.{◌≡◌, ℕ, ◌+◌, ◌<◌, ◌≤◌, ◌^◌, [], ◌∷◌, List, length, slice_get};
 ghost use Rattle.std.specs.Prelude.{IfOk, All};
-ghost use Rattle.ilimage.specs.Snapshots.{ScanStart};
-ghost use Rattle.ilmachine.specs.Scans.{Scan};
+ghost use Rattle.plantevents.specs.Snapshots.{ScanStart};
+ghost use Rattle.plantevents.specs.Scans.{Scan};
 ghost use Rattle.limits.specs.Limits.{most_tasks};
 ghost use Rattle.plantevents.specs.declared.event.Event.{Event};
 ghost use Rattle.plantevents.specs.declared.event.Event.TheVariants.{Tick, Heard, Take, Commit};

@@ -9,8 +9,8 @@ use Rattle.buslink.specs.BusLog.{BusLog, one_more}
 use Rattle.buslink.specs.ClockLog.{ClockLog}
 use Rattle.plantevents.specs.declared.event.Event.{Event}
 use Rattle.plantevents.specs.Histories.{sent_in, heard_in, downs_in, ups_in, given_in}
-use Rattle.plantdriving.specs.Links.{log_of, so_many_more}
-use Rattle.plantdriving.specs.Links.{IsLinked}
+use Rattle.plantturns.specs.Links.{log_of, so_many_more}
+use Rattle.plantturns.specs.Links.{IsLinked}
 
 -- ---- what stood before the end of a list
 

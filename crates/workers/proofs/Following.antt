@@ -9,8 +9,8 @@ use Rattle.buslink.specs.BusLog.{BusLog, one_more}
 use Rattle.plantevents.specs.declared.event.Event.{Event}
 use Rattle.plantevents.specs.declared.event.Event.TheVariants.{Tick, Heard, Take, Commit, Hand, Done, Down, Up}
 use Rattle.plantevents.specs.Histories.{moment, sent_in, heard_in, downs_in, ups_in, given_in}
-use Rattle.plantdriving.specs.Links.{so_many_more}
-use Rattle.plantdriving.specs.Links.{IsLinked}
+use Rattle.plantturns.specs.Links.{so_many_more}
+use Rattle.plantturns.specs.Links.{IsLinked}
 
 -- ---- first what was before, then what follows
 

@@ -3,7 +3,7 @@ use Rattle.std.proofs.Common.{◌≡◌, ◌∙◌, List, ap, length, map, sym}
 use Rattle.buslink.specs.BusLog.{BusLog}
 use Rattle.buslink.specs.ClockLog.{ClockLog}
 use Rattle.plantevents.specs.Plants.{Plant}
-use Rattle.plantdriving.proofs.Counts.{grown_since}
+use Rattle.plantturns.proofs.Counts.{grown_since}
 use Rattle.workers.specs.declared.closed.ClosedParts.{ClosedParts}
 use Rattle.workers.specs.Closings.{IsClosed}
 use Rattle.workers.specs.Runs.{HasEndedQuietly}

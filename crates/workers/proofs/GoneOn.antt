@@ -11,13 +11,13 @@ use Rattle.plantevents.specs.Histories.{given_in}
 use Rattle.plantevents.specs.Legal.{AreLegal}
 use Rattle.plantevents.specs.Plants.{Plant}
 use Rattle.plant.specs.Shown.{Shown, kept}
-use Rattle.plantlock.specs.Tied.{IsFront}
-use Rattle.plantdriving.specs.Links.{HasGrown, IsNoLess, log_of}
+use Rattle.plantturns.specs.Tied.{IsFront}
+use Rattle.plantturns.specs.Links.{HasGrown, IsNoLess, log_of}
 use Rattle.plantturns.specs.Logs.{HasEnded}
-use Rattle.plantdriving.specs.Links.{IsLinked}
-use Rattle.plantdriving.specs.Quiet.{HasNoFrame, IsQuiet}
-use Rattle.plantdriving.specs.Open.{HasNothingOpen}
-use Rattle.plantdriving.proofs.Turned.{log_stands}
+use Rattle.plantturns.specs.Links.{IsLinked}
+use Rattle.plantturns.specs.Quiet.{HasNoFrame, IsQuiet}
+use Rattle.plantturns.specs.Open.{HasNothingOpen}
+use Rattle.plantturns.proofs.Turned.{log_stands}
 use Rattle.workers.specs.Beginnings.{IsInStep}
 use Rattle.workers.specs.Closings.{IsClosed}
 use Rattle.workers.specs.Runs.{HasEndedQuietly}

@@ -8,19 +8,19 @@ use Rattle.buslink.specs.BusLog.{BusLog}
 use Rattle.buslink.specs.ClockLog.{ClockLog}
 use Rattle.plantevents.specs.Legal.{AreLegal}
 use Rattle.plantevents.specs.Plants.{Plant}
-use Rattle.plantdriving.specs.declared.halt.Halt.{Halt}
-use Rattle.plantdriving.specs.declared.halt.Halt.TheVariants.{Memory, Refused, Unwritten}
-use Rattle.plantdriving.proofs.Refused.{stuck_is_full}
+use Rattle.plantturns.specs.Halt.{Halt}
+use Rattle.plantturns.specs.Halt.TheVariants.{Memory, Refused, Unwritten}
+use Rattle.plantturns.proofs.Refused.{stuck_is_full}
 use Rattle.workers.specs.Endings.{ended_of}
 use Rattle.workers.specs.declared.ended.Ended.TheVariants.{Asked, Limit}
 use Rattle.plant.specs.Shown.{Shown, is_full}
-use Rattle.plantreceipts.specs.Each.{Each}
-use Rattle.plantdriving.specs.Links.{IsNoLess, log_of}
-use Rattle.plantdriving.proofs.Counts.{grown_since, no_less_since}
-use Rattle.plantdriving.specs.Driven.{CannotGoOn, IsDriven}
-use Rattle.plantdriving.specs.Links.{HasHeard, IsLinked}
-use Rattle.plantdriving.specs.Quiet.{HasNoFrame, IsQuiet}
-use Rattle.plantdriving.proofs.Turned.{log_stands}
+use Rattle.plantturns.specs.Each.{Each}
+use Rattle.plantturns.specs.Links.{IsNoLess, log_of}
+use Rattle.plantturns.proofs.Counts.{grown_since, no_less_since}
+use Rattle.plantturns.specs.Driven.{CannotGoOn, IsDriven}
+use Rattle.plantturns.specs.Links.{HasHeard, IsLinked}
+use Rattle.plantturns.specs.Quiet.{HasNoFrame, IsQuiet}
+use Rattle.plantturns.proofs.Turned.{log_stands}
 use Rattle.workers.specs.Closings.{IsClosed}
 use Rattle.workers.specs.declared.closed.ClosedParts.{ClosedParts}
 use Rattle.workers.proofs.Lists.{each_at}

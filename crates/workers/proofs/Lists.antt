@@ -2,7 +2,7 @@
 use Rattle.std.proofs.Common.{◌≡◌, ℕ, zero, suc, ◌+◌, ◌<◌, List, [], ◌∷◌, length, sym, ap, ◌∙◌, subst, arith}
 use Rattle.std.proofs.lemmas.Option.{slice_get-get_or}
 use Rattle.std.specs.Prelude.{slice_index_or, slice_get, slice_set, Some}
-use Rattle.plantreceipts.specs.Each.{Each}
+use Rattle.plantturns.specs.Each.{Each}
 
 -- what is read at a place stands there
 pub stands : {X : Type 0} → (xs : List X) (place : ℕ) (x : X) → place < length xs → x ≡ slice_index_or xs place x

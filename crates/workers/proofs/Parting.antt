@@ -16,15 +16,15 @@ use Rattle.plantevents.specs.Parts.{shown_given, shown_moment}
 use Rattle.buslink.specs.BusLog.{BusLog}
 use Rattle.buslink.specs.ClockLog.{ClockLog}
 use Rattle.plant.specs.Shown.{Shown}
-use Rattle.plantreceipts.specs.Each.{Each}
-use Rattle.plantreceipts.specs.Receipts.{ShareParts, AreFresh, IsFresh, seat_at, whole}
-use Rattle.plantreceipts.specs.Seats.{AreUnused}
+use Rattle.plantturns.specs.Each.{Each}
+use Rattle.plantturns.specs.Receipts.{ShareParts, AreFresh, IsFresh, seat_at, whole}
+use Rattle.plantturns.specs.Seats.{AreUnused}
 use Rattle.planttallies.specs.SeatTallies.{SeatAmount}
 use Rattle.planttallies.specs.Openings.{fresh}
-use Rattle.plantdriving.specs.Links.{IsNoLess, log_of, so_many_more, no_frame}
+use Rattle.plantturns.specs.Links.{IsNoLess, log_of, so_many_more, no_frame}
 use Rattle.plantturns.specs.Logs.{IsServed, IsTimed, IsWorker}
-use Rattle.plantdriving.specs.Links.{IsLinked}
-use Rattle.plantdriving.specs.Open.{HasNothingOpen}
+use Rattle.plantturns.specs.Links.{IsLinked}
+use Rattle.plantturns.specs.Open.{HasNothingOpen}
 use Rattle.workers.specs.Beginnings.{IsInStep}
 use Rattle.workers.specs.LinkedShares.{AreWorkers}
 use Rattle.workers.proofs.Following.{all_later, moment_within}

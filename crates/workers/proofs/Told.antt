@@ -12,11 +12,11 @@ use Rattle.plantevents.specs.Parts.{part, shown_scan, shown_hand, shown_sent, sh
 use Rattle.plantevents.specs.Parts.{shown_given}
 use Rattle.plantevents.specs.Plants.{Plant}
 use Rattle.plant.specs.Shown.{Shown}
-use Rattle.plantreceipts.specs.Each.{Each}
-use Rattle.plantreceipts.specs.Receipts.{ShareParts, HasPart, HaveParts, whole}
-use Rattle.plantdriving.specs.Links.{IsLinked}
-use Rattle.plantdriving.specs.Open.{HasNothingOpen}
-use Rattle.plantdriving.specs.Links.{IsNoLess, log_of, so_many_more}
+use Rattle.plantturns.specs.Each.{Each}
+use Rattle.plantturns.specs.Receipts.{ShareParts, HasPart, HaveParts, whole}
+use Rattle.plantturns.specs.Links.{IsLinked}
+use Rattle.plantturns.specs.Open.{HasNothingOpen}
+use Rattle.plantturns.specs.Links.{IsNoLess, log_of, so_many_more}
 use Rattle.plantturns.specs.Logs.{IsServed, IsTimed, IsWorker}
 use Rattle.workers.specs.LinkedShares.{AreServed, AreWorkers}
 use Rattle.plantturns.specs.declared.bus_worker.BusWithShare.{BusWithShare}

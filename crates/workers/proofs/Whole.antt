@@ -8,16 +8,16 @@ use Rattle.plantevents.specs.Histories.{given_in}
 use Rattle.plantevents.specs.Legal.{AreLegal}
 use Rattle.plantevents.specs.Plants.{Plant}
 use Rattle.plant.specs.Shown.{IsLimit, IsRoomy, Shown, is_full, opened}
-use Rattle.plantlock.specs.Tied.{IsFront}
+use Rattle.plantturns.specs.Tied.{IsFront}
 use Rattle.workers.specs.declared.closed.ClosedParts.{ClosedParts}
 use Rattle.workers.specs.declared.ended.Ended.TheVariants.{Asked, Limit}
 use Rattle.workers.specs.Closings.{IsClosed, IsLeft}
 use Rattle.workers.specs.Runs.{GoesOn, HasEndedQuietly, HasRun}
 use Rattle.workers.specs.Starts.{AreCounts}
 use Rattle.workers.proofs.Earlier.{buses_before, clock_before}
-use Rattle.plantreceipts.specs.Each.{Each}
-use Rattle.plantdriving.specs.Links.{IsLinked, IsNoLess, log_of}
-use Rattle.plantdriving.specs.Open.{HasNothingOpen}
+use Rattle.plantturns.specs.Each.{Each}
+use Rattle.plantturns.specs.Links.{IsLinked, IsNoLess, log_of}
+use Rattle.plantturns.specs.Open.{HasNothingOpen}
 use Rattle.workers.proofs.Left.{all_made, of_made}
 use Rattle.workers.proofs.GoneOn.{closed_again, given_now, grew, linked_now, moments_now, quietly_since}
 

@@ -5,9 +5,9 @@ use Rattle.buslink.specs.ClockLog.{ClockLog}
 use Rattle.plantevents.specs.Histories.{given_in}
 use Rattle.plantevents.specs.Plants.{Plant}
 use Rattle.plant.specs.Shown.{Shown}
-use Rattle.plantreceipts.specs.Each.{Each}
-use Rattle.plantdriving.specs.Links.{IsNoLess, log_of}
-use Rattle.plantdriving.specs.Links.{IsLinked}
+use Rattle.plantturns.specs.Each.{Each}
+use Rattle.plantturns.specs.Links.{IsNoLess, log_of}
+use Rattle.plantturns.specs.Links.{IsLinked}
 use Rattle.workers.specs.declared.beginning.RunParts.{RunParts}
 use Rattle.workers.specs.WorkerThreads.{HasThreadRoom}
 use Rattle.workers.specs.LinkedShares.{AreLinkedShares}

@@ -6,9 +6,9 @@ use Rattle.plantevents.specs.Histories.{given_in}
 use Rattle.plantevents.specs.Legal.{AreLegal}
 use Rattle.plantevents.specs.Plants.{Plant}
 use Rattle.plant.specs.Shown.{IsWorkerCount}
-use Rattle.plantreceipts.specs.Each.{Each}
-use Rattle.plantdriving.specs.Links.{IsLinked, IsNoLess, log_of}
-use Rattle.plantdriving.specs.Open.{HasNothingOpen}
+use Rattle.plantturns.specs.Each.{Each}
+use Rattle.plantturns.specs.Links.{IsLinked, IsNoLess, log_of}
+use Rattle.plantturns.specs.Open.{HasNothingOpen}
 use Rattle.workers.specs.declared.closed.ClosedParts.{ClosedParts}
 
 -- A legal history of this plant in which nothing is open, and since the first logs each bus and the clock gave and took

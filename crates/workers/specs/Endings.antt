@@ -1,7 +1,7 @@
 -- Why a run ends where a worker cannot go on, and what is said of it.
 use Rattle.std.specs.Prelude.{Bool, if◌then◌else◌}
-use Rattle.plantdriving.specs.declared.halt.Halt.{Halt}
-use Rattle.plantdriving.specs.declared.halt.Halt.TheVariants as halts
+use Rattle.plantturns.specs.Halt.{Halt}
+use Rattle.plantturns.specs.Halt.TheVariants as halts
 use Rattle.workers.specs.declared.ended.Ended.{Ended}
 use Rattle.workers.specs.declared.ended.Ended.TheVariants.{Asked, Limit, NoMemory, NoThread}
 

@@ -7,3 +7,7 @@ pub mod Runs
 pub mod Started
 pub mod Starts
 pub mod WorkerThreads
+pub use Rattle.plantturns.specs.Links
+pub use Rattle.plantturns.specs.Logs
+pub use Rattle.plantturns.specs.Open
+pub use Rattle.plantturns.specs.Quiet

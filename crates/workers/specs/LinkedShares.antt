@@ -2,11 +2,11 @@
 use Rattle.std.specs.Prelude.{◌≡◌, ℕ, List, length}
 use Rattle.buslink.specs.BusLog.{BusLog}
 use Rattle.buslink.specs.ClockLog.{ClockLog}
-use Rattle.plantreceipts.specs.Each.{Each}
-use Rattle.plantreceipts.specs.Receipts.{ShareParts}
+use Rattle.plantturns.specs.Each.{Each}
+use Rattle.plantturns.specs.Receipts.{ShareParts}
 use Rattle.plantturns.specs.declared.bus_worker.BusWithShare.{BusWithShare}
 use Rattle.workers.specs.declared.linked_shares.LinkedShares.{LinkedShares}
-use Rattle.plantdriving.specs.Links.{log_of}
+use Rattle.plantturns.specs.Links.{log_of}
 use Rattle.plantturns.specs.Logs.{IsServed, IsTimed, IsWorker}
 
 -- each bus by its number, where the first has the number n

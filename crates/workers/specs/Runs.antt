@@ -7,9 +7,9 @@ use Rattle.plantevents.specs.declared.event.Event.{Event}
 use Rattle.plantevents.specs.Histories.{given_in}
 use Rattle.plantevents.specs.Plants.{Plant}
 use Rattle.plant.specs.Shown.{IsLimit, IsRoomy, is_full, plant_of, used}
-use Rattle.plantreceipts.specs.Each.{Each}
-use Rattle.plantdriving.specs.Links.{IsLinked, log_of}
-use Rattle.plantdriving.specs.Quiet.{IsQuiet}
+use Rattle.plantturns.specs.Each.{Each}
+use Rattle.plantturns.specs.Links.{IsLinked, log_of}
+use Rattle.plantturns.specs.Quiet.{IsQuiet}
 use Rattle.plantturns.specs.Logs.{HasEnded}
 use Rattle.workers.specs.declared.closed.ClosedParts.{ClosedParts}
 use Rattle.workers.specs.declared.closed.NotGoneOn.{NotGoneOn}

@@ -5,7 +5,7 @@ use Rattle.workers.specs.declared.bus_threads.StartedBus.{StartedBus}
 use Rattle.workers.specs.declared.bus_threads.StartedBus.TheVariants as buses
 use Rattle.workers.specs.declared.scan_threads.StartedScans.{StartedScans}
 use Rattle.workers.specs.declared.scan_threads.StartedScans.TheVariants as scans
-use Rattle.plantdriving.specs.Links.{log_of}
+use Rattle.plantturns.specs.Links.{log_of}
 use Rattle.plantturns.specs.Logs.{IsServed, IsWorker}
 
 -- the worker of this bus

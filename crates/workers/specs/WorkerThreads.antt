@@ -3,7 +3,7 @@ use Rattle.std.specs.Prelude.{◌≡◌, ℕ, ◌≤◌, List, [], vec_len, vec_
 use Rattle.limits.specs.Limits.{most_buses}
 use Rattle.buslink.specs.BusLog.{BusLog}
 use Rattle.buslink.specs.ClockLog.{ClockLog}
-use Rattle.plantreceipts.specs.Each.{Each}
+use Rattle.plantturns.specs.Each.{Each}
 use Rattle.workers.specs.declared.bus_threads.StartedBus.{StartedBus}
 use Rattle.workers.specs.declared.scan_threads.StartedScans.{StartedScans}
 use Rattle.workers.specs.declared.working.AllWorkers.{AllWorkers}

@@ -1,7 +1,7 @@
 //! The lock, the Shares with their links, and the lists of threads, before the first thread begins.
 
 ghost use Rattle.std.specs.Prelude.{◌≡◌, ◌+◌, ◌≤◌, [], length, map, vec_len, vec_capacity, IfOk, IfErr};
-ghost use Rattle.plantdriving.specs.Open.{HasNothingOpen};
+ghost use Rattle.plantturns.specs.Open.{HasNothingOpen};
 ghost use Rattle.plant.specs.Shown.{IsWorkerCount};
 ghost use Rattle.std.specs.List.{range_with_len};
 ghost use Rattle.limits.specs.Limits.{most_buses, most_seats};
@@ -16,9 +16,8 @@ use crate::working::ThreadLists;
 use buslink::{Bus, Clock};
 use plant::Plant;
 use plantevents::{what_a_part_shows, what_a_part_shows_of_links};
-use plantlock::{LockStart, NotedPart, Shared, Shares};
 use planttallies::{LedgerNames, LockTallies, NewTallies, ThreadTally};
-use plantturns::{BusWithShare, ClockWithShare, Links};
+use plantturns::{BusWithShare, ClockWithShare, Links, LockStart, NotedPart, Shared, Shares};
 use std::alloc::{AllocError, Global};
 use std::sync::OnceLock;
 

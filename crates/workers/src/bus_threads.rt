@@ -1,16 +1,15 @@
 //! Threads that serve buses.
 
 ghost use Rattle.std.specs.Prelude.{ℕ};
-ghost use Rattle.plantdriving.specs.Links.{log_of};
+ghost use Rattle.plantturns.specs.Links.{log_of};
 ghost use Rattle.plantturns.specs.Logs.{IsServed};
 ghost use Rattle.workers.specs.Started.{IsStartedBus};
 
 use crate::ended::{End, Ended};
 use crate::serving::serve_bus;
 use buslink::Bus;
-use plantlock::{LockStart, Shared};
 use planttallies::{Tallies, Tally};
-use plantturns::{BusWithShare, Gate, Links};
+use plantturns::{BusWithShare, Gate, Links, LockStart, Shared};
 use std::sync::Wait;
 use std::thread::{Promise, PromisedHandle, Scope, Threads};
 use std::time::Clock as Timer;
@@ -32,7 +31,7 @@ pub(crate) struct Serves {
 }
 
 impl<'a, B: Bus, J: LockStart + Links, T: Tally> Promise<BusWithShare<'a, B, J, T>> for Serves {
-    ghost use Rattle.plantdriving.specs.Links.{log_of};
+    ghost use Rattle.plantturns.specs.Links.{log_of};
     ghost use Rattle.plantturns.specs.Logs.{IsServed};
 
     ghost kept_by = { λ p r. IsServed (log_of J.buses p.bus) p.bus r.share (B.log r.line) };

@@ -1,7 +1,7 @@
 //! A plant that a run left.
 
 ghost use Rattle.std.specs.Prelude.{◌≡◌};
-ghost use Rattle.plantdriving.specs.Open.{HasNothingOpen};
+ghost use Rattle.plantturns.specs.Open.{HasNothingOpen};
 
 use plant::Plant;
 use std::marker::Model;
@@ -16,7 +16,7 @@ impl Model for ClosedPlant {
     ghost use Rattle.std.specs.Coded.{codes};
     ghost use Rattle.ilplan.specs.contracts.plan.Plan as inner;
     ghost use Rattle.plant.specs.Shown.{Shown};
-    ghost use Rattle.plantdriving.specs.Open.{HasNothingOpen};
+    ghost use Rattle.plantturns.specs.Open.{HasNothingOpen};
 
     ghost Value = { Shown };
 

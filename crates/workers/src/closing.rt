@@ -2,7 +2,7 @@
 
 ghost use Rattle.std.specs.Prelude.{◌≡◌, ◌≤◌, [], length, vec_len, vec_capacity};
 ghost use Rattle.plant.specs.Shown.{is_full};
-ghost use Rattle.plantlock.specs.Tied.{IsFront};
+ghost use Rattle.plantturns.specs.Tied.{IsFront};
 ghost use Rattle.workers.specs.Closings.{IsClosed};
 ghost use Rattle.workers.specs.Endings.{ended_as_told};
 ghost use Rattle.workers.specs.LinkedShares.{AreLinkedShares};
@@ -15,9 +15,8 @@ use crate::pairing::take_apart;
 use buslink::{Bus, Clock};
 use plant::Plant;
 use plantevents::{what_a_part_shows, what_a_part_shows_of_links};
-use plantlock::{Final, LockStart, Share, Shared, Shares};
 use planttallies::{Tallies, Tally};
-use plantturns::{ClockWithShare, Links};
+use plantturns::{ClockWithShare, Final, Links, LockStart, Share, Shared, Shares};
 
 /// Empty lists with room for the buses and their Shares.
 #[derive(Drop)]

@@ -1,6 +1,6 @@
 //! The end of a run.
 
-use plantdriving::Halt;
+use plantturns::Halt;
 use std::sync::{OnceLock, OnceToken, Wait};
 
 /// Why a run ended.

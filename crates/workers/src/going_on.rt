@@ -4,7 +4,7 @@ ghost use Rattle.std.specs.Prelude.{◌≡◌, ◌+◌, ◌≤◌, length, IfErr
 ghost use Rattle.limits.specs.Limits.{most_total};
 ghost use Rattle.plant.specs.Shown.{kept};
 ghost use Rattle.plant.specs.declared.open_fault.OpenFault.TheVariants.{Memory};
-ghost use Rattle.plantdriving.specs.Open.{HasNothingOpen};
+ghost use Rattle.plantturns.specs.Open.{HasNothingOpen};
 ghost use Rattle.workers.specs.Runs.{GoesOn};
 
 use crate::beginning::NotBegun;

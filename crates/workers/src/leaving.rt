@@ -5,8 +5,8 @@ ghost use Rattle.buslink.specs.BusLog.{BusLog};
 ghost use Rattle.buslink.specs.ClockLog.{ClockLog};
 ghost use Rattle.plantevents.specs.Plants.{Plant as Planted};
 ghost use Rattle.plant.specs.Shown.{is_full};
-ghost use Rattle.plantlock.specs.Tied.{IsFront};
-ghost use Rattle.plantdriving.specs.Quiet.{IsQuiet};
+ghost use Rattle.plantturns.specs.Tied.{IsFront};
+ghost use Rattle.plantturns.specs.Quiet.{IsQuiet};
 ghost use Rattle.workers.specs.Closings.{IsClosed};
 ghost use Rattle.workers.specs.declared.ended.Ended.TheVariants.{Asked, Limit};
 
@@ -14,8 +14,7 @@ use crate::closed::ClosedParts;
 use crate::closed_plant::ClosedPlant;
 use crate::ended::Ended;
 use buslink::{Bus, Clock};
-use plantdriving::settle;
-use plantturns::{Gate, Passing};
+use plantturns::{Gate, Passing, settle};
 use std::alloc::Global;
 
 /// Does what is left where the clock came to its end: scans, sends and hears until there is nothing

@@ -36,6 +36,7 @@ pub use again::{go_on, run_again};
 pub use closed::{Closed, ClosedParts, NotGoneOn, NotStarted};
 pub use closed_plant::ClosedPlant;
 pub use ended::Ended;
-pub use plantturns::{Gate, OpenGate};
+pub use plant::StartFault;
+pub use plantturns::{Gate, Happened, OpenGate};
 pub use rest::Rest;
 pub use running::{Opening, run};

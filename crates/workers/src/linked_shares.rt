@@ -1,9 +1,8 @@
 //! The links with their Shares.
 
 use buslink::{Bus, Clock};
-use plantlock::{LockStart, Share};
 use planttallies::Tally;
-use plantturns::{BusWithShare, ClockWithShare};
+use plantturns::{BusWithShare, ClockWithShare, LockStart, Share};
 
 /// The buses and the clock with their Shares, and the Shares of the scan workers.
 #[derive(Drop)]

@@ -2,16 +2,15 @@
 
 ghost use Rattle.std.specs.Prelude.{◌≡◌, ◌≤◌, [], length, map, vec_len, vec_capacity};
 ghost use Rattle.plantevents.specs.declared.role.Role.TheVariants as roles;
-ghost use Rattle.plantreceipts.specs.Each.{Each};
-ghost use Rattle.plantreceipts.specs.Receipts.{ShareParts, AreFresh, IsFresh};
-ghost use Rattle.plantdriving.specs.Links.{log_of};
+ghost use Rattle.plantturns.specs.Each.{Each};
+ghost use Rattle.plantturns.specs.Receipts.{ShareParts, AreFresh, IsFresh};
+ghost use Rattle.plantturns.specs.Links.{log_of};
 ghost use Rattle.plantturns.specs.Logs.{IsServed};
 ghost use Rattle.workers.specs.LinkedShares.{AreServed};
 
 use buslink::Bus;
-use plantlock::{LockStart, Share};
 use planttallies::Tally;
-use plantturns::{BusWithShare, Links};
+use plantturns::{BusWithShare, Links, LockStart, Share};
 
 /// Puts each bus and its Share together. Both lists are empty afterwards, and keep their room.
 pub(crate) fn put_together<'a, B: Bus, J: LockStart + Links, T: Tally>(

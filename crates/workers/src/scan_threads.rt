@@ -6,9 +6,8 @@ ghost use Rattle.workers.specs.Started.{IsStartedScans};
 
 use crate::ended::{End, Ended};
 use crate::serving::serve_tasks;
-use plantlock::{LockStart, Share, Shared};
 use planttallies::{Tallies, Tally};
-use plantturns::Gate;
+use plantturns::{Gate, LockStart, Share, Shared};
 use std::alloc::Global;
 use std::sync::Wait;
 use std::thread::{Promise, PromisedHandle, Scope, Threads};

@@ -1,7 +1,7 @@
 //! The loops of the workers, until the end is told.
 
 ghost use Rattle.std.specs.Prelude.{◌≡◌, IfErr, IfOk, OnErr, OnOk, Ok, Some};
-ghost use Rattle.plantdriving.specs.Links.{log_of};
+ghost use Rattle.plantturns.specs.Links.{log_of};
 ghost use Rattle.plantturns.specs.Handouts.{AreFollowed};
 ghost use Rattle.plantturns.specs.Logs.{HasEnded, IsServed, IsTimed, IsWorker};
 ghost use Rattle.workers.specs.declared.ended.Ended.TheVariants.{Asked};
@@ -9,12 +9,10 @@ ghost use Rattle.workers.specs.declared.ended.Ended.TheVariants.{Asked};
 use crate::ended::{End, Ended, ToldEnd};
 use crate::pause::Pause;
 use buslink::{Bus, Clock};
-use plantdriving::{Halt, Observer};
-use plantlock::{LockStart, Share, Shared};
 use planttallies::{Tallies, Tally};
 use plantturns::{
-    BusWithShare, ClockWithShare, Gate, Links, Passing, Turn, come_up, hear_turn, scan_turn,
-    send_turn, tick_once,
+    BusWithShare, ClockWithShare, Gate, Halt, Links, LockStart, Observer, Passing, Share, Shared,
+    Turn, come_up, hear_turn, scan_turn, send_turn, tick_once,
 };
 use std::alloc::Global;
 use std::sync::Wait;

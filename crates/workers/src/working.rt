@@ -15,9 +15,8 @@ use crate::worker_threads::{
     WorkerContext, finish_buses, finish_workers, start_buses, start_workers,
 };
 use buslink::{Bus, Clock};
-use plantlock::LockStart;
 use planttallies::{Tallies, Tally};
-use plantturns::{Gate, Links};
+use plantturns::{Gate, Links, LockStart};
 use std::alloc::{AllocError, Global};
 use std::sync::Wait;
 use std::thread;

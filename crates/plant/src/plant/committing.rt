@@ -8,9 +8,8 @@ ghost use Rattle.plant.specs.CommitSteps.{IsOpenScanOf, IsScanOfTask};
 
 use super::Plant;
 use crate::writes::write_scan;
-use ilmachine::ScanResult;
 use plantbuses::{note_end, note_stores, offer_all};
-use plantevents::{Event, NotedResult};
+use plantevents::{Event, NotedResult, ScanResult};
 
 impl Plant {
     /// The task of this scan, if the worker has it open.

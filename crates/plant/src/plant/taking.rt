@@ -20,9 +20,8 @@ use crate::overrides::overrides;
 use crate::refusal::{CallError, CallRefusal};
 use crate::setups::{trigger_of, trigger_place};
 use ilimage::{Override, Snapshot};
-use ilmachine::Work;
 use plantbuses::{note_scan, note_take};
-use plantevents::{Event, NotedSnapshot};
+use plantevents::{Event, NotedSnapshot, Work};
 use std::alloc::{AllocError, Global};
 
 /// A task that a scan worker has taken.

@@ -1,5 +1,5 @@
 use Rattle.std.proofs.Common.{◌∙◌, ap, inl, inr, refl, IsTrue}
-use Rattle.exitstatus.specs.ExitStatuses.{status_of_play}
+use Rattle.commandfiles.specs.ExitStatuses.{status_of_play}
 use Rattle.commandplays.specs.Plays.{status_of_played}
 use Rattle.commandplays.proofs.PlaysOut.{judged_by, played_under}
 use Rattle.commandplays.proofs.playing.report.Goals as goal

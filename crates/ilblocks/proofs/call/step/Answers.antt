@@ -1,4 +1,4 @@
-use Rattle.limits.specs.Limits.{most_buses}
+use Rattle.gearcmd.specs.Limits.{most_buses}
 use Rattle.std.proofs.Common.{◌≡◌, ◌<◌, IfSome, sym, subst, Option, arith, rules}
 use Rattle.gearcmd.specs.declared.requests.Request.{Request}
 use Rattle.ilblocks.specs.declared.kind.BlockKind.TheVariants as kinds

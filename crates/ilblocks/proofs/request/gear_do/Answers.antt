@@ -1,4 +1,4 @@
-use Rattle.limits.specs.Limits.{most_buses}
+use Rattle.gearcmd.specs.Limits.{most_buses}
 use Rattle.std.proofs.Common.{refl, arith}
 use Rattle.ilblocks.specs.declared.kind.BlockKind.TheVariants as kinds
 use Rattle.ilblocks.proofs.Blocks.{natural_within}

@@ -1,4 +1,4 @@
-use Rattle.limits.specs.Limits.{most_buses}
+use Rattle.gearcmd.specs.Limits.{most_buses}
 use Rattle.std.proofs.Common.{◌≡◌, Some, arith, rules}
 use Rattle.ilblocks.specs.Calls.{command_of}
 use Rattle.ilblocks.proofs.Blocks.{asked_bus}

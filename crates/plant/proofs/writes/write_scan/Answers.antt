@@ -4,7 +4,7 @@ use Rattle.std.specs.Option.{IsSomeAnd}
 use Rattle.iltypes.specs.declared.value.Value.{Value}
 use Rattle.iltypes.specs.Values.{AreOf}
 use Rattle.ilcode.specs.Listings.{lasting_types}
-use Rattle.ilverify.specs.Verdicts.{Accepted}
+use Rattle.ilimage.specs.Verdicts.{Accepted}
 use Rattle.ilblocks.specs.Calls.{Block}
 use Rattle.ilimage.specs.Images.{TaskImage, IsTaskImage, layout_of}
 use Rattle.ilimage.proofs.Places.{with_task, layout_at}

@@ -6,7 +6,7 @@ use Rattle.buslink.specs.Performing.{after_report}
 use Rattle.plantevents.specs.declared.event.Event.TheVariants.{Done}
 use Rattle.plantdriving.specs.declared.halt.Halt.TheVariants.{Refused}
 use Rattle.plantdriving.proofs.Sent.{copied}
-use Rattle.plantreceipts.specs.Receipts.{ShareParts, IsNoted, whole}
+use Rattle.plantlock.specs.Receipts.{ShareParts, IsNoted, whole}
 use Rattle.plantlock.specs.Answers.{IsAnswered, ShowsTransaction}
 use Rattle.plantlock.proofs.Refusing.{error_as}
 use Rattle.plantturns.specs.TurnSteps.{IsDownWhereFailed}

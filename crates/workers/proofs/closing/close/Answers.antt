@@ -1,9 +1,9 @@
 use Rattle.std.proofs.Common.{◌∙◌, map, subst, sym}
 use Rattle.plantevents.specs.Legal.{AreLegal}
-use Rattle.plantreceipts.specs.Each.{Each}
-use Rattle.plantreceipts.specs.Receipts.{HasPart, HaveParts}
-use Rattle.plantdriving.specs.Links.{IsLinked}
-use Rattle.plantdriving.specs.Links.{IsNoLess, log_of}
+use Rattle.plantturns.specs.Each.{Each}
+use Rattle.plantturns.specs.Receipts.{HasPart, HaveParts}
+use Rattle.plantturns.specs.Links.{IsLinked}
+use Rattle.plantturns.specs.Links.{IsNoLess, log_of}
 use Rattle.workers.proofs.Told.{all_linked, all_no_less, nothing_open, timed}
 use Rattle.workers.proofs.closing.close.Goals as goal
 

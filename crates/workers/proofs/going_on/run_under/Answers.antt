@@ -1,6 +1,6 @@
 use Rattle.std.proofs.Common.{◌≡◌, ◌+◌, ◌≤◌, ◌∙◌, List, arith, rules, ap, length, map, subst, sym}
 use Rattle.plant.specs.Shown.{Shown, kept}
-use Rattle.plantdriving.specs.Open.{HasNothingOpen}
+use Rattle.plantturns.specs.Open.{HasNothingOpen}
 use Rattle.workers.specs.declared.closed.ClosedParts.{ClosedParts}
 use Rattle.workers.specs.Closings.{IsLeft}
 use Rattle.workers.specs.Runs.{GoesOn}

@@ -1,6 +1,6 @@
 use Rattle.std.proofs.Common.{◌++◌, map, refl, subst, sym, ap, arith, ◌∙◌}
 use Rattle.plant.specs.Shown.{Shown}
-use Rattle.plantdriving.specs.Driven.{IsDriven}
+use Rattle.plantturns.specs.Driven.{IsDriven}
 use Rattle.workers.specs.declared.closed.ClosedParts.{ClosedParts}
 use Rattle.workers.proofs.Left.{is_full_at, never_asked, quiet_from_start, still_closed}
 use Rattle.workers.proofs.leaving.leave.Goals.{in-Ok, in-Err}

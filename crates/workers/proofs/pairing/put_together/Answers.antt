@@ -1,9 +1,9 @@
 use Rattle.std.proofs.Common.{◌≡◌, ◌+◌, ◌<◌, ◌∙◌, length, arith, refl, subst, sym, ap}
 use Rattle.plantevents.specs.declared.role.Role.TheVariants.{Bus}
-use Rattle.plantreceipts.specs.Each.{Each}
-use Rattle.plantreceipts.specs.Receipts.{ShareParts, IsFresh}
-use Rattle.plantreceipts.proofs.Eaching.{each_first, each_rest, each_push, each_none}
-use Rattle.plantdriving.specs.Links.{log_of}
+use Rattle.plantturns.specs.Each.{Each}
+use Rattle.plantturns.specs.Receipts.{ShareParts, IsFresh}
+use Rattle.plantturns.proofs.Eaching.{each_first, each_rest, each_push, each_none}
+use Rattle.plantturns.specs.Links.{log_of}
 use Rattle.plantturns.specs.Logs.{IsServed}
 use Rattle.workers.specs.LinkedShares.{AreServed}
 use Rattle.workers.proofs.pairing.put_together.Goals as goal

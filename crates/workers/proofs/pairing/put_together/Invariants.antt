@@ -1,9 +1,9 @@
 use Rattle.std.proofs.Common.{◌≡◌, ◌+◌, length}
 use Rattle.std.specs.Prelude.{vec_len, vec_capacity}
 use Rattle.plantevents.specs.declared.role.Role.TheVariants.{Bus}
-use Rattle.plantreceipts.specs.Each.{Each}
-use Rattle.plantreceipts.specs.Receipts.{ShareParts, IsFresh}
-use Rattle.plantdriving.specs.Links.{log_of}
+use Rattle.plantturns.specs.Each.{Each}
+use Rattle.plantturns.specs.Receipts.{ShareParts, IsFresh}
+use Rattle.plantturns.specs.Links.{log_of}
 use Rattle.plantturns.specs.Logs.{IsServed}
 use Rattle.workers.specs.LinkedShares.{AreServed}
 use Rattle.workers.proofs.pairing.put_together.Given as goal

@@ -1,4 +1,4 @@
-use Rattle.plantdriving.specs.Links.{log_of}
+use Rattle.plantturns.specs.Links.{log_of}
 use Rattle.plantturns.specs.Handouts.{AreFollowed}
 use Rattle.plantturns.specs.Logs.{IsServed}
 use Rattle.workers.proofs.serving.serve_bus.Given as goal

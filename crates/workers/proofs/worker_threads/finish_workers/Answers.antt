@@ -1,6 +1,6 @@
 use Rattle.std.proofs.Common.{◌≡◌, ◌+◌, ◌<◌, ◌∙◌, length, arith, subst, sym}
-use Rattle.plantreceipts.specs.Each.{Each}
-use Rattle.plantreceipts.proofs.Eaching.{each_first, each_rest, each_push}
+use Rattle.plantturns.specs.Each.{Each}
+use Rattle.plantturns.proofs.Eaching.{each_first, each_rest, each_push}
 use Rattle.plantturns.specs.Logs.{IsWorker}
 use Rattle.workers.specs.Started.{IsStartedScans}
 use Rattle.workers.specs.LinkedShares.{AreWorkers}

@@ -1,5 +1,5 @@
 use Rattle.std.proofs.Common.{◌≡◌, ◌+◌, length}
-use Rattle.plantreceipts.specs.Each.{Each}
+use Rattle.plantturns.specs.Each.{Each}
 use Rattle.std.specs.Prelude.{vec_len, vec_capacity}
 use Rattle.workers.specs.Started.{IsStartedScans}
 use Rattle.workers.specs.LinkedShares.{AreWorkers}

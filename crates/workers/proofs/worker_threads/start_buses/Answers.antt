@@ -1,7 +1,7 @@
 use Rattle.std.proofs.Common.{◌≡◌, ◌+◌, ◌<◌, ◌∙◌, length, arith, subst, sym}
-use Rattle.plantreceipts.proofs.Eaching.{each_first, each_rest, each_push}
+use Rattle.plantturns.proofs.Eaching.{each_first, each_rest, each_push}
 use Rattle.workers.specs.WorkerThreads.{AreStartedBuses}
-use Rattle.plantdriving.specs.Links.{log_of}
+use Rattle.plantturns.specs.Links.{log_of}
 use Rattle.plantturns.specs.Logs.{IsServed}
 use Rattle.workers.specs.Started.{IsStartedBus}
 use Rattle.workers.specs.LinkedShares.{AreServed}

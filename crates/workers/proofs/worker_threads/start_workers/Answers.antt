@@ -1,5 +1,5 @@
 use Rattle.std.proofs.Common.{◌≡◌, ◌+◌, ◌<◌, ◌∙◌, length, arith, subst, sym}
-use Rattle.plantreceipts.proofs.Eaching.{each_first, each_rest, each_push}
+use Rattle.plantturns.proofs.Eaching.{each_first, each_rest, each_push}
 use Rattle.workers.specs.WorkerThreads.{AreStartedScans}
 use Rattle.plantturns.specs.Logs.{IsWorker}
 use Rattle.workers.specs.Started.{IsStartedScans}

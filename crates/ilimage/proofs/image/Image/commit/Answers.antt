@@ -5,7 +5,7 @@ use Rattle.std.proofs.lemmas.List.{length-map}
 use Rattle.iltypes.specs.Values.{AreOf}
 use Rattle.ilblocks.specs.Calls.{IsBlockOf}
 use Rattle.ilblocks.proofs.Blocks.{as_long}
-use Rattle.ilcode.specs.Listings.{lasting_types}
+use Rattle.ilverify.specs.Listings.{lasting_types}
 use Rattle.ilimage.specs.declared.slots.TaskSlot.{TaskSlot}
 use Rattle.ilimage.specs.Images.{TaskLayout, ProcessImage, layout_of, value_of, blocks_of, written_in}
 use Rattle.ilimage.specs.TaskRows.{TaskRow, shown, shown_image}

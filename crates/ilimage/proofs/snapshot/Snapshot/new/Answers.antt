@@ -7,7 +7,7 @@ use Rattle.ilblocks.specs.declared.kind.BlockKind.{BlockKind}
 use Rattle.ilblocks.specs.Calls.{Block, IsBlockOf}
 use Rattle.ilblocks.specs.Stores.{blocks_at_first}
 use Rattle.ilblocks.proofs.Stores.{at_first_are}
-use Rattle.ilcode.specs.Listings.{Listing, lasting_types}
+use Rattle.ilverify.specs.Listings.{Listing, lasting_types}
 use Rattle.ilverify.specs.Verdicts.{Accepted}
 use Rattle.ilimage.specs.Snapshots.{IsLastingOf}
 use Rattle.ilimage.proofs.snapshot.Snapshot.new.Goals as goal

@@ -5,7 +5,7 @@ use Rattle.iltypes.specs.declared.value.Value.{Value}
 use Rattle.iltypes.specs.Values.{AreOf}
 use Rattle.ilblocks.specs.Calls.{IsBlockOf}
 use Rattle.ilblocks.proofs.Blocks.{as_long}
-use Rattle.ilcode.specs.Listings.{lasting_types}
+use Rattle.ilverify.specs.Listings.{lasting_types}
 use Rattle.ilimage.specs.TaskRows.{TaskRow, task_row_of}
 use Rattle.ilimage.specs.RowSteps.{kept_task}
 use Rattle.ilimage.proofs.RowKinds.{same_kinds, joined_typed}

@@ -2,7 +2,7 @@ use Rattle.std.proofs.Common.{List, sym, subst}
 use Rattle.std.specs.Arc.{arc_value}
 use Rattle.iltypes.specs.declared.value.Value.{Value}
 use Rattle.iltypes.specs.Values.{AreOf}
-use Rattle.ilcode.specs.Listings.{lasting_types}
+use Rattle.ilverify.specs.Listings.{lasting_types}
 use Rattle.ilimage.specs.Snapshots.{MayHave}
 use Rattle.ilimage.specs.TaskRows.{TaskRow}
 use Rattle.ilimage.proofs.RowKinds.{may_set, set_slot}
