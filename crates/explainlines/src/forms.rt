@@ -94,5 +94,10 @@ pub(crate) fn fields_behind(word: &[u8]) -> &'static [Field] {
 
 /// The form of the lines of a file that begin with a word.
 pub(crate) fn form_of(forms: &'static [Form], word: &[u8]) -> Option<&'static Form> {
-    forms.iter().find(|form| form.0.as_bytes() == word)
+    for form in forms {
+        if form.0.as_bytes() == word {
+            return Some(form);
+        }
+    }
+    None
 }

@@ -79,13 +79,9 @@ fn empty_word(line: &[u8]) -> Option<usize> {
 /// Why a first word is none: lines of another file begin with it; or with the one that is meant,
 /// which is near, or differs in letter case.
 fn unknown(word: &[u8], forms: &'static [Form]) -> Reason {
-    let meant = forms.iter().find(|form| {
-        let other = form.0.as_bytes();
-        word.eq_ignore_ascii_case(other) || is_near(word, other)
-    });
-    let is_large = word.iter().any(|byte| byte.is_ascii_uppercase());
+    let meant = meant_form(word, forms);
     let (what, cure) = match meant {
-        Some(_) if is_large => ("{word} is not in small letters", KNOWN),
+        Some(_) if has_capital(word) => ("{word} is not in small letters", KNOWN),
         Some(_) => ("no line begins with {word}", KNOWN),
         None if form_of(BINDING, word).is_some() => ("{word} begins a line of a binding", ORDER),
         None if form_of(SCENARIO, word).is_some() => ("{word} begins a line of a scenario", ORDER),
@@ -97,6 +93,31 @@ fn unknown(word: &[u8], forms: &'static [Form]) -> Reason {
         Some(form) => reason.meaning(Meant::With(form.0)),
         None => reason,
     }
+}
+
+/// The form whose first word another one is meant for.
+fn meant_form(word: &[u8], forms: &'static [Form]) -> Option<&'static Form> {
+    for form in forms {
+        if is_meant(word, form.0) {
+            return Some(form);
+        }
+    }
+    None
+}
+
+/// Whether a word is meant for another one: it is near, or differs in letter case.
+fn is_meant(word: &[u8], other: &str) -> bool {
+    word.eq_ignore_ascii_case(other.as_bytes()) || is_near(word, other.as_bytes())
+}
+
+/// Whether a capital letter stands in a word.
+fn has_capital(word: &[u8]) -> bool {
+    for byte in word {
+        if byte.is_ascii_uppercase() {
+            return true;
+        }
+    }
+    false
 }
 
 /// Why the words behind the first are bad: one is not what it has to be, is too much, or is
@@ -126,12 +147,14 @@ fn bad_fields(line: &[u8], form: &Form) -> Option<Reason> {
 
 /// The part that a word begins, with those that may stand behind it.
 fn part_at(parts: &'static [Part], word: &[u8]) -> Option<(&'static Part, &'static [Part])> {
-    let at = parts.iter().position(|part| part.0.as_bytes() == word)?;
-    let (_, left) = parts.split_at(at.min(parts.len()));
-    let [part, rest @ ..] = left else {
-        return None;
-    };
-    Some((part, if part.2 { left } else { rest }))
+    for (index, part) in parts.iter().enumerate() {
+        if part.0.as_bytes() == word {
+            let from = index.saturating_add(usize::from(!part.2));
+            let (_, left) = parts.split_at(from.min(parts.len()));
+            return Some((part, left));
+        }
+    }
+    None
 }
 
 /// What helps where a number, a place or a frame is wanted.
@@ -155,7 +178,7 @@ fn unmet(field: Field, word: &[u8]) -> Reason {
     };
     let is_number = number_of(word, u64::MAX).is_some();
     let near = near_in(list, word);
-    let is_listed = near.is_some_and(|one| one.as_bytes().eq_ignore_ascii_case(word));
+    let is_listed = matches!(near, Some(one) if one.as_bytes().eq_ignore_ascii_case(word));
     let what = match field {
         _ if word.is_empty() => "the {name} is missing",
         Field::Number(_, _, u64::MAX) if is_number => "the {name} is {word}, and not {0} or more",
@@ -177,23 +200,38 @@ fn unmet(field: Field, word: &[u8]) -> Reason {
     }
 }
 
-/// The word of a list that another one is meant for: it is near, or differs in letter case.
+/// The word of a list that another one is meant for.
 fn near_in(list: &'static str, word: &[u8]) -> Option<&'static str> {
-    list.split(SIGNS).find(|one| {
-        let one = one.as_bytes();
-        word.eq_ignore_ascii_case(one) || is_near(word, one)
-    })
+    for one in list.split(SIGNS) {
+        if is_meant(word, one) {
+            return Some(one);
+        }
+    }
+    None
+}
+
+/// Whether a word stands in a list.
+fn is_in(list: &str, word: &[u8]) -> bool {
+    for one in list.split(SIGNS) {
+        if one.as_bytes() == word {
+            return true;
+        }
+    }
+    false
 }
 
 /// Whether a word is as its field says.
 fn is_met(field: Field, word: &[u8]) -> bool {
     match field {
-        Field::Number(_, least, most) => number_of(word, most).is_some_and(|one| one >= least),
-        Field::Place => parts_around_dot(word).is_some_and(|(bus, number)| {
-            number_of(bus, u64::from(MOST_BUSES - 1)).is_some()
-                && number_of(number, u64::from(MOST_SOURCES - 1)).is_some()
-        }),
-        Field::OneOf(_, list) => list.split(SIGNS).any(|one| one.as_bytes() == word),
+        Field::Number(_, least, most) => matches!(number_of(word, most), Some(one) if one >= least),
+        Field::Place => match parts_around_dot(word) {
+            Some((bus, number)) => {
+                number_of(bus, u64::from(MOST_BUSES - 1)).is_some()
+                    && number_of(number, u64::from(MOST_SOURCES - 1)).is_some()
+            }
+            None => false,
+        },
+        Field::OneOf(_, list) => is_in(list, word),
         Field::Frame => hex_of(word).is_some(),
     }
 }
@@ -201,7 +239,7 @@ fn is_met(field: Field, word: &[u8]) -> bool {
 /// Why a word is one too many, where these parts may follow. A number of 64 on is no second
 /// address, but a level.
 fn too_many(form: &Form, parts: &[Part], word: &[u8]) -> Reason {
-    let is_level = number_of(word, 254).is_some_and(|level| level >= 64);
+    let is_level = matches!(number_of(word, 254), Some(64..));
     let (what, cure, meant) = match (word, parts) {
         ([b'#', ..], _) => (TOO_MANY, "give a comment a line of its own", SMALL),
         ([b'(', b'*', ..] | [b'/', b'/', ..] | [b';', ..], _) => {
@@ -213,7 +251,7 @@ fn too_many(form: &Form, parts: &[Part], word: &[u8]) -> Reason {
             let cure = "write the word `level` before it";
             (what, cure, Meant::With("level {word}"))
         }
-        _ if parts_of(form).iter().any(|part| part.0.as_bytes() == word) => {
+        _ if part_at(parts_of(form), word).is_some() => {
             let cure = "give the level once, then the groups, and then the scenes";
             (TOO_MANY, cure, SMALL)
         }

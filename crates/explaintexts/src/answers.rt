@@ -1,5 +1,6 @@
 //! What is said of a fault of a text.
 
+use crate::bytes::place_of_pair;
 use crate::examples::{example_of, is_in_call};
 use crate::filling::{first_answer, given_len};
 use crate::habits::habit_at;
@@ -121,10 +122,7 @@ fn unnamed(standing: &Standing) -> Option<Said> {
 /// the line where the text reads with it; or how a call is written, where one is open.
 fn equals(standing: &Standing) -> [Option<Said>; 3] {
     let Standing { spot, around, .. } = standing;
-    let comment = spot
-        .rest()
-        .windows(2)
-        .position(|pair| pair == b"(*".as_slice());
+    let comment = place_of_pair(spot.rest(), b"(*");
     let code_len = comment.unwrap_or(spot.rest().len());
     let code = (spot.at, spot.at.saturating_add(code_len));
     let sign = (spot.at, spot.at.saturating_add(given_len(spot.rest())));

@@ -1,8 +1,9 @@
 //! Numbers with a fraction or an exponent, in whole numbers.
 
+use crate::bytes::{count_of_digits, place_of_any};
 use crate::habit_rows::FRACTION;
 use crate::said::{Place, Said, advice};
-use explaincures::{Advice, Spot, part};
+use explaincures::{Advice, Spot, content_len, part};
 
 const WHOLE: Advice = advice!("a whole number with a dot or an exponent";
     "write it in digits alone: there are no fractions and no exponents";
@@ -22,7 +23,7 @@ impl Decimal {
         let (digits, exponent) = parted(written, b"eE");
         let (front, behind) = parted(digits, b".,");
         let number = with_digits(with_digits(0, front)?, part(behind, 1, behind.len()))?;
-        let places = behind.iter().filter(|byte| byte.is_ascii_digit()).count();
+        let places = count_of_digits(behind);
         let (is_small, power) = match exponent {
             [] if !behind.is_empty() => (false, exponent),
             [_, b'-', power @ ..] => (true, power),
@@ -51,7 +52,7 @@ impl Decimal {
         let whole = quotient(number, divisor);
         let said = Said::of(if whole.is_some() { WHOLE } else { FRACTION }, place);
         let (first, behind) = spot.first_place();
-        let is_operand = spot.part(behind, place.0).iter().all(|byte| *byte == b' ');
+        let is_operand = content_len(spot.part(behind, place.0)) == 0;
         let is_division = is_operand && spot.first_word().eq_ignore_ascii_case(b"DIV");
         let is_product = is_operand && spot.first_word().eq_ignore_ascii_case(b"MUL");
         match whole {
@@ -66,7 +67,7 @@ impl Decimal {
 
 /// What stands before the first of two bytes, and the rest.
 fn parted<'a>(bytes: &'a [u8], ends: &[u8; 2]) -> (&'a [u8], &'a [u8]) {
-    let end = bytes.iter().position(|byte| ends.contains(byte));
+    let end = place_of_any(bytes, ends);
     bytes.split_at(end.unwrap_or(bytes.len()).min(bytes.len()))
 }
 

@@ -1,5 +1,6 @@
 //! What people write, changed to what is meant.
 
+use crate::bytes::{place_of_any, place_of_pair};
 use crate::habit::Fix;
 use crate::habits::{is_apart, is_name};
 use crate::said::{Change, Place, Said, Standing};
@@ -71,29 +72,33 @@ pub(crate) fn meant(standing: &Standing, row: Advice, fix: Fix) -> Said {
 
 /// What stands from the place up to the end of the line, changed.
 fn behind(said: Said, spot: &Spot, fix: Fix) -> Said {
-    let content = |len: usize| spot.trimmed(spot.at.saturating_add(len), spot.line_to);
     let line = (spot.at, spot.line_to);
     match fix {
         Fix::Found(len, word) => {
             let to = spot.at.saturating_add(usize::from(len));
             said.put((spot.at, to), word)
         }
-        Fix::Rest(len, with) => said.put_parts(line, with, [content(usize::from(len)); 2]),
+        Fix::Rest(len, with) => said.put_parts(line, with, [content(spot, usize::from(len)); 2]),
         Fix::Turned => {
-            let name = content(spot.token().len());
+            let name = content(spot, spot.token().len());
             said.put_parts(line, "{1} : {0}", [(spot.at, spot.found_to()), name])
         }
         _ => {
             let word = spot.first_place();
             let said = said.put((word.0, spot.line_to), "{0} {1}\n{i}{0} {2}");
             let first = spot.trimmed(word.1, spot.at);
-            let second = content(1);
+            let second = content(spot, 1);
             Said {
                 parts: [word, first, second, second, second],
                 ..said
             }
         }
     }
+}
+
+/// Where what stands behind so many characters begins and ends on the line.
+fn content(spot: &Spot, len: usize) -> Place {
+    spot.trimmed(spot.at.saturating_add(len), spot.line_to)
 }
 
 /// What stands up to the end of the line, without the parentheses around it; or as a comment,
@@ -166,7 +171,7 @@ pub(crate) fn call_before(spot: &Spot, name: Place) -> Option<Place> {
 /// How many bytes a name in quotes has that stands first, with its quotes.
 pub(crate) fn quoted_len(bytes: &[u8]) -> Option<usize> {
     let content = bytes.get(1..)?;
-    let len = content.iter().position(|byte| *byte == b'\"')?;
+    let len = place_of_any(content, b"\"")?;
     is_name(part(content, 0, len)).then_some(len.saturating_add(2))
 }
 
@@ -174,7 +179,7 @@ pub(crate) fn quoted_len(bytes: &[u8]) -> Option<usize> {
 fn with_milliseconds(said: Said, spot: &Spot) -> Said {
     let (from, to) = spot.literal();
     let literal = spot.part(from, to);
-    let len = literal.iter().take_while(|byte| **byte != b'.').count();
+    let len = place_of_any(literal, b".").unwrap_or(literal.len());
     let with = match part(literal, len, literal.len()) {
         [_, b'0'..=b'9', b's' | b'S'] => "{0}s{1}00ms",
         [_, b'0'..=b'9', b'0'..=b'9', b's' | b'S'] => "{0}s{1}0ms",
@@ -189,11 +194,7 @@ fn with_milliseconds(said: Said, spot: &Spot) -> Said {
 /// `a := b;` as `LD b` and `ST a`, `a := NOT b;` with LDN, and `a := b OP c;` with the operator's
 /// word and `c` on a line between; behind ST too.
 fn load_and_store(said: Said, spot: &Spot) -> Said {
-    let sign = spot
-        .rest()
-        .windows(2)
-        .position(|pair| pair == b":=".as_slice());
-    let (sign, value) = match sign {
+    let (sign, value) = match place_of_pair(spot.rest(), b":=") {
         Some(len) => (len, len.saturating_add(2)),
         None => (0, 1),
     };
@@ -236,8 +237,10 @@ fn load_and_store(said: Said, spot: &Spot) -> Said {
 
 /// The word of an operator of Structured Text; empty where it is none.
 pub(crate) fn word_of(operator: &[u8]) -> &'static str {
-    match OPERATORS.iter().find(|row| is_one_of(operator, &[row.0])) {
-        Some((_, word)) => word,
-        None => "",
+    for (sign, word) in OPERATORS {
+        if is_one_of(operator, &[*sign]) {
+            return *word;
+        }
     }
+    ""
 }

@@ -1,5 +1,6 @@
 //! What people write who come from other languages, where it stands in a text.
 
+use crate::bytes::{count_of_digits, digits_len, is_digits, place_of_pair};
 use crate::examples::{JUMPS, is_in_call};
 use crate::fixes::{meant, quoted_len};
 use crate::habit::{Habit, Part, Where};
@@ -36,7 +37,13 @@ const OTHER_TYPES: &[&str] = &["BOOL", "TIME", "TON", "CTU", "R_TRIG"];
 
 /// What is said of what people write, where that stands at a place: of the first that fits.
 pub(crate) fn habit_at(standing: &Standing) -> Option<Said> {
-    (0..9).find_map(|number| first_of(table(number), standing))
+    for number in 0..9 {
+        let said = first_of(table(number), standing);
+        if said.is_some() {
+            return said;
+        }
+    }
+    None
 }
 
 /// The first of some habits that fits.
@@ -68,10 +75,7 @@ fn is_written(kind: Part, words: &[&str], standing: &Standing) -> bool {
         Part::Literal => begins(literal, words),
         Part::Whole => is_one_of(literal, words),
         Part::Unit => {
-            let digits = literal
-                .iter()
-                .take_while(|byte| byte.is_ascii_digit())
-                .count();
+            let digits = digits_len(literal);
             digits > 0 && is_one_of(part(literal, digits, literal.len()), words)
         }
         Part::Second => is_second(standing, words),
@@ -95,7 +99,7 @@ fn fits(at: Where, standing: &Standing) -> bool {
         Where::Declares => around.is_in_body() && is_declaration(spot),
         Where::Behind => is_behind_var(standing),
         Where::Titled => {
-            let is_open = around.unit.is_some_and(|unit| unit.name.is_none());
+            let is_open = matches!(around.unit, Some(unit) if unit.name.is_none());
             is_open && is_one_of(standing.before(), &["FUNCTION"])
         }
         Where::InFunction => around.unit_word() == Some(Keyword::Function),
@@ -131,12 +135,13 @@ fn fits(at: Where, standing: &Standing) -> bool {
 
 /// Whether a type stands behind a colon on the line of a place, which begins with a name.
 fn is_declaration(spot: &Spot) -> bool {
-    let mut colons = spot.line().split(|byte| *byte == b':').skip(1);
-    let is_type = |piece: &[u8]| {
+    for piece in spot.line().split(|byte| *byte == b':').skip(1) {
         let word = Spot::of(piece.trim_ascii_start(), 0).token();
-        is_one_of(word, INTEGERS) || is_one_of(word, OTHER_TYPES)
-    };
-    is_name(spot.first_word()) && colons.any(is_type)
+        if is_one_of(word, INTEGERS) || is_one_of(word, OTHER_TYPES) {
+            return is_name(spot.first_word());
+        }
+    }
+    false
 }
 
 /// Whether a name was found behind VAR with a word on its line.
@@ -144,8 +149,8 @@ fn is_behind_var(standing: &Standing) -> bool {
     let Standing { spot, around, .. } = standing;
     let word = Spot::of(spot.text, around.before.0);
     let var_to = content_len(spot.part(0, word.at));
-    let is_var = around.block.is_some_and(|block| block.at.saturating_add(3) == var_to
-        && word.line_from <= block.at);
+    let is_var = matches!(around.block, Some(block)
+        if block.at.saturating_add(3) == var_to && word.line_from <= block.at);
     is_var && is_name(spot.token())
 }
 
@@ -196,7 +201,7 @@ fn fits_words(at: Where, standing: &Standing) -> bool {
     let Standing { spot, around, .. } = standing;
     let (before, rest) = (standing.before(), spot.rest());
     let is_behind = around.before.0 >= spot.line_from && around.before.1 > spot.line_from;
-    let is_number = before.iter().all(|byte| byte.is_ascii_digit());
+    let is_number = is_digits(before);
     match at {
         Where::Goes => {
             let behind = part(rest, 1, rest.len()).trim_ascii_start();
@@ -308,9 +313,7 @@ fn is_untyped(standing: &Standing) -> bool {
 fn is_begun(standing: &Standing) -> bool {
     let around = &standing.around;
     let is_behind = standing.before() == b";".as_slice();
-    around
-        .block
-        .is_some_and(|block| around.before.0 == block.at || is_behind)
+    matches!(around.block, Some(block) if around.before.0 == block.at || is_behind)
 }
 
 /// Whether a label was found among instructions: a name with a colon behind it.
@@ -332,9 +335,7 @@ pub(crate) fn is_operand(standing: &Standing) -> bool {
 /// Whether a name stands before the place among instructions, which is not that of what is open.
 fn is_behind_name(standing: &Standing) -> bool {
     let around = &standing.around;
-    let is_title = around
-        .unit
-        .is_some_and(|unit| unit.name == Some(around.before));
+    let is_title = matches!(around.unit, Some(unit) if unit.name == Some(around.before));
     around.is_in_body() && !is_title && is_name(standing.before())
 }
 
@@ -358,8 +359,7 @@ fn is_hexadecimal(spot: &Spot) -> bool {
         [b'h' | b'H', digits @ ..] => digits,
         _ => written,
     };
-    let is_mixed = written.iter().any(|byte| byte.is_ascii_digit())
-        && written.iter().any(|byte| byte.is_ascii_alphabetic());
+    let is_mixed = count_of_digits(written) > 0 && !is_digits(written);
     let is_known = is_mixed || is_one_of(written, &["FF", "FE", "HFF", "HFE"]);
     is_known && digits.iter().all(|byte| byte.is_ascii_hexdigit())
 }
@@ -376,7 +376,7 @@ fn is_between_digits(spot: &Spot) -> bool {
 
 /// Whether `:=` stands behind the place on its line.
 fn has_inputs(spot: &Spot) -> bool {
-    spot.rest().windows(2).any(|pair| pair == b":=".as_slice())
+    place_of_pair(spot.rest(), b":=").is_some()
 }
 
 /// Whether a blank stands before the place.
@@ -386,8 +386,12 @@ pub(crate) fn is_apart(spot: &Spot) -> bool {
 
 /// Whether bytes begin with one of some words, letter case aside.
 fn begins(bytes: &[u8], words: &[&str]) -> bool {
-    let is_first = |word: &&str| is_one_of(part(bytes, 0, word.len()), &[*word]);
-    words.iter().any(is_first)
+    for word in words {
+        if is_one_of(part(bytes, 0, word.len()), &[*word]) {
+            return true;
+        }
+    }
+    false
 }
 
 /// What a word is that stands first.

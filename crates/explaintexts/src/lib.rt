@@ -10,6 +10,7 @@
 #![tactic(auto)]
 
 mod answers;
+mod bytes;
 mod decimals;
 mod examples;
 mod filling;

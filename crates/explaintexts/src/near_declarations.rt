@@ -1,6 +1,7 @@
 //! What is nearly right in declarations, times and addresses: a blank, a dot or a sign too many, or
 //! another one in its place.
 
+use crate::bytes::{count_of_pair, place_of_any, place_of_pair};
 use crate::habit_rows::NESTED_COMMENT;
 use crate::habits::{is_name, kind_of};
 use crate::said::{Place, Said, Standing, advice};
@@ -59,12 +60,9 @@ const FOREIGN: &[&str] = &["let", "var", "const"];
 /// What is said of what stands behind the first `*)` of a comment with another one in it.
 pub(crate) fn nested_comment(standing: &Standing) -> Option<Said> {
     let spot = &standing.spot;
-    let is_begin = |pair: &[u8]| pair == b"(*".as_slice();
-    let is_end = |pair: &[u8]| pair == b"*)".as_slice();
-    let front = spot.front();
-    let begun = front.windows(2).filter(|pair| is_begin(pair)).count();
-    let ended = front.windows(2).filter(|pair| is_end(pair)).count();
-    let is_nested = begun > ended && spot.rest().windows(2).any(is_end);
+    let begun = count_of_pair(spot.front(), b"(*");
+    let ended = count_of_pair(spot.front(), b"*)");
+    let is_nested = begun > ended && place_of_pair(spot.rest(), b"*)").is_some();
     (is_nested && ended > 0).then_some(Said::of(NESTED_COMMENT, (spot.at, spot.found_to())))
 }
 
@@ -99,7 +97,7 @@ pub(crate) fn near_declaration(standing: &Standing) -> Option<Said> {
         ([b','], [b':', ..]) => Some(Said::of(LONE_COMMA, found).put(around.before, "")),
         ([b'.', b'.'], [b'.', ..]) => Some(Said::of(TWO_DOTS, found).put(found, "")),
         (_, [b'(', ..]) if is_one_of(before, &["BOOL", "TIME"]) => {
-            let len = spot.rest().iter().position(|byte| *byte == b')');
+            let len = place_of_any(spot.rest(), b")");
             let to = spot.at.saturating_add(len?).saturating_add(1);
             Some(Said::of(NO_RANGE, found).put((around.before.1, to), ""))
         }
@@ -111,7 +109,7 @@ pub(crate) fn near_declaration(standing: &Standing) -> Option<Said> {
 fn begins_declaration(standing: &Standing) -> bool {
     let Standing { spot, around, .. } = standing;
     let last = Surroundings::of(spot.text, around.before.0).before;
-    let is_begun = around.innermost().is_some_and(|open| open.at == last.0);
+    let is_begun = matches!(around.innermost(), Some(open) if open.at == last.0);
     is_begun || matches!(spot.part(last.0, last.1), [b';' | b','])
 }
 

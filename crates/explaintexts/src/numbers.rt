@@ -1,6 +1,7 @@
 //! What is said of what was meant as a number and is none: it has a fraction, a digit that its base
 //! does not have, or letters.
 
+use crate::bytes::{digits_len, place_of_any, place_of_pair};
 use crate::decimals::Decimal;
 use crate::habit_rows::{BASED, DOTTED, FRACTION, GROUPED, PERCENT};
 use crate::said::{Place, Said, Standing, advice};
@@ -26,10 +27,7 @@ pub(crate) fn numbers(standing: &Standing) -> [Option<Said>; 2] {
         return [None, None];
     };
     let number = spot.part(place.0, place.1);
-    let said = match (
-        number.iter().position(|byte| *byte == b'#'),
-        Decimal::of(number),
-    ) {
+    let said = match (place_of_any(number, b"#"), Decimal::of(number)) {
         (Some(base), _) => based(spot, place, base),
         _ if is_grouped(number) => Some(Said::of(GROUPED, place)),
         (None, Some(_)) if is_time(spot) => Some(Said::of(NO_TIME, place)),
@@ -44,14 +42,17 @@ pub(crate) fn numbers(standing: &Standing) -> [Option<Said>; 2] {
 
 /// Whether three digits stand behind a dot or a comma, which may be there for a thousand.
 fn is_grouped(number: &[u8]) -> bool {
-    let is_digit = |byte: &&u8| byte.is_ascii_digit();
-    let front = number.iter().take_while(is_digit).count();
+    let front = digits_len(number);
     let behind = part(number, front.saturating_add(1), number.len());
-    let digits = behind.iter().take_while(is_digit).count();
-    let is_parted = |place: usize| matches!(number.get(place), Some(b'.' | b','));
     let end = front.saturating_add(4);
-    let is_sole = digits == 3 && is_parted(front) && (end >= number.len() || is_parted(end));
+    let is_end = end >= number.len() || is_parted(number, end);
+    let is_sole = digits_len(behind) == 3 && is_parted(number, front) && is_end;
     is_sole && front > 0 && front < 4 && !number.starts_with(b"0")
+}
+
+/// Whether a dot or a comma stands at a place of a number.
+fn is_parted(number: &[u8], place: usize) -> bool {
+    matches!(number.get(place), Some(b'.' | b','))
 }
 
 /// Whether a time is given there: behind PT, or in the line before a store to it.
@@ -62,12 +63,15 @@ fn is_time(spot: &Spot) -> bool {
         _ => b"",
     };
     let next = spot.part(spot.line_to, spot.next_line_to());
-    [named, next].iter().any(|bytes| {
-        matches!(
-            bytes.trim_ascii_end(),
-            [.., b'(' | b',' | b' ' | b'.', b'P' | b'p', b'T' | b't']
-        )
-    })
+    is_input_of_time(named) || is_input_of_time(next)
+}
+
+/// Whether PT stands last, as an input or a port.
+fn is_input_of_time(bytes: &[u8]) -> bool {
+    matches!(
+        bytes.trim_ascii_end(),
+        [.., b'(' | b',' | b' ' | b'.', b'P' | b'p', b'T' | b't']
+    )
 }
 
 /// What is said of a number with other characters than digits.
@@ -142,14 +146,13 @@ fn is_comma_inside(spot: &Spot) -> bool {
 /// Where what belongs to a number stands around the place, up to two dots.
 fn without_ranges(spot: &Spot) -> Place {
     let (first, last) = spot.literal();
-    let is_range = |pair: &[u8]| pair == b"..".as_slice();
     let front = spot.part(first, spot.at.saturating_add(1));
-    let from = match front.windows(2).rposition(is_range) {
+    let from = match front.windows(2).rposition(|pair| pair == b"..".as_slice()) {
         Some(place) => first.saturating_add(place).saturating_add(2),
         None => first,
     };
     let behind = spot.part(spot.at, last);
-    match behind.windows(2).position(is_range) {
+    match place_of_pair(behind, b"..") {
         Some(place) => (from, spot.at.saturating_add(place)),
         None => (from, last),
     }

@@ -34,27 +34,30 @@ pub(crate) fn second_word(standing: &Standing) -> Option<Said> {
     let is_sole = content_len(spot.part(to, first.0)) == 0
         && content_len(spot.part(found.1, spot.line_to)) == 0;
     let is_load = is_sole && is_one_of(spot.part(word, to), &["LD"]);
-    let said = |row: Advice| Said::of(row, found);
     if is_load && stands_above(spot, &["FUNCTION"], standing.before()) {
         let lines = "LD {1}\n{i}{0}";
-        return Some(said(CALLED).put_parts((word, found.1), lines, [first, found]));
+        let said = Said::of(CALLED, found);
+        return Some(said.put_parts((word, found.1), lines, [first, found]));
     }
     if is_one_of(spot.token(), PORTS) {
-        return Some(said(NO_DOT).put_parts((first.0, found.1), "{0}.{1}", [first, found]));
+        let said = Said::of(NO_DOT, found);
+        return Some(said.put_parts((first.0, found.1), "{0}.{1}", [first, found]));
     }
     let is_operand_of = is_one_of(spot.part(word, to), WITH_OPERAND);
-    is_operand_of.then_some(said(PARTED_NAME).put((first.1, spot.at), "_"))
+    is_operand_of.then_some(Said::of(PARTED_NAME, found).put((first.1, spot.at), "_"))
 }
 
 /// Whether a line above begins with one of some words, and a name behind it.
 pub(crate) fn stands_above(spot: &Spot, words: &[&str], name: &[u8]) -> bool {
-    let is_its = |line: &[u8]| {
+    let above = spot.part(0, spot.line_from);
+    for line in above.split(|byte| *byte == b'\n') {
         let line = Spot::of(line, 0);
         let (_, to) = line.first_place();
         let (from, _) = line.trimmed(to, line.line_to);
         let is_named = Spot::of(line.text, from).token().eq_ignore_ascii_case(name);
-        is_named && is_one_of(line.first_word(), words)
-    };
-    let above = spot.part(0, spot.line_from);
-    above.split(|byte| *byte == b'\n').any(is_its)
+        if is_named && is_one_of(line.first_word(), words) {
+            return true;
+        }
+    }
+    false
 }

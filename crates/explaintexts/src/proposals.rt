@@ -2,6 +2,7 @@
 //! that could stand there is put in place of what was found or before it, the line is broken, or a
 //! sign is left out.
 
+use crate::bytes::is_digits;
 use crate::said::{Change, Place, Said, Standing, Trial, advice};
 use explaincures::{
     Advice, Group, OpenConstruct, Possible, Spot, content_len, is_one_of, line_number, near_word,
@@ -79,16 +80,18 @@ fn meant_end(standing: &Standing, possible: &Possible) -> Option<&'static str> {
 fn unopened(standing: &Standing) -> Option<Said> {
     let Standing { spot, around, .. } = standing;
     let word = spot.token();
-    let is_its = |open: &Option<OpenConstruct>| {
-        open.is_some_and(|one| is_one_of(word, &[one.words().1]))
-    };
     let row = advice!("{0} ends nothing that is open here";
         "leave it out, or begin above it what it ends";
         "VAR count : UINT; END_VAR");
-    let is_open = [around.unit, around.resource, around.block]
-        .iter()
-        .any(is_its);
+    let is_open = ends(word, around.unit)
+        || ends(word, around.resource)
+        || ends(word, around.block);
     (is_end(word) && !is_open).then_some(Said::of(row, (spot.at, spot.found_to())))
+}
+
+/// Whether a word ends what may be open.
+fn ends(word: &[u8], open: Option<OpenConstruct>) -> bool {
+    matches!(open, Some(one) if is_one_of(word, &[one.words().1]))
 }
 
 /// A text in place of a part, where there is a word for it.
@@ -170,7 +173,7 @@ fn only(spot: &Spot, possible: &Possible) -> Option<&'static str> {
 
 /// Whether a number stands where a time is asked for.
 fn is_timed(spot: &Spot, possible: &Possible) -> bool {
-    let is_number = spot.token().iter().all(|byte| byte.is_ascii_digit());
+    let is_number = is_digits(spot.token());
     let is_time = possible.has(Group::Time) && !possible.has(Group::Number);
     is_number && is_time && !spot.token().is_empty()
 }
