@@ -9,10 +9,11 @@ use plantload::{LoadFault, load};
 use std::alloc::Global;
 use wordlines::{Binding, LineFault};
 
-/// The files of a command, by their paths.
+/// The files of a command, by their paths, each where it is named.
 #[derive(Clone, Copy)]
 pub struct NamedFiles<'a> {
-    files: Files<'a>,
+    text: Option<&'a str>,
+    binding: Option<&'a str>,
     scenario: Option<&'a str>,
 }
 
@@ -20,34 +21,55 @@ impl<'a> NamedFiles<'a> {
     /// Those of a command that prints one line of a fault.
     pub fn of(invocation: &Invocation<'a>) -> Option<NamedFiles<'a>> {
         match invocation {
-            Invocation::Ask(inquiry) => NamedFiles::without_scenario(inquiry.files()),
+            Invocation::Ask(inquiry) => Some(NamedFiles::without_scenario(inquiry.files())),
             Invocation::Play { files, .. }
             | Invocation::Run { files, .. }
             | Invocation::Look { files, .. } => Some(NamedFiles {
-                files: Files {
-                    text: files.text,
-                    binding: Some(files.binding),
-                },
+                text: Some(files.text),
+                binding: Some(files.binding),
                 scenario: Some(files.scenario),
             }),
-            Invocation::Code { files, .. } => NamedFiles::without_scenario(*files),
+            Invocation::Code { files, .. } => Some(NamedFiles::without_scenario(*files)),
             Invocation::Tell { files, question } if has_fault_line(*question) => {
-                NamedFiles::without_scenario(*files)
+                Some(NamedFiles::without_scenario(*files))
             }
-            Invocation::Live { files, .. } => NamedFiles::without_scenario(Files {
-                text: files.text,
+            Invocation::Live { files, .. } => Some(NamedFiles {
+                text: Some(files.text),
                 binding: Some(files.binding),
+                scenario: None,
+            }),
+            Invocation::EventLine { binding, .. } => Some(NamedFiles {
+                text: None,
+                binding: Some(*binding),
+                scenario: None,
             }),
             _ => None,
         }
     }
 
     /// A text, and a binding where there is one.
-    fn without_scenario(files: Files<'a>) -> Option<NamedFiles<'a>> {
-        Some(NamedFiles {
-            files,
+    fn without_scenario(files: Files<'a>) -> NamedFiles<'a> {
+        NamedFiles {
+            text: Some(files.text),
+            binding: files.binding,
             scenario: None,
-        })
+        }
+    }
+
+    /// The paths, in the order in which they stand in a command.
+    fn paths(self) -> [Option<&'a str>; 3] {
+        [self.text, self.binding, self.scenario]
+    }
+
+    /// How many of the paths are this one.
+    fn count(self, path: &str) -> usize {
+        let mut count = 0_usize;
+        for named in self.paths() {
+            if named == Some(path) {
+                count = count.saturating_add(1);
+            }
+        }
+        count
     }
 }
 
@@ -68,10 +90,12 @@ enum Kind {
 }
 
 impl Kind {
-    /// What a file without a fault is.
+    /// What a file without a fault is. Comments alone are a scenario too, and nobody means one.
     fn of(alloc: Global, bytes: &[u8]) -> Option<Kind> {
         if Binding::parse(alloc, bytes).is_ok() {
             Some(Kind::Binding)
+        } else if !has_words(bytes) {
+            None
         } else if simbus::parse(alloc, bytes).is_ok() {
             Some(Kind::Scenario)
         } else if parse(alloc, bytes).is_ok() {
@@ -91,6 +115,16 @@ impl Kind {
     }
 }
 
+/// Whether a line has more than a comment.
+fn has_words(bytes: &[u8]) -> bool {
+    for line in bytes.split(|byte| *byte == b'\n') {
+        if !matches!(line.trim_ascii(), [] | [b'#', ..]) {
+            return true;
+        }
+    }
+    false
+}
+
 /// The file with the first fault.
 #[derive(Clone, Copy)]
 pub struct Hint<'a> {
@@ -105,9 +139,10 @@ pub struct Hint<'a> {
 /// The file with the first fault, in the order in which files are read; none where there is no
 /// fault, a file is not read again, or memory runs out.
 pub fn hint_of<'a, D: Disk>(alloc: Global, disk: &D, named: NamedFiles<'a>) -> Option<Hint<'a>> {
-    let NamedFiles { files, scenario } = named;
-    if is_read_once(Some(files.text)) || is_read_once(files.binding) || is_read_once(scenario) {
-        return None;
+    for path in named.paths() {
+        if is_read_once(path) {
+            return None;
+        }
     }
     match check_again(alloc, disk, named) {
         Ok(()) => None,
@@ -125,16 +160,19 @@ fn check_again<'a, D: Disk>(
     disk: &D,
     named: NamedFiles<'a>,
 ) -> Result<(), Option<Hint<'a>>> {
-    let binding = match named.files.binding {
+    let binding = match named.binding {
         Some(path) => binding_in(alloc, named, path, &read_again(alloc, disk, path)?)?,
         None => Binding::one_bus(alloc),
     };
-    check_text(
-        alloc,
-        named,
-        &binding,
-        &read_again(alloc, disk, named.files.text)?,
-    )?;
+    if let Some(path) = named.text {
+        check_text(
+            alloc,
+            named,
+            path,
+            &binding,
+            &read_again(alloc, disk, path)?,
+        )?;
+    }
     match named.scenario {
         Some(path) => check_scenario(alloc, named, path, &read_again(alloc, disk, path)?),
         None => Ok(()),
@@ -183,13 +221,14 @@ fn binding_in<'a>(
 fn check_text<'a>(
     alloc: Global,
     named: NamedFiles<'a>,
+    path: &'a str,
     binding: &Binding,
     bytes: &[u8],
 ) -> Result<(), Option<Hint<'a>>> {
     match load(alloc, bytes, binding) {
         Ok(_) => Ok(()),
         Err(LoadFault::Memory) => Err(None),
-        Err(_) => Err(hint_at(alloc, named, named.files.text, Kind::Text, bytes)),
+        Err(_) => Err(hint_at(alloc, named, path, Kind::Text, bytes)),
     }
 }
 
@@ -219,6 +258,22 @@ fn is_read_once(path: Option<&str>) -> bool {
     }
 }
 
+/// That a file of another kind stands in the place of the text, where one does.
+pub(crate) fn misplaced_text<'a>(
+    alloc: Global,
+    files: Files<'a>,
+    bytes: &[u8],
+) -> Option<Hint<'a>> {
+    let hint = hint_at(
+        alloc,
+        NamedFiles::without_scenario(files),
+        files.text,
+        Kind::Text,
+        bytes,
+    )?;
+    hint.is_misplaced().then_some(hint)
+}
+
 /// That a file with these bytes has the first fault.
 fn hint_at<'a>(
     alloc: Global,
@@ -236,6 +291,14 @@ fn hint_at<'a>(
 }
 
 impl Hint<'_> {
+    /// Whether the file is one of another kind.
+    fn is_misplaced(&self) -> bool {
+        match self.kind {
+            Some(kind) => kind != self.place,
+            None => false,
+        }
+    }
+
     /// The line that is printed.
     pub fn page(&self, alloc: Global) -> Page {
         let mut page = Page::new(alloc);
@@ -254,7 +317,9 @@ impl Hint<'_> {
         page.text(", where ");
         page.text(self.place.words());
         page.text(" is asked for");
-        if self.files.files.binding.is_some() {
+        if self.files.count(self.path) > 1 {
+            page.text(": it stands twice");
+        } else if self.files.binding.is_some() {
             page.text(": exchange the files");
         }
     }
@@ -262,8 +327,11 @@ impl Hint<'_> {
     /// Adds how to have the fault explained.
     fn say_fault(&self, page: &mut Page) {
         add_texts(page, &["the fault is in ", self.path, ": dalictl explain "]);
-        add_typed(page, self.files.files.text);
-        if let Some(binding) = self.files.files.binding {
+        match self.files.text {
+            Some(text) => add_typed(page, text),
+            None => page.text("TEXT"),
+        }
+        if let Some(binding) = self.files.binding {
             page.text(" ");
             add_typed(page, binding);
         }
@@ -274,8 +342,9 @@ impl Hint<'_> {
     }
 }
 
-/// Adds a path as it is typed in a shell.
+/// Adds a path as it is typed in a shell, where a word that begins with a minus is an option.
 fn add_typed(page: &mut Page, path: &str) {
+    page.text(if path.starts_with('-') { "./" } else { "" });
     if path.chars().all(is_plain) {
         page.text(path);
         return;

@@ -1,5 +1,6 @@
 //! Telling what installers ask of a text: notes on it, its words, and what stands against it.
 
+use crate::hints::misplaced_text;
 use crate::objects::{write_explanation, write_noted, write_sizes, write_stop, write_words};
 use commandfiles::{
     Disk, ExitStatus, PlayStop, Stop, UnknownTask, Unserved, add_texts, binding_of, bytes_at,
@@ -360,6 +361,10 @@ fn explained_text(
     match load_with_source(alloc, &sheets.text, binding) {
         Ok((setup, source)) => explained_scenario(alloc, out, asked, sheets, setup, source),
         Err(stop) => {
+            if let Some(hint) = misplaced_text(alloc, asked.files, &sheets.text) {
+                hint.page(alloc).write_to(out)?;
+                return Ok(Explained::Refused(ExitStatus::Refused));
+            }
             let text = AskedText {
                 path: asked.files.text,
                 text: &sheets.text,
