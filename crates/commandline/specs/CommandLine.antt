@@ -1,9 +1,10 @@
 -- The command line (profile): `check TEXT [BIND] [--code] [--json]`, `explain TEXT [BIND [SCENARIO]] [--json]`,
 -- `notes TEXT [BIND] [--deny NOTE] [--json]`, `list TEXT [BIND] [TASK] [--json]`, `code TEXT [BIND] [TASK] OUT`,
--- `step TEXT [BIND] [TASK] [--scans N] [--every MS]`, in each of which `--bind FILE` may stand in place of BIND,
+-- `step TEXT [BIND] [TASK] [--scans N] [--every MS]`,
 -- `play TEXT BIND SCENARIO [--keep FILE] [--limit N] [--names] [--brief] [--expect NAME=VALUE].. [--watch NAME]..`,
 -- `look TEXT BIND SCENARIO [--keep FILE] [--text] [--out FILE] [--bus B] [--from MS] [--to MS] [--watch NAME]..`,
--- `look TEXT SCENARIO --bind FILE ..`, `run TEXT BIND SCENARIO [--keep FILE] [--limit N] [--workers W]`,
+-- `run TEXT BIND SCENARIO [--keep FILE] [--limit N] [--workers W]`, in each of which `--bind FILE` may stand in place of
+-- BIND,
 -- `probe --line PATH [--patience MS] [TEXT BIND] [--bus B] [--record FILE] [--json]`,
 -- `listen --line PATH [--patience MS] [--bind FILE] [--bus B] [--record FILE] [--for SECONDS] [--stop PATH]`,
 -- `blink --line PATH [--patience MS] ADR`, `ask --line PATH [--patience MS] REQUEST ADR [VALUE] [VALUE2]`,
@@ -112,8 +113,7 @@ step_command =
 -- a command of this name on the files of a scenario, and on that of the kept values with which it may begin
 abbrev pub scenario_files : Text → App
 scenario_files name =
-    with_rule (with_rule (with_rule (with_rule (new_app name) (wanted (codes "TEXT"))) (wanted (codes "BIND")))
-    (wanted (codes "SCENARIO")))
+    with_rule (with_rule (with_rule (text_files name) (optional (codes "SCENARIO"))) (option (codes "bind")))
     (option (codes "keep"))
 
 abbrev pub play_command : App
@@ -194,14 +194,8 @@ ask_command =
     (in_range 0 255 (optional (codes "VALUE"))))
     (in_range 0 255 (optional (codes "VALUE2")))
 
-abbrev pub look_files : App
-look_files =
-    with_rule (with_rule (with_rule (text_files (codes "look")) (optional (codes "SCENARIO")))
-    (option (codes "bind")))
-    (option (codes "keep"))
-
 abbrev pub look_picture : App
-look_picture = with_rule (with_rule look_files (flag (codes "text"))) (option (codes "out"))
+look_picture = with_rule (with_rule (scenario_files (codes "look")) (flag (codes "text"))) (option (codes "out"))
 
 abbrev pub look_command : App
 look_command =
@@ -292,6 +286,7 @@ HasLastWord name found =
     ⊎ IsGivenUnder (codes "step") (codes "list") (codes "TASK") name found
     ⊎ IsGivenUnder (codes "code") (codes "code") (codes "OUT") name found
     ⊎ IsGivenUnder (codes "look") (codes "explain") (codes "SCENARIO") name found
+    ⊎ IsGivenUnder (codes "play") (codes "run") (codes "SCENARIO") name found
 
 -- what was found names the binding by `--bind`, and by a word too
 abbrev pub NamesBindingTwice : Text → List Row → Type 0
@@ -307,14 +302,18 @@ NamesNoBinding name found =
     (name ≡ codes "probe") × IsSome (first_of (codes "TEXT") found) × ¬ IsSome (first_of (codes "BIND") found)
 
 -- what was found has a word behind the text, and the binding by `--bind` or one word more
-abbrev pub HasLookFiles : List Row → Type 0
-HasLookFiles found =
+abbrev pub HasPlayFiles : List Row → Type 0
+HasPlayFiles found =
     IsSome (first_of (codes "BIND") found)
     × (IsSome (first_of (codes "bind") found) ⊎ IsSome (first_of (codes "SCENARIO") found))
 
--- what was found under `look` names no scenario, or no binding
+-- a scenario is asked for under this name
+abbrev pub IsPlayName : Text → Type 0
+IsPlayName name = (name ≡ codes "play") ⊎ (name ≡ codes "look") ⊎ (name ≡ codes "run")
+
+-- what was found under such a name names no scenario, or no binding
 abbrev pub NamesNoScenario : Text → List Row → Type 0
-NamesNoScenario name found = (name ≡ codes "look") × ¬ HasLookFiles found
+NamesNoScenario name found = IsPlayName name × ¬ HasPlayFiles found
 
 -- what was found under `code` has no word behind the text, so that no code file is named
 abbrev pub NamesNoCodeFile : Text → List Row → Type 0

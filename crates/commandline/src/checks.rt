@@ -3,9 +3,9 @@
 ghost use Rattle.std.specs.Prelude.{◌≡◌, ◌↔◌, IsSome, IsTrue, Some, codes};
 ghost use Rattle.clap.specs.Words.{first_of, found_of, one_of, rows_of};
 ghost use Rattle.commandline.specs.CommandLine.{AsksBesideCode, AsksOfText, HasLastWord};
-ghost use Rattle.commandline.specs.CommandLine.{HasLookFiles, HasNoFileBeside, HasNoLog};
+ghost use Rattle.commandline.specs.CommandLine.{HasNoFileBeside, HasNoLog, HasPlayFiles};
 ghost use Rattle.commandline.specs.CommandLine.{HasNoStatus, IsConflicting, IsGivenUnder, IsLacking};
-ghost use Rattle.commandline.specs.CommandLine.{IsInput, NamesBindingTwice, NamesInput};
+ghost use Rattle.commandline.specs.CommandLine.{IsInput, IsPlayName, NamesBindingTwice, NamesInput};
 ghost use Rattle.commandline.specs.CommandLine.{NamesNoBinding, NamesNoCodeFile, NamesNoScenario};
 ghost use Rattle.commandline.specs.CommandLine.{WritesOverInput};
 
@@ -49,6 +49,7 @@ fn has_last_word(name: &str, found: &ArgMatches) -> bool
         || is_given_under(name, found, "step", "list", "TASK")
         || is_given_under(name, found, "code", "code", "OUT")
         || is_given_under(name, found, "look", "explain", "SCENARIO")
+        || is_given_under(name, found, "play", "run", "SCENARIO")
 }
 
 /// Whether a word is given under one of two commands.
@@ -76,16 +77,23 @@ fn names_no_binding(name: &str, found: &ArgMatches) -> bool
     name == "probe" && is_given(found, "TEXT") && !is_given(found, "BIND")
 }
 
-/// Whether a scenario that is looked at is not named, or no binding for it.
+/// Whether a scenario that is played, run or looked at is not named, or no binding for it.
 fn names_no_scenario(name: &str, found: &ArgMatches) -> bool
     ensures { IsTrue result ↔ NamesNoScenario name.now (rows_of (found_of found.now)) }
 {
-    name == "look" && !has_look_files(found)
+    is_play_name(name) && !has_play_files(found)
+}
+
+/// Whether a scenario is asked for under this name.
+pub(crate) fn is_play_name(name: &str) -> bool
+    ensures { IsTrue result ↔ IsPlayName name.now }
+{
+    name == "play" || name == "look" || name == "run"
 }
 
 /// Whether there is a word behind the text, and the binding by `--bind` or one word more.
-fn has_look_files(found: &ArgMatches) -> bool
-    ensures { IsTrue result ↔ HasLookFiles (rows_of (found_of found.now)) }
+fn has_play_files(found: &ArgMatches) -> bool
+    ensures { IsTrue result ↔ HasPlayFiles (rows_of (found_of found.now)) }
 {
     is_given(found, "BIND") && (is_given(found, "bind") || is_given(found, "SCENARIO"))
 }

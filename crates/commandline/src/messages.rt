@@ -4,9 +4,9 @@ ghost use Rattle.std.specs.Prelude.{◌≡◌, IfOk};
 ghost use Rattle.clap.specs.Words.{kind_of};
 
 use crate::builders::command_of;
-use crate::checks::{asks_beside_code, has_no_status, is_given};
+use crate::checks::{asks_beside_code, has_no_status, is_given, is_play_name};
 use crate::tables::{
-    ASK, BLINK, CHECK, CODE, EXPLAIN, LIST, LISTEN, LIVE, LOOK, NOTES, PLAY, PROBE, STEP,
+    ASK, BLINK, CHECK, CODE, EXPLAIN, LIST, LISTEN, LIVE, LOOK, NOTES, PLAY, PROBE, RUN, STEP,
     Subcommand,
 };
 use clap::error::ErrorKind;
@@ -34,7 +34,7 @@ pub(crate) fn conflict(alloc: Global, name: &str, found: &ArgMatches) -> Result<
 
 /// The word that has no place beside `--bind`, under the command's name.
 fn last_word(name: &str) -> &'static str {
-    if name == "look" || name == "explain" {
+    if is_play_name(name) || name == "explain" {
         return "[SCENARIO]";
     }
     if name == "step" || name == "list" {
@@ -48,8 +48,8 @@ fn last_word(name: &str) -> &'static str {
 
 /// The command of this name among those that take a text and a binding.
 fn text_command(name: &str) -> Subcommand {
-    if name == "look" {
-        return LOOK;
+    if is_play_name(name) {
+        return play_command(name);
     }
     if name == "explain" {
         return EXPLAIN;
@@ -69,12 +69,23 @@ fn text_command(name: &str) -> Subcommand {
     CHECK
 }
 
+/// The command of this name among those that ask for a scenario.
+fn play_command(name: &str) -> Subcommand {
+    if name == "look" {
+        return LOOK;
+    }
+    if name == "run" {
+        return RUN;
+    }
+    PLAY
+}
+
 /// The fault of files that are not named.
 pub(crate) fn lack(alloc: Global, name: &str, found: &ArgMatches) -> Result<Error, AllocError>
     ensures { IfOk result (λ error. kind_of error ≡ ErrorKind.MissingRequiredArgument) }
 {
-    let (command, arguments) = if name == "look" {
-        (LOOK, look_files_that_lack(found))
+    let (command, arguments) = if is_play_name(name) {
+        (play_command(name), play_files_that_lack(found))
     } else if name == "code" {
         (CODE, "<OUT>")
     } else if name == "live" {
@@ -96,8 +107,8 @@ fn file_that_lacks(found: &ArgMatches) -> &'static str {
     "--log <FILE>"
 }
 
-/// The files that lack where a scenario is looked at.
-fn look_files_that_lack(found: &ArgMatches) -> &'static str {
+/// The files that lack where a scenario is asked for.
+fn play_files_that_lack(found: &ArgMatches) -> &'static str {
     if is_given(found, "bind") {
         return "<SCENARIO>";
     }
@@ -152,11 +163,10 @@ fn watched(alloc: Global, name: &str, fault: WatchedFault) -> Result<Error, Allo
     ensures { IfOk result (λ error. kind_of error ≡ ErrorKind.ValueValidation) }
 {
     let word = fault.name;
-    let command = if name == "look" { LOOK } else { PLAY };
     let message = format!(in alloc;
         "invalid value '{word}' for '--watch <NAME>': 16 are given before it, which is the most"
     )?;
-    command_of(alloc, command)?.error(ErrorKind::ValueValidation, message.as_str())
+    command_of(alloc, play_command(name))?.error(ErrorKind::ValueValidation, message.as_str())
 }
 
 /// The fault of a word that names no line, or a second one of a bus or of a path, under the

@@ -31,7 +31,9 @@ const TASK: Word = Word::Optional(
     "The task's name, in any letter case [default: the only one]",
 );
 
-const SCENARIO: Word = Word::Wanted("SCENARIO", "What is on the buses and what happens there");
+const BEHIND: Word = Word::Optional("BIND", "The binding of buses, or with --bind the scenario");
+
+const SCENARIO: Word = Word::Optional("SCENARIO", "What is on the buses and what happens there");
 
 const KEPT: Word = Word::Valued(
     "keep",
@@ -239,8 +241,9 @@ pub(crate) const PLAY: Subcommand = Subcommand {
     usage: "dalictl play [OPTIONS] <TEXT> <BIND> <SCENARIO>",
     words: &[
         TEXT,
-        BIND,
+        BEHIND,
         SCENARIO,
+        BINDING,
         KEPT,
         LIMIT,
         Word::Flag("names", "Prints behind each frame what it says in words"),
@@ -270,8 +273,8 @@ pub(crate) const LOOK: Subcommand = Subcommand {
     usage: "dalictl look [OPTIONS] <TEXT> <BIND> <SCENARIO>",
     words: &[
         TEXT,
-        Word::Optional("BIND", "The binding of buses, or with --bind the scenario"),
-        Word::Optional("SCENARIO", "What is on the buses and what happens there"),
+        BEHIND,
+        SCENARIO,
         BINDING,
         KEPT,
         Word::Flag("text", "Prints lines for a terminal in place of an SVG"),
@@ -308,11 +311,11 @@ pub(crate) const LOOK: Subcommand = Subcommand {
           Example: dalictl look hall.il hall.bind hall.scenario > hall.svg",
 };
 
-const RUN: Subcommand = Subcommand {
+pub(crate) const RUN: Subcommand = Subcommand {
     name: "run",
     about: "Runs a scenario on simulated buses in threads and prints what it came to",
     usage: "dalictl run [OPTIONS] <TEXT> <BIND> <SCENARIO>",
-    words: &[TEXT, BIND, SCENARIO, KEPT, LIMIT, WORKERS],
+    words: &[TEXT, BEHIND, SCENARIO, BINDING, KEPT, LIMIT, WORKERS],
     end: "Exit status: 0 it came to the scenario's end, 1 refused, 2 wrong usage, \
           3 a file isn't read, or a bus is down.{n}{n}\
           Example: dalictl run hall.il hall.bind hall.scenario",

@@ -100,11 +100,19 @@ IsQuestion name found files Sizes =
 abbrev pub IsNoQuestion : Text → Type 0
 IsNoQuestion name = ¬ (name ≡ codes "notes") × ¬ (name ≡ codes "list") × ¬ (name ≡ codes "explain")
 
--- the files that are named for a scenario that is played or run, with that of kept values, where one is given
+-- the binding and the scenario behind a text: where `--bind` names the binding, the second word is the scenario; else
+-- the second word is the binding, and the third the scenario
+abbrev pub AreBehindText : Option Text → List Row → PlayFiles → Type 0
+AreBehindText (Some binding) found files =
+    (files.binding.now ≡ binding) × (files.scenario.now ≡ given (first_of (codes "BIND") found))
+AreBehindText None found files =
+    (files.binding.now ≡ given (first_of (codes "BIND") found))
+    × (files.scenario.now ≡ given (first_of (codes "SCENARIO") found))
+
+-- the files that are named for a scenario that is played, run or looked at, with that of kept values, where one is given
 pub record ArePlayFiles (found : List Row) (files : PlayFiles) : Type 0 where
   pub text : files.text.now ≡ given (first_of (codes "TEXT") found)
-  pub binding : files.binding.now ≡ given (first_of (codes "BIND") found)
-  pub scenario : files.scenario.now ≡ given (first_of (codes "SCENARIO") found)
+  pub others : AreBehindText (first_of (codes "bind") found) found files
   pub keep : IsGivenPath (first_of (codes "keep") found) files.keep
 
 -- the words for what is expected at a play's end
@@ -122,21 +130,6 @@ pub record AreShows (found : List Row) (shows : PlayShows) : Type 0 where
   pub is_brief : IsFlag (one_of (codes "brief") found) shows.is_brief
   pub expects : AreExpected (expected_words found) shows.expects.items
   pub watches : AreWatched (watched_words found) shows.watches.items
-
--- the binding and the scenario of a scenario that is looked at: where `--bind` names the binding, the second word is the
--- scenario; else the second word is the binding, and the third the scenario
-abbrev pub AreLookedAt : Option Text → List Row → PlayFiles → Type 0
-AreLookedAt (Some binding) found files =
-    (files.binding.now ≡ binding) × (files.scenario.now ≡ given (first_of (codes "BIND") found))
-AreLookedAt None found files =
-    (files.binding.now ≡ given (first_of (codes "BIND") found))
-    × (files.scenario.now ≡ given (first_of (codes "SCENARIO") found))
-
--- the files that are named for a scenario that is looked at, with that of kept values, where one is given
-pub record AreLookFiles (found : List Row) (files : PlayFiles) : Type 0 where
-  pub text : files.text.now ≡ given (first_of (codes "TEXT") found)
-  pub others : AreLookedAt (first_of (codes "bind") found) found files
-  pub keep : IsGivenPath (first_of (codes "keep") found) files.keep
 
 -- what of a scenario a picture shows, and where it goes: whether it is lines for a terminal, the path that it goes to,
 -- its bus, and the milliseconds at which it begins and ends, where they are given
@@ -278,7 +271,7 @@ IsOfCommand name found (Live files lines options) =
     × AreLiveOptions found options
 IsOfCommand name found (invocations.Tool tool) = IsOfTool name found tool
 IsOfCommand name found (Look files options watches) =
-    (name ≡ codes "look") × AreLookFiles found files × AreLookOptions found options
+    (name ≡ codes "look") × ArePlayFiles found files × AreLookOptions found options
     × AreWatched (watched_words found) watches.items
 IsOfCommand name found (Code files task to) = (name ≡ codes "code") × AreCodeWords found files task to
 IsOfCommand name found (CheckCode path) =

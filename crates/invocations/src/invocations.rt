@@ -13,7 +13,8 @@ pub enum Invocation<'a> {
     /// An answer to a text.
     Ask(Inquiry<'a>),
     /// `play TEXT BIND SCENARIO [--keep FILE] [--limit N] [--names] [--brief]
-    /// [--expect NAME=VALUE].. [--watch NAME]..`
+    /// [--expect NAME=VALUE].. [--watch NAME]..`, here and in the two others of a scenario also
+    /// with `--bind FILE` in place of BIND
     Play {
         files: PlayFiles<'a>,
         limit: u32,
@@ -35,7 +36,7 @@ pub enum Invocation<'a> {
     /// What is done at one line.
     Tool(Tool<'a>),
     /// `look TEXT BIND SCENARIO [--keep FILE] [--text] [--out FILE] [--bus B] [--from MS] [--to MS]
-    /// [--watch NAME]..`, or `look TEXT SCENARIO --bind FILE ..`
+    /// [--watch NAME]..`
     Look {
         files: PlayFiles<'a>,
         options: LookOptions<'a>,

@@ -192,14 +192,18 @@ fn beside_in<'a>(found: &ArgMatches<'a>) -> Beside<'a>
     }
 }
 
-/// The files that are named for a scenario that is played or run.
+/// The files that are named for a scenario that is played, run or looked at.
 pub(crate) fn play_files_in<'a>(found: &ArgMatches<'a>) -> PlayFiles<'a>
     ensures { ArePlayFiles (rows_of (found_of found.now)) result }
 {
+    let (binding, scenario) = match word_in(found, "bind") {
+        Some(binding) => (binding, text_in(found, "BIND")),
+        None => (text_in(found, "BIND"), text_in(found, "SCENARIO")),
+    };
     PlayFiles {
         text: text_in(found, "TEXT"),
-        binding: text_in(found, "BIND"),
-        scenario: text_in(found, "SCENARIO"),
+        binding,
+        scenario,
         keep: word_in(found, "keep"),
     }
 }

@@ -4,7 +4,7 @@
 ghost use Rattle.std.specs.Prelude.{◌≡◌, MatchResult, codes};
 ghost use Rattle.clap.specs.Words.{found_of, rows_of};
 ghost use Rattle.invocations.specs.ExpectedWords.{AreExpected, IsFirstUnexpected};
-ghost use Rattle.invocations.specs.Invocations.{AreFrameWords, AreLookFiles, AreLookOptions};
+ghost use Rattle.invocations.specs.Invocations.{AreFrameWords, AreLookOptions};
 ghost use Rattle.invocations.specs.Invocations.{IsOfCommand, IsOfFault, expected_words};
 ghost use Rattle.invocations.specs.Invocations.{watched_words};
 ghost use Rattle.invocations.specs.WatchedNames.{AreWatched, IsSeventeenth};
@@ -17,7 +17,6 @@ use crate::watched_names::{WatchedFault, WatchedNames, watched_of};
 use crate::word_fault::WordFault;
 use arrayvec::ArrayVec;
 use clap::ArgMatches;
-use options::PlayFiles;
 
 /// What is asked by what was found under `play`.
 pub(crate) fn play_in<'a>(found: &ArgMatches<'a>) -> Result<Invocation<'a>, WordFault<'a>>
@@ -69,25 +68,10 @@ pub(crate) fn look_in<'a>(found: &ArgMatches<'a>) -> Result<Invocation<'a>, Watc
 {
     let watches = watched_in(found)?;
     Ok(Invocation::Look {
-        files: look_files_in(found),
+        files: play_files_in(found),
         options: look_options_in(found),
         watches,
     })
-}
-
-/// The files that are named for a scenario that is looked at.
-fn look_files_in<'a>(found: &ArgMatches<'a>) -> PlayFiles<'a>
-    ensures { AreLookFiles (rows_of (found_of found.now)) result }
-{
-    match word_in(found, "bind") {
-        Some(binding) => PlayFiles {
-            text: text_in(found, "TEXT"),
-            binding,
-            scenario: text_in(found, "BIND"),
-            keep: word_in(found, "keep"),
-        },
-        None => play_files_in(found),
-    }
 }
 
 /// What of the scenario the picture shows, and where it goes.

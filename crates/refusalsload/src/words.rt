@@ -60,6 +60,19 @@ pub fn scenario_stands_behind_the_text<'a>(found: &ArgMatches<'a>) -> Option<Pla
     }
 }
 
+/// `bind_of_a_play_is_read_as_its_scenario`: beside `--bind` another file was the binding.
+pub fn binding_of_a_play_is_that_of_bind<'a>(found: &ArgMatches<'a>) -> Option<PlayFiles<'a>>
+    requires bind { first_of (codes "bind") (rows_of (found_of found.now)) ≡ Some (codes "hall") }
+    requires scenario { first_of (codes "BIND") (rows_of (found_of found.now)) ≡ Some (codes "day") }
+    ensures binding { IfSome result (λ files. files.binding.now ≡ codes "hall") }
+    ensures scenario { IfSome result (λ files. files.scenario.now ≡ codes "day") }
+{
+    match invocation_of("play", found) {
+        Ok(Invocation::Play { files, .. }) => Some(files),
+        _ => None,
+    }
+}
+
 /// `the_kept_values_of_a_play_are_dropped`: of a play with a file of kept values another file was
 /// read, or none.
 pub fn kept_values_of_a_play_are_named<'a>(found: &ArgMatches<'a>) -> Option<PlayFiles<'a>>
