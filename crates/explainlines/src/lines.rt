@@ -4,9 +4,9 @@ use crate::forms::{BINDING, Form, SCENARIO, form_of};
 use crate::order::Said;
 use crate::reason::{Meant, Reason, replaced};
 use crate::words::{bad_words, first_word};
-use explaincures::{Example, FaultAnswer, Spot, line_of, place_of, shown_text};
+use explaincures::{Example, FaultAnswer, line_of, part, place_of, shown_text};
 use std::alloc::{AllocError, Global};
-use wordlines::{Binding, LineCause, LineFault, is_skipped, parse};
+use wordlines::{Binding, LineCause, LineFault, first_line, is_skipped, parse};
 
 /// A file of lines.
 #[derive(Clone, Copy)]
@@ -34,17 +34,20 @@ pub fn bad_line(
     number: usize,
     cause: LineCause,
 ) -> Result<BadLine, AllocError> {
-    let line = Spot::of(bytes, place_of(bytes, number, 1)).line();
+    let line = match part(bytes, place_of(bytes, number, 1), bytes.len()) {
+        [] => &[],
+        rest => first_line(rest).0,
+    };
     let forms = forms_of(file);
     let reason = match cause {
         LineCause::TooLong => too_long(file),
         LineCause::BadLine => bad_in(file, bytes, number, line),
     };
     let meant = reason.meant_line(alloc, line)?;
-    let example = if is_cured(alloc, file, bytes, number, &meant)? {
-        Example::Tried(shown_text(alloc, &meant)?)
-    } else {
-        Example::Other(String::from_str(alloc, line_like(file, cause, line))?)
+    let example = match (is_cured(alloc, file, bytes, number, &meant)?, reason.meant) {
+        (false, _) => Example::Other(String::from_str(alloc, line_like(file, cause, &meant))?),
+        (true, Meant::Perhaps(_) | Meant::Digits) => Example::Other(shown_text(alloc, &meant)?),
+        (true, _) => Example::Tried(shown_text(alloc, &meant)?),
     };
     Ok(BadLine {
         col: reason.from.saturating_add(1),
@@ -76,8 +79,8 @@ fn too_long(file: LineFile) -> Reason {
 
 /// Why the line of a number is bad.
 fn bad_in(file: LineFile, bytes: &[u8], number: usize, line: &[u8]) -> Reason {
-    match (file, bad_words(line, forms_of(file))) {
-        (LineFile::Binding, _) if is_skipped(line) => {
+    match (file, bad_words(bytes, line, forms_of(file))) {
+        (LineFile::Binding, _) if is_skipped(line) && !line.contains(&b'\r') => {
             let what = "no line says how many buses there are";
             let reason = Reason::of(what, "write the line `buses N`, of 1 to 64");
             reason.meaning(Meant::With("buses 1\n"))
@@ -88,7 +91,7 @@ fn bad_in(file: LineFile, bytes: &[u8], number: usize, line: &[u8]) -> Reason {
     }
 }
 
-/// Another line that begins as a line does; where none does, one that its file may have.
+/// Another line that begins as one does; where none does, one that its file may have.
 fn line_like(file: LineFile, cause: LineCause, line: &[u8]) -> &'static str {
     match (file, cause, form_of(forms_of(file), first_word(line))) {
         (LineFile::Binding, LineCause::TooLong, _) => "buses 1",

@@ -40,12 +40,7 @@ impl<'a> Said<'a> {
         let (first, _) = self.before(&["buses"], 0);
         let [buses, ..] = numbers_of(line_of(self.bytes, first));
         let (what, cure, line) = match self.word {
-            _ if first == 0 => {
-                let what = "the number of buses is not said yet";
-                let reason = Reason::of(what, "begin with the line `buses N`");
-                let reason = reason.with([bus.saturating_add(1), 0, 0, 0]);
-                return reason.meaning(Meant::With("buses {0}\n"));
-            }
+            _ if first == 0 => return self.without_buses(),
             "buses" => {
                 let what = "the number of buses is said twice, first in line {3}";
                 return self.reason(what, ONE_OF_TWO, first);
@@ -72,6 +67,20 @@ impl<'a> Said<'a> {
         let reason = reason.with([bus, number, buses.saturating_sub(1), line as u64]);
         let behind = self.word.len().saturating_add(1);
         reason.at(behind, behind)
+    }
+
+    /// That no line before it says the number of buses: one behind it does, or none.
+    fn without_buses(&self) -> Reason {
+        let number = usize::MAX;
+        let (later, _) = Said { number, ..*self }.before(&["buses"], 0);
+        let ([bus, ..], [buses, ..]) = (self.numbers, numbers_of(line_of(self.bytes, later)));
+        let (cure, count) = match later {
+            0 => ("begin with the line `buses N`", bus.saturating_add(1)),
+            _ => ("move line {3} before this one", buses),
+        };
+        let reason = Reason::of("the number of buses is not said yet", cure);
+        let reason = reason.with([count, 0, 0, later as u64]);
+        reason.meaning(Meant::With("buses {0}\n"))
     }
 
     /// Why it is bad among the lines of a scenario: it comes too late, or what it declares is
@@ -101,6 +110,10 @@ impl<'a> Said<'a> {
             "instance" => "there is no device {1} on bus {0} up to here",
             _ => "there is no gear {1} on bus {0} up to here",
         };
+        if first < self.number {
+            let cure = "leave this line out, or give it another number";
+            return self.reason(what, cure, first).meaning(Meant::Perhaps("# "));
+        }
         let cure = "declare gear, devices and instances once, and before a line that names them";
         self.reason(what, cure, first)
             .meaning(Meant::With(line_before))

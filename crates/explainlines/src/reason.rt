@@ -29,6 +29,10 @@ pub(crate) enum Meant {
     Spaced,
     /// With this text in place of what is bad.
     With(&'static str),
+    /// The same for example: something else may be meant.
+    Perhaps(&'static str),
+    /// With the hexadecimal digits behind it in one word, for example.
+    Digits,
 }
 
 impl Reason {
@@ -106,9 +110,20 @@ impl Reason {
         match self.meant {
             Meant::InSmallLetters => line.to_ascii_lowercase(alloc),
             Meant::Spaced => spaced(alloc, line),
-            Meant::With(text) => {
+            Meant::With(text) | Meant::Perhaps(text) => {
                 let with = self.filled(alloc, text, line, &[])?;
                 replaced(alloc, line, self.from, self.to, with.as_bytes())
+            }
+            Meant::Digits => {
+                let mut digits = Vec::new(alloc);
+                for byte in part(line, self.from, line.len()) {
+                    match byte {
+                        b'x' | b'X' | b'#' => digits.clear(), // as of `0x048402`, `16#048402`
+                        _ if byte.is_ascii_hexdigit() => digits.push(*byte)?,
+                        _ => {}
+                    }
+                }
+                replaced(alloc, line, self.from, line.len(), &digits)
             }
         }
     }

@@ -2,15 +2,24 @@
 
 use crate::forms::{BINDING, Field, Form, Part, SCENARIO, fields_behind, form_of, parts_of};
 use crate::reason::{Meant, Reason};
-use explaincures::{is_near, is_one_of};
+use explaincures::{is_near, is_one_of, part};
 use limits::{MOST_BUSES, MOST_SOURCES};
 use wordlines::{hex_of, number_of, parts_around_dot};
 
 /// Words with which a text begins.
 const TEXT: &[&str] = &["(*", "TYPE", "FUNCTION", "PROGRAM", "CONFIGURATION"];
 
-/// What helps where no line begins with a word, and where one of another file does.
+/// What is wrong with a first word.
+const CAPITAL: &str = "{word} is not in small letters";
+
+const NO_LINE: &str = "no line begins with {word}";
+
+const OTHER_FILE: &str = "{word} begins a line of a {name}";
+
+/// What helps where no line begins with a word, where one of another file does, and where all do.
 const KNOWN: &str = "lines begin with {words}, or # for a comment";
+
+const ELSEWHERE: &str = "its place is the {name}: leave it out here, or write # before it";
 
 const ORDER: &str =
     "the text comes first, the binding second and the scenario third; a comment of\n\
@@ -19,20 +28,19 @@ const ORDER: &str =
 /// What stands between the words of a list.
 const SIGNS: [char; 3] = [',', ' ', '\n'];
 
-/// Why the words of a line are bad by themselves: their blanks, the first one, or what follows it.
-/// Else the form of the line.
-pub(crate) fn bad_words(line: &[u8], forms: &'static [Form]) -> Result<&'static Form, Reason> {
-    if let [0xef, 0xbb, 0xbf, ..] = line {
-        let cure = "save the file without one: as ASCII, or as UTF-8 without a mark";
-        let reason = Reason::of("a byte order mark", cure);
-        return Err(reason.at(0, 3).meaning(Meant::With("")));
-    }
-    if let Some(reason) = bad_blanks(line) {
+/// Why the words of a line of a file are bad by themselves: their bytes, their blanks, the first
+/// one, or what follows it. Else the form of the line.
+pub(crate) fn bad_words(
+    bytes: &[u8],
+    line: &[u8],
+    forms: &'static [Form],
+) -> Result<&'static Form, Reason> {
+    if let Some(reason) = bad_bytes(line).or(bad_blanks(line)) {
         return Err(reason);
     }
     let word = first_word(line);
     let Some(form) = form_of(forms, word) else {
-        return Err(unknown(word, forms));
+        return Err(unknown(bytes, word, forms));
     };
     match bad_fields(line, form) {
         Some(reason) => Err(reason),
@@ -43,6 +51,21 @@ pub(crate) fn bad_words(line: &[u8], forms: &'static [Form]) -> Result<&'static 
 /// The first word of a line.
 pub(crate) fn first_word(line: &[u8]) -> &[u8] {
     line.split(|byte| *byte == b' ').next().unwrap_or(line)
+}
+
+/// Why the bytes of a line are bad: the file is saved in another way.
+fn bad_bytes(line: &[u8]) -> Option<Reason> {
+    let mark = "save the file without one: as ASCII, or as UTF-8 without a mark";
+    let (what, cure, from, to) = match line {
+        [0xef, 0xbb, 0xbf, ..] => ("a byte order mark", mark, 0, 3),
+        [0xff, 0xfe, ..] | [0xfe, 0xff, ..] => ("the byte order mark of UTF-16", mark, 0, 2),
+        _ => {
+            let at = line.iter().position(|byte| *byte == b'\r')?;
+            let ends = "save the file with lines that end with LF or CR LF";
+            ("a CR without an LF", ends, at, at.saturating_add(1))
+        }
+    };
+    Some(Reason::of(what, cure).at(from, to).meaning(Meant::With("")))
 }
 
 /// Why the blanks of a line are bad.
@@ -76,23 +99,56 @@ fn empty_word(line: &[u8]) -> Option<usize> {
     None
 }
 
-/// Why a first word is none: lines of another file begin with it; or with the one that is meant,
-/// which is near, or differs in letter case.
-fn unknown(word: &[u8], forms: &'static [Form]) -> Reason {
-    let meant = meant_form(word, forms);
-    let (what, cure) = match meant {
-        Some(_) if has_capital(word) => ("{word} is not in small letters", KNOWN),
-        Some(_) => ("no line begins with {word}", KNOWN),
-        None if form_of(BINDING, word).is_some() => ("{word} begins a line of a binding", ORDER),
-        None if form_of(SCENARIO, word).is_some() => ("{word} begins a line of a scenario", ORDER),
-        None if is_one_of(word, TEXT) => ("{word} begins a text, or a line of one", ORDER),
-        None => ("no line begins with {word}", KNOWN),
+/// Why a first word is none: lines of another file begin with it, or people write it for another
+/// one; or with the one that is meant, which is near, or differs in letter case.
+fn unknown(bytes: &[u8], word: &[u8], forms: &'static [Form]) -> Reason {
+    let is_bound = form_of(BINDING, word).is_some();
+    let is_other = is_bound || form_of(SCENARIO, word).is_some();
+    let (what, cure, meant) = match meant_form(word, forms) {
+        Some(form) if word.eq_ignore_ascii_case(form.0.as_bytes()) => {
+            (CAPITAL, KNOWN, Meant::With(form.0))
+        }
+        Some(form) => (NO_LINE, KNOWN, Meant::With(form.0)),
+        None if is_other && has_line_of(bytes, forms) => {
+            (OTHER_FILE, ELSEWHERE, Meant::Perhaps("# {word}"))
+        }
+        None if is_other => (OTHER_FILE, ORDER, SMALL),
+        None if is_one_of(word, TEXT) => ("{word} begins a text, or a line of one", ORDER, SMALL),
+        None if form_of(forms, b"tick").is_some() => foreign(word),
+        None => (NO_LINE, KNOWN, SMALL),
     };
-    let reason = Reason::of(what, cure).at(0, word.len());
-    match meant {
-        Some(form) => reason.meaning(Meant::With(form.0)),
-        None => reason,
+    let name = if is_bound { "binding" } else { "scenario" };
+    let reason = Reason::of(what, cure).at(0, word.len()).meaning(meant);
+    Reason { name, ..reason }
+}
+
+/// What is said of a word with which no line of a scenario begins, but people begin one.
+fn foreign(word: &[u8]) -> (&'static str, &'static str, Meant) {
+    match word {
+        b"wait" | b"sleep" | b"delay" | b"pause" => (NO_LINE, MOMENTS, Meant::Perhaps("tick")),
+        b"lamp" | b"light" | b"lampe" | b"leuchte" => (NO_LINE, KNOWN, Meant::Perhaps("gear")),
+        b"button" | b"press" | b"taster" | b"ereignis" => (NO_LINE, EVENT, Meant::Perhaps("event")),
+        b"expect" => (NO_LINE, EXPECTED, Meant::Perhaps("# {word}")),
+        _ => (NO_LINE, KNOWN, SMALL),
     }
+}
+
+/// What helps there.
+const MOMENTS: &str = "write `tick` and a moment: moments count from the start, in milliseconds";
+
+const EVENT: &str = "the line of an event has the bus and a frame of six hexadecimal digits;\n\
+    `dalictl event BIND B.K INFORMATION` prints it";
+
+const EXPECTED: &str = "say it in the command: `dalictl play .. --expect lamp=200`";
+
+/// Whether some line of a file begins as one of these forms.
+fn has_line_of(bytes: &[u8], forms: &'static [Form]) -> bool {
+    for line in bytes.split(|byte| *byte == b'\n') {
+        if form_of(forms, first_word(line)).is_some() {
+            return true;
+        }
+    }
+    false
 }
 
 /// The form whose first word another one is meant for.
@@ -110,16 +166,6 @@ fn is_meant(word: &[u8], other: &str) -> bool {
     word.eq_ignore_ascii_case(other.as_bytes()) || is_near(word, other.as_bytes())
 }
 
-/// Whether a capital letter stands in a word.
-fn has_capital(word: &[u8]) -> bool {
-    for byte in word {
-        if byte.is_ascii_uppercase() {
-            return true;
-        }
-    }
-    false
-}
-
 /// Why the words behind the first are bad: one is not what it has to be, is too much, or is
 /// missing.
 fn bad_fields(line: &[u8], form: &Form) -> Option<Reason> {
@@ -129,8 +175,14 @@ fn bad_fields(line: &[u8], form: &Form) -> Option<Reason> {
     for word in line.split(|byte| *byte == b' ').skip(1) {
         let to = from.saturating_add(word.len());
         match fields {
+            [Field::Number(..), ..] if form.0 == "source" && is_in("instance group", word) => {
+                let cure = "device-instance, device-group and instance-group are one word each";
+                let reason = Reason::of("a blank where a hyphen is asked for", cure);
+                let reason = reason.meaning(Meant::With("-"));
+                return Some(reason.at(from.saturating_sub(1), from));
+            }
             [field, ..] if !is_met(*field, word) => {
-                return Some(unmet(*field, word).at(from, to));
+                return Some(unmet(form, *field, word).at(from, to));
             }
             [Field::OneOf(..), ..] => fields = fields_behind(word),
             [_, rest @ ..] => fields = rest,
@@ -141,8 +193,15 @@ fn bad_fields(line: &[u8], form: &Form) -> Option<Reason> {
         }
         from = to.saturating_add(1);
     }
-    let end = line.len();
-    Some(unmet(*fields.first()?, b"").at(end, end))
+    let (first, end) = (form.0.len().saturating_add(1), line.len());
+    let mut reason = unmet(form, *fields.first()?, b"").at(end, end);
+    let only = number_of(part(line, first, end), u64::MAX);
+    if let ([Field::Number(..), _], Some(1..)) = (form.1, only) {
+        reason = reason.at(first, first).meaning(Meant::Perhaps("0 "));
+        reason.what = "one number, where the bus and the {name} are asked for";
+        reason.cure = "write both, the bus first";
+    }
+    Some(reason)
 }
 
 /// The part that a word begins, with those that may stand behind it.
@@ -160,6 +219,8 @@ fn part_at(parts: &'static [Part], word: &[u8]) -> Option<(&'static Part, &'stat
 /// What helps where a number, a place or a frame is wanted.
 const UPWARD: &str = "the {name} is a number of decimal digits alone, {0} or more";
 
+const MILLISECONDS: &str = "the {name} is a number of milliseconds, in decimal digits alone";
+
 const WITHIN: &str = "the {name} is {0} to {1}, in decimal digits alone";
 
 const PLACE: &str = "a place is the number of a bus, a dot and a number of 0 to 63, in one word";
@@ -168,29 +229,38 @@ const FRAME: &str = "a frame is six hexadecimal digits, such as 048402";
 
 /// Why a word is not as its field says, or is missing where it is empty: with what the field may
 /// be.
-fn unmet(field: Field, word: &[u8]) -> Reason {
+fn unmet(form: &Form, field: Field, word: &[u8]) -> Reason {
+    let is_great = word.len() > 19 && number_of(part(word, 0, 19), u64::MAX).is_some();
+    let is_number = is_great || number_of(word, u64::MAX).is_some();
     let (name, list, cure, least, most) = match field {
-        Field::Number(name, least, u64::MAX) => (name, "", UPWARD, least, 0),
+        Field::Number(name, least, u64::MAX) if !is_great => (name, "", UPWARD, least, 0),
         Field::Number(name, least, most) => (name, "", WITHIN, least, most),
         Field::OneOf(name, list) => (name, list, "the {name} is {list}", 0, 0),
         Field::Place => ("place", "", PLACE, 0, 0),
         Field::Frame => ("frame", "", FRAME, 0, 0),
     };
-    let is_number = number_of(word, u64::MAX).is_some();
+    let cure = match (form.0, field, word) {
+        ("tick" | "ticks", _, [b'0'..=b'9' | b'T' | b't', ..]) if !is_number => MILLISECONDS,
+        ("event", Field::Number(..), _) if is_number => cure,
+        ("event", Field::Frame, [first, _, _, _, ..]) if first.is_ascii_hexdigit() => cure,
+        ("event", _, _) => EVENT,
+        _ => cure,
+    };
     let near = near_in(list, word);
     let is_listed = matches!(near, Some(one) if one.as_bytes().eq_ignore_ascii_case(word));
     let what = match field {
         _ if word.is_empty() => "the {name} is missing",
-        Field::Number(_, _, u64::MAX) if is_number => "the {name} is {word}, and not {0} or more",
+        Field::Number(..) if is_number && most == 0 => "the {name} is {word}, and not {0} or more",
         Field::Number(..) if is_number => "the {name} is {word}, and not {0} to {1}",
         Field::Number(..) => "{word} is no number",
-        Field::OneOf(..) if is_listed => "{word} is not in small letters",
+        Field::OneOf(..) if is_listed => CAPITAL,
         _ => "{word} is no {name}",
     };
     let reason = Reason::of(what, cure).with([least, most, 0, 0]);
-    let meant = match near {
-        Some(one) => Meant::With(one),
-        None => Meant::InSmallLetters,
+    let meant = match (near, field) {
+        (Some(one), _) => Meant::With(one),
+        (None, Field::Frame) => Meant::Digits,
+        _ => SMALL,
     };
     Reason {
         name,
@@ -250,6 +320,10 @@ fn too_many(form: &Form, parts: &[Part], word: &[u8]) -> Reason {
             let what = "{word} does not say that it is a level";
             let cure = "write the word `level` before it";
             (what, cure, Meant::With("level {word}"))
+        }
+        (b"on" | b"off" | [b'l', b'e', b'v', b'e', b'l', ..], [Part("level", ..), ..]) => {
+            let cure = "a first level has the word `level` and a blank before it";
+            (TOO_MANY, cure, Meant::Perhaps("level 254"))
         }
         _ if part_at(parts_of(form), word).is_some() => {
             let cure = "give the level once, then the groups, and then the scenes";
