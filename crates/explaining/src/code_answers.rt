@@ -56,35 +56,36 @@ fn answer_of(alloc: Global, refused: &Refused, said: Said) -> Result<FaultAnswer
 
 /// What is known of a refused word, in lines.
 fn facts_of(alloc: Global, refused: &Refused) -> Result<String, AllocError> {
-    if let Some(mismatch) = refused.mismatch {
-        return found_wanted(alloc, mismatch);
-    }
-    match refused.refusal.cause {
-        Cause::OutOfRange { found, allowed } => {
-            ranges_told(alloc, found, allowed, commands_told(refused))
+    match (refused.refusal.cause, refused.mismatch) {
+        (Cause::WrongType, Some(mismatch)) => found_wanted(alloc, mismatch),
+        (Cause::OutOfRange { found, allowed }, _) => {
+            ranges_told(alloc, found, allowed, values_told(refused, allowed))
         }
-        Cause::NoResult => lack_told(alloc, refused),
+        (Cause::NoResult, _) => lack_told(alloc, refused),
         _ => Ok(String::new(alloc)),
     }
 }
 
-/// What the input may be that a word gives, where that is a command.
-fn commands_told(refused: &Refused) -> &'static str {
+/// What the input may be that a word gives, where that is a command or an address of gear.
+fn values_told(refused: &Refused, allowed: Range) -> &'static str {
     match input_of(refused.names.code, refused.refusal.word) {
         Some((kind, b"CMD")) => commands_of(kind),
+        Some((_, b"ADR")) if allowed.hi == 80 => {
+            "ADR: 0 to 63 short addresses, 64 to 79 the groups 0 to 15, 80 all gear\n"
+        }
         _ => "",
     }
 }
 
-/// What was found and what is allowed, in lines, and the commands that there are.
+/// What was found and what is allowed, in lines, and what the values are.
 fn ranges_told(
     alloc: Global,
     found: Range,
     allowed: Range,
-    commands: &'static str,
+    values: &'static str,
 ) -> Result<String, AllocError> {
     let (lo, hi, least, most) = (found.lo, found.hi, allowed.lo, allowed.hi);
-    format!(in alloc; "found:   {lo}..{hi}\nallowed: {least}..{most}\n{commands}")
+    format!(in alloc; "found:   {lo}..{hi}\nallowed: {least}..{most}\n{values}")
 }
 
 /// What was found and what is wanted, in lines.
@@ -108,6 +109,7 @@ fn lack_told(alloc: Global, refused: &Refused) -> Result<String, AllocError> {
             let (found, met) = (ValueText(Some(found)), ValueText(Some(met)));
             format!(in alloc; "found:  {found} from line {first}, {met} from line {last}\n")
         }
+        Some(Lack::Begun) => String::from_str(alloc, BEGUN),
         Some(Lack::Called(place)) => {
             let line = line_at(code, place);
             format!(in alloc; "found:  none, since line {line} calls a block\n")
@@ -116,27 +118,35 @@ fn lack_told(alloc: Global, refused: &Refused) -> Result<String, AllocError> {
     }
 }
 
+/// What is found where a program or a function begins.
+const BEGUN: &str = "found:  none, since each program and each function begins without one\n";
+
 /// Lines of another text.
 fn example_of(alloc: Global, refused: &Refused, line: Line) -> Result<String, AllocError> {
+    if let Line::Text(text) = line {
+        return String::from_str(alloc, text);
+    }
     let Cause::OutOfRange { found, allowed } = refused.refusal.cause else {
-        return match line {
-            Line::Text(text) => String::from_str(alloc, text),
-            _ => Ok(String::new(alloc)),
-        };
+        return Ok(String::new(alloc));
     };
     let limits = limits_of(alloc, found, allowed)?;
+    let nearest = found.hi.min(allowed.hi).max(allowed.lo);
     match line {
-        Line::Input => {
-            let Some((_, name)) = input_of(refused.names.code, refused.refusal.word) else {
-                return Ok(limits);
-            };
-            let (name, most) = (shown_text(alloc, name)?, allowed.hi);
-            format!(in alloc; "{name} := {most}")
-        }
+        Line::Input => match input_of(refused.names.code, refused.refusal.word) {
+            Some((_, b"ADR")) => String::from_str(alloc, "ADR := 5"),
+            Some((_, name)) => {
+                let (name, most) = (shown_text(alloc, name)?, allowed.hi);
+                format!(in alloc; "{name} := {most}")
+            }
+            None => Ok(limits),
+        },
         Line::Limited => format!(in alloc; "{limits}\nST limited"),
-        Line::Nearest => {
-            let nearest = found.hi.min(allowed.hi).max(allowed.lo);
-            format!(in alloc; "LD {nearest}")
+        Line::Nearest => format!(in alloc; "LD {nearest}"),
+        Line::Operand => {
+            let spot = refused.spot();
+            let operand = refused.operand_of(refused.refusal.word).unwrap_or(spot);
+            let front = shown_text(alloc, spot.part(spot.at, operand.at))?;
+            format!(in alloc; "{front}{nearest}")
         }
         _ => {
             let line = shown_text(alloc, refused.spot().rest())?;

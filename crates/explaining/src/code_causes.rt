@@ -3,7 +3,8 @@
 use crate::refused::{Refused, input_of};
 use ilblocks::BlockKind;
 use ilcode::{Word, WordOperand};
-use ilranges::Cause;
+use ilranges::{Cause, Known};
+use iltypes::{Function, Operator, Range};
 
 /// What a cause means, what helps, lines of another text, and the changes that are tried.
 #[derive(Clone, Copy)]
@@ -18,8 +19,10 @@ pub(crate) struct Said {
 #[derive(Clone, Copy)]
 pub(crate) enum Line {
     Text(&'static str),
-    /// The most that an input may be, given to it.
+    /// The most that an input may be, given to it; a short address where that is asked for.
     Input,
+    /// The line at fault with the nearest number that is allowed as its operand.
+    Operand,
     /// The limits, then a store.
     Limited,
     /// The nearest number that is allowed, loaded.
@@ -36,14 +39,16 @@ pub(crate) struct Try(pub Change, pub &'static str);
 /// A change of a line that is refused.
 #[derive(Clone, Copy)]
 pub(crate) enum Change {
-    /// The operand, which is 1 or 0, becomes TRUE or FALSE.
+    /// The operand, or that of the load before, which is 1 or 0, becomes TRUE or FALSE.
     Truth,
+    /// The operand is compared with 0 in parentheses.
+    Comparison,
     /// These lines come before it.
     Before(&'static str),
     /// The operators come before it that keep the number within what is allowed.
     Limits,
-    /// What is computed is jumped past where this comparison of the divisor is TRUE.
-    Guard(&'static str),
+    /// What is computed is jumped past where this comparison of the divisor is TRUE, to this label.
+    Guard(&'static str, &'static str),
 }
 
 /// What is said of a cause: texts, and lines of another text.
@@ -69,6 +74,7 @@ const TYPES: &[Try] = &[
         "write TRUE or FALSE: 1 and 0 are numbers here",
     ),
     Try(Change::Before("NE 0"), COMPARED),
+    Try(Change::Comparison, COMPARED),
 ];
 
 const COMPARED: &str = "AND, OR, XOR, NOT, S, R, N, C and CN take truth values, arithmetic takes\n\
@@ -76,26 +82,49 @@ const COMPARED: &str = "AND, OR, XOR, NOT, S, R, N, C and CN take truth values, 
 
 /// What is tried of a divisor that may be 0.
 const GUARDS: &[Try] = &[
-    Try(Change::Guard("EQ 0"), PASSED),
-    Try(
-        Change::Guard("LT 1"),
-        "jump past it where the divisor is 0 or less, or give that a range without 0",
-    ),
+    Try(Change::Guard("EQ 0", "past"), PASSED),
+    Try(Change::Guard("EQ 0", "past_1"), PASSED),
+    Try(Change::Guard("LT 1", "past"), ABOVE),
+    Try(Change::Guard("LT 1", "past_1"), ABOVE),
 ];
 
 const PASSED: &str = "jump past it where the divisor is 0, or give that a range without 0";
 
+const ABOVE: &str = "jump past it where the divisor is 0 or less, or give that a range without 0";
+
+/// A divisor that is 0 for certain.
+const ZERO: Known = Known::Int(Range { lo: 0, hi: 0 });
+
 /// What is tried of a number that may leave 64 bits.
 const BIG: &[Try] = &[
-    Try(Change::Before("MIN 1000000\nMAX -1000000"), ""),
-    Try(Change::Before("MIN 1000\nMAX -1000"), ""),
+    Try(Change::Before("MIN 1000000"), SMALLER),
+    Try(Change::Before("MIN 1000000\nMAX -1000000"), SMALLER),
+    Try(Change::Before("MIN 1000"), SMALLER),
+    Try(Change::Before("MIN 1000\nMAX -1000"), SMALLER),
 ];
+
+const SMALLER: &str = "declare smaller ranges, or limit the number before";
 
 /// What is said of a refused word.
 pub(crate) fn said_of(refused: &Refused) -> Said {
     let word = refused.names.code.get(refused.refusal.word);
+    let is_zero = matches!(refused.mismatch, Some(divisor) if divisor.found == ZERO);
     match (refused.refusal.cause, word) {
-        (Cause::OutOfRange { found, .. }, _) => said_of_number(refused, word, found.lo == found.hi),
+        (Cause::OutOfRange { found, .. }, _) => said_of_number(refused, word, found),
+        (Cause::WrongType, Some(Word::Transform(Function::Not))) =>
+            said!["a value of the wrong type"
+            "NOT takes a truth value: EQ 0 says that a level is off, and SUB gives what it\n\
+            lacks to 254"
+            Line::Text("LD 254\nSUB level")],
+        (Cause::WrongType, Some(Word::Apply(Operator::And { .. }, WordOperand::Constant(_)))) => {
+            said!["a value of the wrong type"
+            "AND takes truth values: MOD 16 gives the lowest four bits of a number, and\n\
+            DIV 16, MOD 2 and EQ 1 give its next bit" Line::Text("LD lux\nMOD 16"), TYPES]
+        }
+        (Cause::WrongType, Some(Word::Pass { .. })) => said!["a value of the wrong type"
+            "compare a number to make a truth value of it, or choose a number by a jump, and\n\
+            store it to the input before the call"
+            Line::Text("LD level\nNE 0\nST rest.IN\nCAL rest(PT := T#3m)"), TYPES],
         (Cause::WrongType, Some(Word::Load { .. })) => said!["a value of the wrong type"
             "LDN loads the opposite of a truth value: load a number with LD, and turn its\n\
             sign with MUL -1" Line::Text("LD lamp"), TYPES],
@@ -113,12 +142,24 @@ pub(crate) fn said_of(refused: &Refused) -> Said {
         (Cause::MayBeZero, Some(Word::Apply(_, WordOperand::Constant(_)))) => {
             said!["a divisor that is 0" "write another number" Line::Text("DIV 2")]
         }
+        (Cause::MayBeZero, _) if is_zero => said!["a divisor that is 0"
+            "what stands before it lets 0 alone through, as a jump that is the wrong way\n\
+            round: JMPC jumps where the comparison is TRUE, JMPCN where it is FALSE"
+            Line::Text("LD lamps\nEQ 0\nJMPC dark\nLD power\nDIV lamps")],
+        (Cause::MayBeZero, Some(Word::Apply(_, WordOperand::Port { .. }))) => {
+            said!["a divisor that may be 0"
+            "store it to a variable that has a range without 0, as n : UINT (1..1000), and\n\
+            divide by that" Line::Text("LD visits.CV\nLIMIT 1, 1000\nST n\nLD power\nDIV n")]
+        }
+        (Cause::MayBeZero, Some(Word::Close)) => said!["a divisor that may be 0"
+            "limit it before the ): MAX 1 makes 1 of 0, and of all that is below"
+            Line::Text("MAX 1\n)")],
         (Cause::MayBeZero, _) => said!["a divisor that may be 0"
             "give it a range without 0, or bring it there before"
             Line::Text("n : INT (1..100);"), GUARDS],
         (Cause::TooBig, _) => said!["a number that may leave 64 bits"
-            "declare smaller ranges, or limit the number before"
-            Line::Text("MIN 1000000\nMAX -1000000"), BIG],
+            "declare smaller ranges, and write a DIV or a limit before the next MUL"
+            Line::Text("LD lux\nMUL share\nDIV 1000\nMUL gain"), BIG],
         (Cause::TooManyRequests, _) => said!["more than 16 requests in one scan"
             "send from one scan to the next, or put calls on ways that exclude each\n\
             other: ways count whatever their jumps test" Line::Text("JMPC later")],
@@ -134,7 +175,7 @@ pub(crate) fn said_of(refused: &Refused) -> Said {
 
 /// What is said of a word whose number may not fit: of an input of a block, of an operand of a call
 /// of a function, of one that is always the same, or of another.
-fn said_of_number(refused: &Refused, word: Option<Word>, is_constant: bool) -> Said {
+fn said_of_number(refused: &Refused, word: Option<Word>, found: Range) -> Said {
     let is_bus = matches!(
         input_of(refused.names.code, refused.refusal.word),
         Some((_, b"BUS"))
@@ -148,11 +189,19 @@ fn said_of_number(refused: &Refused, word: Option<Word>, is_constant: bool) -> S
         Some(Word::Pass { .. }) => said!["a number that may not fit"
             "write a number that the block takes; one that is computed has to be limited\n\
             before" Line::Input],
+        Some(Word::Give { operand, .. }) if matches!(operand, WordOperand::Constant(_)) => {
+            said!["a number that does not fit"
+            "write a number that is allowed, or declare the input wider" Line::Operand]
+        }
         Some(Word::Give { .. }) => said!["a number that may not fit"
             "limit the operand before, in a variable of its own, or declare the\n\
             input wider" Line::Limited],
-        _ if is_constant => said!["a number that does not fit"
+        _ if found.lo == found.hi => said!["a number that does not fit"
             "write a number that is allowed, or declare what it goes to wider" Line::Nearest],
+        _ if found.lo == 0 && found.hi == 258 => said!["a number that may not fit"
+            "of an answer 255 is no level, 256 says that none came, 257 that it was damaged,\n\
+            and 258 that none is there yet: jump past the store of these"
+            Line::Text("LD answer\nGT 254\nJMPC keep\nLD answer\nST lamp\nkeep:")],
         _ => said!["a number that may not fit"
             "limit the number before, or declare what it goes to wider" Line::WithLimits,
             LIMITS],

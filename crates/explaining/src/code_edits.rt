@@ -1,10 +1,8 @@
 //! Changes of a text that may cure a refused word, with the names of the text.
 
 use crate::code_causes::Change;
-use crate::refused::Refused;
-use explaincures::{
-    Edit, EditOutcome, Spot, first_column, line_number, part, place_of, shown_text,
-};
+use crate::refused::{Refused, instruction_on};
+use explaincures::{Edit, EditOutcome, Spot, line_number, part, place_of, shown_text};
 use ilcode::{Code, Word};
 use illisting::line_at;
 use ilranges::Cause;
@@ -20,7 +18,8 @@ pub(crate) fn edit_of(
 ) -> Result<Option<Edit>, AllocError> {
     match (change, refused.refusal.cause) {
         (Change::Truth, _) => truth_edit(alloc, refused),
-        (Change::Guard(guard), _) => guard_edit(alloc, refused, guard),
+        (Change::Comparison, _) => comparison_edit(alloc, refused),
+        (Change::Guard(guard, label), _) => guard_edit(alloc, refused, guard, label),
         (Change::Before(_), Cause::WrongType) if refused.mismatch.is_none() => Ok(None),
         (Change::Before(lines), _) => inserted(alloc, refused, lines),
         (Change::Limits, Cause::OutOfRange { found, allowed }) => {
@@ -39,17 +38,28 @@ pub(crate) fn is_cure(
     edit: &Edit,
 ) -> Result<bool, AllocError> {
     let more = match change {
-        Change::Guard(_) => 3,
+        Change::Guard(..) => 3,
         _ => line_number(&edit.with, edit.with.len()).saturating_sub(1),
     };
-    let word_then = refused.refusal.word.saturating_add(more);
     Ok(match edit.outcome(alloc, refused.asked)? {
         EditOutcome::Accepted => true,
-        EditOutcome::Code { task, word } => {
-            task > refused.names.task || task == refused.names.task && word > word_then
+        EditOutcome::Code { task, word } if task == refused.names.task => {
+            is_behind(refused, word.saturating_sub(more))
         }
+        EditOutcome::Code { task, .. } => task > refused.names.task,
         _ => false,
     })
+}
+
+/// Whether a change moves the refusal on to this place, and not just to what takes the result.
+fn is_behind(refused: &Refused, place: usize) -> bool {
+    let (code, word) = (refused.names.code, refused.refusal.word);
+    let is_free = match refused.refusal.cause {
+        Cause::WrongType => false,
+        Cause::TooBig => matches!(code.get(place), Some(Word::Store { .. })),
+        _ => true,
+    };
+    place > word && (is_free || place >= kept_to(code, word))
 }
 
 /// The operators that keep a number within what is allowed, in lines.
@@ -63,52 +73,79 @@ pub(crate) fn limits_of(alloc: Global, found: Range, allowed: Range) -> Result<S
     }
 }
 
-/// Lines before the refused one, set in as that is.
+/// Lines before the refused instruction, set in as its line is.
 fn inserted(alloc: Global, refused: &Refused, lines: &str) -> Result<Option<Edit>, AllocError> {
     let spot = refused.spot();
     let mut with = Vec::new(alloc);
     for line in lines.split('\n') {
-        with.extend_from_slice(spot.front())?;
         with.extend_from_slice(line.as_bytes())?;
         with.push(b'\n')?;
+        with.extend_from_slice(blanks_before(&spot))?;
     }
-    Ok(Some(Edit::new(alloc, spot.line_from, spot.line_from, &with)?))
+    Ok(Some(Edit::new(alloc, spot.at, spot.at, &with)?))
 }
 
-/// TRUE or FALSE in place of the operand, where that is 1 or 0 and a truth value is wanted.
+/// The blanks at the front of a line.
+fn blanks_before<'q>(spot: &Spot<'q>) -> &'q [u8] {
+    let (first, _) = spot.first_place();
+    spot.part(spot.line_from, first)
+}
+
+/// TRUE or FALSE in place of the operand, or of that of the word before, where that is 1 or 0.
 fn truth_edit(alloc: Global, refused: &Refused) -> Result<Option<Edit>, AllocError> {
-    let truth = match refused.mismatch {
-        Some(mismatch) => mismatch.truth_meant(),
-        None => None,
-    };
-    let (Some(truth), Some(col)) = (truth, refused.mark()) else {
+    let before = refused.operand_of(refused.refusal.word.saturating_sub(1));
+    let Some(spot) = refused.wrong_operand().or(before) else {
         return Ok(None);
     };
-    let text = refused.asked.text;
-    let spot = Spot::of(text, place_of(text, refused.refusal.line, col));
+    let truth = match spot.token() {
+        b"1" => "TRUE",
+        b"0" => "FALSE",
+        _ => return Ok(None),
+    };
     Ok(Some(Edit::new(alloc, spot.at, spot.found_to(), truth.as_bytes())?))
 }
 
-/// A guard before what is computed around a division, and its label behind that; none where a label
-/// stands before it, or the divisor is no name.
-fn guard_edit(alloc: Global, refused: &Refused, guard: &str) -> Result<Option<Edit>, AllocError> {
-    let text = refused.asked.text;
-    let Some((first, last)) = computation(refused.names.code, refused.refusal.word) else {
+/// The operand, the name of a number, compared with 0 in parentheses; none of EQ and NE.
+fn comparison_edit(alloc: Global, refused: &Refused) -> Result<Option<Edit>, AllocError> {
+    let spot = refused.spot();
+    let is_equal = matches!(keyword_of(spot.token()), Some(Keyword::Eq | Keyword::Ne));
+    let (Some(operand), false) = (refused.wrong_operand(), is_equal) else {
         return Ok(None);
     };
-    let begin = Spot::of(text, place_of(text, first, first_column(text, first)));
+    let name = name_at(&operand);
+    let to = operand.at.saturating_add(name.len());
+    let name = shown_text(alloc, name)?;
+    let blanks = shown_text(alloc, blanks_before(&spot))?;
+    let with = format!(in alloc; "( {name}\n{blanks}NE 0\n{blanks})")?;
+    Ok(Some(Edit::new(alloc, spot.found_to(), to, with.as_bytes())?))
+}
+
+/// A guard before what is computed around a division, and its label behind that; none where the
+/// divisor is no name.
+fn guard_edit(
+    alloc: Global,
+    refused: &Refused,
+    guard: &str,
+    label: &str,
+) -> Result<Option<Edit>, AllocError> {
+    let (text, code, word) = (refused.asked.text, refused.names.code, refused.refusal.word);
+    let (Some((first, last)), Some(divisor)) = (computation(code, word), refused.operand_of(word))
+    else {
+        return Ok(None);
+    };
+    let begin = instruction_on(text, first);
     let end = Spot::of(text, place_of(text, last, 1));
-    let divisor = divisor_of(&refused.spot());
-    if divisor.is_empty() || keyword_of(begin.first_word()) != Some(Keyword::Ld) {
+    let name = name_at(&divisor);
+    if name.is_empty() || keyword_of(begin.token()) != Some(Keyword::Ld) {
         return Ok(None);
     }
-    let blanks = shown_text(alloc, begin.front())?;
-    let name = shown_text(alloc, divisor)?;
-    let lines = shown_text(alloc, begin.part(begin.line_from, end.line_to))?;
+    let blanks = shown_text(alloc, blanks_before(&divisor))?;
+    let name = shown_text(alloc, name)?;
+    let lines = shown_text(alloc, begin.part(begin.at, end.line_to))?;
     let with = format!(in alloc;
-        "{blanks}LD {name}\n{blanks}{guard}\n{blanks}JMPC past\n{lines}\n{blanks}past:"
+        "LD {name}\n{blanks}{guard}\n{blanks}JMPC {label}\n{blanks}{lines}\n{blanks}{label}:"
     )?;
-    Ok(Some(Edit::new(alloc, begin.line_from, end.line_to, with.as_bytes())?))
+    Ok(Some(Edit::new(alloc, begin.at, end.line_to, with.as_bytes())?))
 }
 
 /// The first and the last line of what is computed around a division: from the load before it to
@@ -120,18 +157,17 @@ fn computation(code: &Code, word: usize) -> Option<(usize, usize)> {
             first = place;
         }
     }
-    let mut behind = word;
-    for place in word..code.len() {
-        if !is_kept(code, place) {
-            break;
-        }
-        behind = place.saturating_add(1);
-    }
+    let behind = kept_to(code, word);
     // What takes the result behind them would get that of the guard.
-    let is_over = match code.get(behind) {
-        Some(Word::Jump { condition, .. }) => matches!(condition, Condition::Always),
+    let next = match code.get(behind) {
+        Some(Word::Jump { condition, target }) if matches!(condition, Condition::Always) => {
+            target as usize
+        }
+        _ => behind,
+    };
+    let is_over = match code.get(next) {
         Some(Word::Load { .. } | Word::Call(_) | Word::Pass { .. }) | None => true,
-        _ => false,
+        _ => code.is_start(next),
     };
     match code.get(first) {
         Some(Word::Load { .. }) if is_over => {
@@ -140,6 +176,16 @@ fn computation(code: &Code, word: usize) -> Option<(usize, usize)> {
         }
         _ => None,
     }
+}
+
+/// The place behind the words that go on with the current result, from one on.
+fn kept_to(code: &Code, word: usize) -> usize {
+    for place in word..code.len() {
+        if !is_kept(code, place) {
+            return place;
+        }
+    }
+    code.len()
 }
 
 /// Whether a word goes on with the current result.
@@ -156,16 +202,15 @@ fn is_kept(code: &Code, place: usize) -> bool {
     )
 }
 
-/// The operand of a division that begins its line: a name.
-fn divisor_of<'q>(division: &Spot<'q>) -> &'q [u8] {
-    let (from, to) = division.trimmed(division.found_to(), division.line_to);
-    let operand = division.part(from, to);
-    let len = operand
+/// The name that stands at a place, with that of a port.
+fn name_at<'q>(spot: &Spot<'q>) -> &'q [u8] {
+    let rest = spot.rest();
+    let len = rest
         .iter()
         .take_while(|byte| byte.is_ascii_alphanumeric() || **byte == b'_' || **byte == b'.')
         .count();
-    match operand {
+    match rest {
         [first, ..] if first.is_ascii_digit() => b"",
-        _ => part(operand, 0, len),
+        _ => part(rest, 0, len),
     }
 }

@@ -8,7 +8,7 @@ use ilverify::{Pass, Passed, Refusal};
 use std::alloc::{AllocError, Global};
 use std::fmt;
 
-/// A value of the wrong type.
+/// A value of the wrong type, or a divisor that may be 0.
 #[derive(Clone, Copy)]
 pub(crate) struct Mismatch {
     pub found: Known,
@@ -23,27 +23,13 @@ const TRUTH: Option<Known> = Some(Known::Bool);
 
 const NUMBER: Option<Known> = None;
 
-impl Mismatch {
-    /// The truth value that an operand means that is 1 or 0.
-    pub(crate) fn truth_meant(self) -> Option<&'static str> {
-        match (self.found, self.wanted, self.is_operand) {
-            (Known::Int(range), Some(Known::Bool), true) => match (range.lo, range.hi) {
-                (0, 0) => Some("FALSE"),
-                (1, 1) => Some("TRUE"),
-                _ => None,
-            },
-            _ => None,
-        }
-    }
-}
-
-/// The value of the wrong type at a refused word, where that is the cause.
+/// The value of the wrong type at a refused word, or the divisor, where that is the cause.
 pub(crate) fn mismatch_at(
     alloc: Global,
     code: &Code,
     refusal: Refusal,
 ) -> Result<Option<Mismatch>, AllocError> {
-    if !matches!(refusal.cause, Cause::WrongType) {
+    if !matches!(refusal.cause, Cause::WrongType | Cause::MayBeZero) {
         return Ok(None);
     }
     let mut pass = Pass::begin(alloc, code)?;
@@ -54,8 +40,21 @@ pub(crate) fn mismatch_at(
         pass = next;
     }
     Ok(match (pass.entry(), code.get(refusal.word)) {
+        (Some(entry), Some(word)) if matches!(refusal.cause, Cause::MayBeZero) => {
+            divisor_of(code, entry, word)
+        }
         (Some(entry), Some(word)) => mismatch_of(code, entry, word),
         _ => None,
+    })
+}
+
+/// The divisor of a word: its operand, or what the parentheses gave.
+fn divisor_of(code: &Code, entry: &Entry, word: Word) -> Option<Mismatch> {
+    let found = known_of(code, entry, read_by(word)).or(entry.result)?;
+    Some(Mismatch {
+        found,
+        wanted: NUMBER,
+        is_operand: false,
     })
 }
 

@@ -6,12 +6,12 @@ use crate::code_answers::answer_code;
 use crate::mismatch::{Mismatch, mismatch_at};
 use crate::requests::print_requests;
 use crate::told::{Title, print_head};
-use crate::ways::{Behind, operand_column, print_way};
-use explaincures::{AskedText, FaultAnswer, Spot, first_column, line_of, place_of};
+use crate::ways::{Behind, operand_on, print_way};
+use explaincures::{AskedText, FaultAnswer, Spot, first_column, place_of};
 use ilblocks::BlockKind;
 use ilcode::{Code, Word};
 use ilcompile::compile;
-use illisting::{TaskNames, functions_in, print_deepest_calls, print_longest_calls};
+use illisting::{TaskNames, functions_in, line_at, print_deepest_calls, print_longest_calls};
 use ilplan::Plan;
 use ilranges::Cause;
 use ilverify::Refusal;
@@ -24,7 +24,7 @@ pub(crate) struct Refused<'q, 'n> {
     pub asked: &'q AskedText<'q>,
     pub names: &'n TaskNames<'n>,
     pub refusal: Refusal,
-    /// The value of the wrong type, where that is the cause.
+    /// The value of the wrong type, or the divisor, where that is the cause.
     pub mismatch: Option<Mismatch>,
 }
 
@@ -84,31 +84,51 @@ fn print_calls(alloc: Global, page: &mut Page, refused: &Refused) -> Result<(), 
         Cause::TooLong => print_longest_calls(alloc, page, names),
         Cause::BadCall => print_deepest_calls(alloc, page, names, word),
         Cause::TooManyRequests => print_requests(alloc, page, names, word),
-        _ => print_way(alloc, page, names, refused.asked.text, word),
+        _ => print_way(alloc, page, names, refused.asked.text, refused.refusal),
     }
 }
 
 impl<'q, 'n> Refused<'q, 'n> {
     /// The column of the operand that is of the wrong type, where one is.
     pub(crate) fn mark(&self) -> Option<usize> {
+        Some(self.wrong_operand()?.front().len().saturating_add(1))
+    }
+
+    /// The operand that is of the wrong type, where one is.
+    pub(crate) fn wrong_operand(&self) -> Option<Spot<'q>> {
         if !self.mismatch?.is_operand {
             return None;
         }
-        let (code, word) = (self.names.code, self.refusal.word);
-        let behind = match (input_of(code, word), code.get(word)) {
+        self.operand_of(self.refusal.word)
+    }
+
+    /// The operand of the word at a place, where it stands on its line.
+    pub(crate) fn operand_of(&self, place: usize) -> Option<Spot<'q>> {
+        let code = self.names.code;
+        let behind = match (input_of(code, place), code.get(place)) {
             (Some((_, name)), _) => Behind::Input(name),
             (None, Some(Word::Give { slot, .. })) => {
                 Behind::Function(operand_number(code, usize::from(slot)))
             }
             _ => Behind::Instruction,
         };
-        operand_column(line_of(self.asked.text, self.refusal.line), behind)
+        operand_on(self.asked.text, line_at(code, place), behind)
     }
 
-    /// The first word of the line.
+    /// The instruction of the line, behind a label.
     pub(crate) fn spot(&self) -> Spot<'q> {
-        let (text, line) = (self.asked.text, self.refusal.line);
-        Spot::of(text, place_of(text, line, first_column(text, line)))
+        instruction_on(self.asked.text, self.refusal.line)
+    }
+}
+
+/// The instruction of a line of a text, behind a label.
+pub(crate) fn instruction_on<'q>(text: &'q [u8], line: usize) -> Spot<'q> {
+    let first = Spot::of(text, place_of(text, line, first_column(text, line)));
+    let (colon, to) = first.trimmed(first.found_to(), first.line_to);
+    let (behind, _) = first.trimmed(colon.saturating_add(1), to);
+    match first.part(colon, to) {
+        [b':', _, ..] => Spot::of(text, behind),
+        _ => first,
     }
 }
 

@@ -2,6 +2,7 @@
 
 use ilcode::{Code, Word};
 use ilranges::{Change, Entry, Known, after_word};
+use iltypes::Range;
 use ilverify::{Pass, Passed};
 use std::alloc::{AllocError, Global};
 
@@ -88,6 +89,8 @@ fn result_behind(code: &Code, entry: &Entry, change: Change) -> Option<Known> {
 /// Why there is no current result at a word.
 #[derive(Clone, Copy)]
 pub(crate) enum Lack {
+    /// A program or a function begins.
+    Begun,
     /// The word at this place calls a block.
     Called(usize),
     /// Values of two kinds meet, each from the word at its place, the first one first.
@@ -101,6 +104,9 @@ const MOST_STEPS: usize = 16;
 pub(crate) fn lack_at(code: &Code, ways: &[Way], word: usize) -> Option<Lack> {
     let mut place = word;
     for _ in 0..MOST_STEPS {
+        if code.is_start(place) {
+            return Some(Lack::Begun);
+        }
         let lack = lack_before(code, ways, place);
         if lack.is_some() {
             return lack;
@@ -128,6 +134,18 @@ fn lack_before(code: &Code, ways: &[Way], place: usize) -> Option<Lack> {
         }
     }
     None
+}
+
+/// The last way to a word on which a number comes that is not within what is allowed.
+pub(crate) fn misfit_to(ways: &[Way], word: usize, allowed: Range) -> Option<Way> {
+    let mut misfit = None;
+    for way in ways {
+        let is_known = matches!(way.known, Some(Known::Int(found)) if !found.within(allowed));
+        if is_known && way.to == word {
+            misfit = Some(*way);
+        }
+    }
+    misfit
 }
 
 /// The last place from which a value goes to this one: the one before it, or else the last jump.

@@ -1,12 +1,14 @@
 //! A way that leads to a word, with what is known on it.
 
-use crate::taken::{Way, place_before, ways_up_to};
-use explaincures::{line_of, part, shown_text};
+use crate::refused::instruction_on;
+use crate::taken::{Way, misfit_to, place_before, ways_up_to};
+use explaincures::{Spot, line_of, part, place_of, shown_text};
 use ilcode::{Code, Word};
 use illisting::{KnownText, TaskNames, WordText, line_at};
+use ilranges::Cause;
 use iltokens::Keyword::{Jmp, Jmpc, Jmpcn, Ret, Retc, Retcn};
-use iltokens::{Delimiter, Lexed, What, token};
-use ilverify::{Pass, Passed};
+use iltokens::{Delimiter, Lexed, What, keyword_of, token};
+use ilverify::{Pass, Passed, Refusal};
 use page::Page;
 use std::alloc::{AllocError, Global};
 
@@ -20,10 +22,15 @@ pub(crate) fn print_way(
     page: &mut Page,
     names: &TaskNames,
     text: &[u8],
-    word: usize,
+    refusal: Refusal,
 ) -> Result<(), AllocError> {
-    let code = names.code;
-    let ways = ways_up_to(alloc, code, word)?;
+    let (code, word) = (names.code, refusal.word);
+    let mut ways = ways_up_to(alloc, code, word)?;
+    if let Cause::OutOfRange { allowed, .. } = refusal.cause {
+        if let Some(misfit) = misfit_to(&ways, word, allowed) {
+            ways.push(misfit)?; // the last of them is shown
+        }
+    }
     let way = way_to(alloc, &ways, word)?;
     page.text("the way there, with what is known before each word:\n");
     let mut pass = Pass::begin(alloc, code)?;
@@ -81,7 +88,9 @@ fn print_meeting(page: &mut Page, code: &Code, ways: &[Way], place: usize) {
         if way.to == place && before != Some(way.from) {
             page.text("       |   (ways meet before it: line ");
             page.count(line_at(code, way.from));
-            page.text(" jumps there too)\n");
+            let is_next = way.from.saturating_add(1) == place;
+            page.text(if is_next { " leads" } else { " jumps" });
+            page.text(" there too)\n");
         }
     }
 }
@@ -94,29 +103,16 @@ fn spelled(
     word: Word,
     line: usize,
 ) -> Result<String, AllocError> {
-    if matches!(word, Word::Jump { .. }) {
-        if let Some(written) = jump_on(line_of(text, line)) {
-            return shown_text(alloc, written);
-        }
+    let verb = instruction_on(text, line);
+    let keyword = keyword_of(verb.token());
+    if matches!(word, Word::Jump { .. })
+        && matches!(keyword, Some(Jmp | Jmpc | Jmpcn | Ret | Retc | Retcn))
+    {
+        let label = operand_on(text, line, Behind::Instruction).unwrap_or(verb);
+        return shown_text(alloc, verb.part(verb.at, label.found_to()));
     }
     let word = WordText { names, word };
     format!(in alloc; "{word}")
-}
-
-/// The jump that is written on a line, with its label.
-fn jump_on(line: &[u8]) -> Option<&[u8]> {
-    let mut jump: Option<usize> = None;
-    let mut at: usize = 0;
-    for _ in 0..line.len() {
-        let Some((what, from, to)) = token_at(line, at) else {
-            break;
-        };
-        at = to;
-        if matches!(what, What::Keyword(Jmp | Jmpc | Jmpcn | Ret | Retc | Retcn)) {
-            jump = jump.or(Some(from));
-        }
-    }
-    Some(part(line, jump?, at))
 }
 
 /// What an operand stands behind on its line.
@@ -130,8 +126,10 @@ pub(crate) enum Behind {
     Function(usize),
 }
 
-/// The column of the operand on a line.
-pub(crate) fn operand_column(line: &[u8], behind: Behind) -> Option<usize> {
+/// The operand on a line of a text.
+pub(crate) fn operand_on<'q>(text: &'q [u8], line: usize, behind: Behind) -> Option<Spot<'q>> {
+    let line_from = place_of(text, line, 1);
+    let line = line_of(text, line);
     let mut at: usize = 0;
     let mut number: usize = 0;
     let mut is_next = false;
@@ -143,7 +141,7 @@ pub(crate) fn operand_column(line: &[u8], behind: Behind) -> Option<usize> {
             What::Delimiter(Delimiter::Open | Delimiter::Assign | Delimiter::Colon)
         );
         if is_next && !is_sign {
-            return Some(from.saturating_add(1));
+            return Some(Spot::of(text, line_from.saturating_add(from)));
         }
         number = match what {
             What::Delimiter(Delimiter::Colon) => 0,
