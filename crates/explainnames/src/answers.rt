@@ -3,7 +3,7 @@
 use crate::said::{Said, Slot};
 use crate::standing::FaultPlace;
 use crate::tokens::{Role, next_same};
-use explaincures::{Example, FaultAnswer, line_number, line_of, shown_text};
+use explaincures::{Advice, Example, FaultAnswer, line_number, line_of, shown_text};
 use std::alloc::AllocError;
 
 /// How many lines or sources are told at most.
@@ -21,20 +21,13 @@ impl FaultPlace<'_, '_> {
 
     /// The same, with the lines of another text.
     fn plain(&self, said: &Said) -> Result<FaultAnswer, AllocError> {
-        let (what, rest) = parted(said.row);
-        let (cure, line) = parted(rest);
+        let Advice { what, cure, line } = said.row;
         Ok(FaultAnswer {
             what: self.filled(said, what)?,
             facts: self.filled(said, said.facts)?,
             cure: self.filled(said, cure)?,
             example: Example::Other(self.filled(said, line)?),
         })
-    }
-
-    /// What is wrong.
-    pub(crate) fn what(&self, said: &Said) -> Result<String, AllocError> {
-        let (what, _) = parted(said.row);
-        self.filled(said, what)
     }
 
     /// A text, with what stands for its slots.
@@ -111,14 +104,8 @@ impl FaultPlace<'_, '_> {
                 let port = self.block_of_port()?.ports().get(number)?;
                 Some(Slot::Bytes(port.name.spelling()))
             }
-            'i' => {
-                let name = self.inputs().get(number)?.name;
-                Some(Slot::Part(name.from, name.to))
-            }
-            'e' if number < MOST_TOLD => {
-                let bound = self.asked.binding.sources().get(number)?;
-                Some(Slot::Source(u64::from(bound.bus), u64::from(bound.number)))
-            }
+            'i' => Some(Slot::of(self.inputs().get(number)?.name)),
+            'e' if number < MOST_TOLD => self.source(number, 0),
             's' if number < MOST_TOLD => {
                 let found = next_same(&self.spot, *at, Role::Stored)?;
                 *at = found.to;
@@ -127,9 +114,11 @@ impl FaultPlace<'_, '_> {
             _ => None,
         }
     }
-}
 
-/// What stands before a tab, and behind it.
-pub(crate) fn parted(row: &'static str) -> (&'static str, &'static str) {
-    row.split_once('\t').unwrap_or((row, ""))
+    /// The source of this number, with what is added to its own.
+    pub(crate) fn source(&self, number: usize, added: u64) -> Option<Slot> {
+        let bound = self.asked.binding.sources().get(number)?;
+        let place = u64::from(bound.number).saturating_add(added);
+        Some(Slot::Source(u64::from(bound.bus), place))
+    }
 }

@@ -5,112 +5,93 @@ use crate::said::{Change, Said, Slot};
 use crate::standing::FaultPlace;
 use crate::tokens::token_at;
 use explaincures::{Edit, EditOutcome, is_near, near_word};
-use ilsource::Name;
 use iltokens::What;
 use std::alloc::AllocError;
 
-/// How many names of the text are tried at most.
-const MOST_NAMES: usize = 8;
-
-/// The names of the text that are near to what was found, each once.
-#[derive(Clone, Copy)]
-struct NearNames {
-    /// Where the next one is looked for.
-    at: usize,
-    /// Those that were found, and how many they are.
-    names: [Name; MOST_NAMES],
-    count: usize,
-}
+/// How many words are tried at most.
+const MOST_WORDS: usize = 9;
 
 impl FaultPlace<'_, '_> {
     /// The first change that helps, if one does: after it the names of the text have no fault up to
     /// the change.
     pub(crate) fn cure(&self, said: &Said) -> Result<Option<Edit>, AllocError> {
-        let mut near = NearNames {
-            at: 0,
-            names: [self.name(); MOST_NAMES],
-            count: 0,
+        let (meant, with) = match said.change {
+            Change::Nothing => return Ok(None),
+            Change::Put(from, to, with) => return self.helping(said, (from, to), with),
+            Change::Near => (self.near()?, "{1}"),
+            Change::Source(added) => (self.sources(added)?, "{0}{1}"),
         };
-        // A reserved word may come before the names.
-        for number in 0..=MOST_NAMES {
-            let tried = self.tried(said, number, &mut near);
-            let Change::Put(from, to, with) = tried.change else {
-                return Ok(None);
-            };
-            let with = self.filled(&tried, with)?;
-            let edit = Edit::new(self.alloc, from, to, with.as_bytes())?;
-            match edit.outcome(self.alloc, self.asked)? {
-                EditOutcome::Text
-                | EditOutcome::Name {
-                    is_later: false,
-                    ..
-                } => {}
-                _ => return Ok(Some(edit)),
+        let [first, ..] = said.slots;
+        for one in &meant {
+            let tried = said.with_slots([first, *one, Slot::Nothing]);
+            let edit = self.helping(&tried, (self.spot.at, self.spot.found_to()), with)?;
+            if edit.is_some() {
+                return Ok(edit);
             }
         }
         Ok(None)
     }
 
-    /// What is tried as the change of this number: it puts a text; or nothing is left to try.
-    fn tried(&self, said: &Said, number: usize, near: &mut NearNames) -> Said {
-        let [word, ..] = said.slots;
-        let meant = match said.change {
-            Change::Put(..) if number == 0 => return *said,
-            Change::Near => self.near(number, near),
-            Change::Source(added) if number < MOST_TOLD => self.source(number, added),
-            _ => None,
+    /// A text in place of the bytes from one place to another, if that helps.
+    fn helping(
+        &self,
+        said: &Said,
+        (from, to): (usize, usize),
+        with: &str,
+    ) -> Result<Option<Edit>, AllocError> {
+        let with = self.filled(said, with)?;
+        let edit = Edit::new(self.alloc, from, to, with.as_bytes())?;
+        let outcome = edit.outcome(self.alloc, self.asked)?;
+        let is_there = match outcome {
+            EditOutcome::Text => true,
+            EditOutcome::Name { is_later, .. } => !is_later,
+            _ => false,
         };
-        let change = match meant {
-            Some(_) => Change::Put(self.spot.at, self.spot.found_to(), "{0}{1}"),
-            None => Change::Nothing,
-        };
-        let slots = [word, meant.unwrap_or(Slot::Nothing), Slot::Nothing];
-        said.with_slots(slots).with_change(change)
+        Ok(if is_there { None } else { Some(edit) })
     }
 
-    /// The source of this number, with what is added to its own.
-    fn source(&self, number: usize, added: u64) -> Option<Slot> {
-        let bound = self.asked.binding.sources().get(number)?;
-        let place = u64::from(bound.number).saturating_add(added);
-        Some(Slot::Source(u64::from(bound.bus), place))
-    }
-
-    /// First the reserved word that is near to what was found, if one is, and then the names.
-    fn near(&self, number: usize, near: &mut NearNames) -> Option<Slot> {
-        match near_word(self.spot.token()) {
-            Some(word) if number == 0 => Some(Slot::Word(word)),
-            _ => self.near_name(near),
+    /// The first sources of the binding, with what is added to their numbers.
+    fn sources(&self, added: u64) -> Result<Vec<Slot>, AllocError> {
+        let mut all = Vec::new(self.alloc);
+        for number in 0..MOST_TOLD {
+            if let Some(source) = self.source(number, added) {
+                all.push(source)?;
+            }
         }
+        Ok(all)
     }
 
-    /// The next name that is near to what was found, and has not stood before.
-    fn near_name(&self, near: &mut NearNames) -> Option<Slot> {
+    /// The reserved word that is near to what was found, if one is, and then the names of the text
+    /// that are, each once.
+    fn near(&self) -> Result<Vec<Slot>, AllocError> {
+        let mut all = Vec::new(self.alloc);
+        if let Some(word) = near_word(self.spot.token()) {
+            all.push(Slot::Word(word))?;
+        }
+        let mut at: usize = 0;
         for _ in 0..self.spot.text.len() {
-            let found = token_at(self.spot.text, near.at)?;
-            near.at = found.to;
-            let name = Name {
-                from: found.from,
-                to: found.to,
+            let Some(found) = token_at(self.spot.text, at) else {
+                return Ok(all);
             };
-            let is_meant = is_near(name.text(self.spot.text), self.spot.token());
-            if found.what == What::Name && is_meant && near.is_new(name, self.spot.text) {
-                *near.names.get_mut(near.count)? = name;
-                near.count = near.count.saturating_add(1);
-                return Some(Slot::Part(name.from, name.to));
+            at = found.to;
+            let name = self.spot.part(found.from, found.to);
+            let is_meant = found.what == What::Name && is_near(name, self.spot.token());
+            if is_meant && all.len() < MOST_WORDS && !self.has_name(&all, name) {
+                all.push(Slot::Part(found.from, found.to))?;
             }
         }
-        None
+        Ok(all)
     }
-}
 
-impl NearNames {
-    /// Whether a name is none of those that were found.
-    fn is_new(&self, name: Name, text: &[u8]) -> bool {
-        for one in self.names.iter().take(self.count) {
-            if one.is_same(name, text) {
-                return false;
+    /// Whether a name is one of some.
+    fn has_name(&self, names: &[Slot], name: &[u8]) -> bool {
+        for one in names {
+            if let Slot::Part(from, to) = one {
+                if self.spot.part(*from, *to).eq_ignore_ascii_case(name) {
+                    return true;
+                }
             }
         }
-        true
+        false
     }
 }

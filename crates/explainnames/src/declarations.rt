@@ -1,15 +1,16 @@
 //! What is said of bad declarations.
 
-use crate::said::{Change, Said, Slot, advice};
-use crate::standing::{FaultPlace, Standing};
+use crate::said::{Said, Slot, advice};
+use crate::standing::FaultPlace;
 use crate::tokens::type_behind;
+use explaincures::Advice;
 use ilscope::{Found, NameCause};
-use ilsource::{Constant, Declared, Name, Specification, TaskDeclaration};
-use iltokens::AddressKind;
+use ilsource::{Constant, Declared, Specification, TaskDeclaration};
+use iltokens::{AddressKind, Keyword};
 use std::alloc::AllocError;
 
 /// What is said of a bad declaration of which nothing else is known.
-const BAD_DECLARATION: &str = advice!("a bad declaration";
+const BAD_DECLARATION: Advice = advice!("a bad declaration";
     "keep the limits within those of the type, the lower one first, and the\n\
         first value within them; a task has either SINGLE or INTERVAL, and a\n\
         priority of 0 to 65535";
@@ -17,53 +18,55 @@ const BAD_DECLARATION: &str = advice!("a bad declaration";
 
 /// What is said of a bad declaration, or of a call that does not fit it.
 pub(crate) fn said_of_declaration(place: &FaultPlace) -> Result<Said, AllocError> {
-    Ok(match place.standing {
-        Standing::Task(_, task) => Said::of(of_task(task)),
-        Standing::Global(Some(kind), declared) if !is_outside(declared) => located(kind),
-        Standing::Declared(Declared::External(_)) => match place.global_named() {
-            Some(global) => different(place, global)?,
-            None => Said::of(BAD_DECLARATION),
+    let kind = match place.global_named() {
+        Some(global) => match global.address {
+            Some(address) => Some(address.kind),
+            None => None,
         },
-        Standing::Function(false, _) => Said::of(advice!("a function without an input";
-            "declare one at least: a call hands the current result to the first";
-            "VAR_INPUT v : INT (0..254); END_VAR")),
-        Standing::Own(Declared::Blocks(_)) => Said::of(advice!("a block instance in a function";
-            "a function keeps nothing from call to call: declare the instance in the\n\
-                program, and hand in what it gives as an input";
-            "VAR_INPUT pressed : BOOL; END_VAR")),
-        Standing::Global(_, declared)
-        | Standing::Type(declared)
-        | Standing::Function(_, declared)
-        | Standing::Input(_, declared)
-        | Standing::Own(declared)
-        | Standing::Declared(declared) => of_declared(declared),
+        None => None,
+    };
+    let row = match (place.around.block_word(), place.declared()) {
         // A call: nothing else in a line is at fault so.
-        Standing::Used(_) => Said::of(advice!("a call with too few or too many operands";
-            "the current result goes to the first input: write an operand for each\n\
-                other one, in their order";
-            "blend 100, 25"))
-        .with_facts("its inputs ({c}): {i}\n", 0),
-        _ => Said::of(BAD_DECLARATION),
-    })
-}
-
-/// What is said of a type that does not fit an address of a kind.
-fn located(kind: AddressKind) -> Said {
-    Said::of(match kind {
-        AddressKind::InputBit => advice!("a type that does not fit the address";
-            "a trigger %IX is BOOL; what its source says is the information %IW, with\n\
-                128 and the number of the source";
-            "sensor AT %IW0.128 : UINT (0..1023);"),
-        _ => advice!("a type that does not fit the address";
-            "a level %QB is USINT or a range of 0 to 255, an answer, an information and a\n\
-                count %IW are numbers, a trigger %IX is BOOL";
-            "lamp AT %QB0.5 : USINT (0..254);"),
-    })
+        _ if place.used.is_some() => {
+            return Ok(Said::of(advice!("a call with too few or too many operands";
+                "the current result goes to the first input: write an operand for each\n\
+                    other one, in their order";
+                "blend 100, 25"))
+            .with_facts("its inputs ({c}): {i}\n", 0));
+        }
+        _ if place.is_behind(Keyword::Task) => of_task(place.task_named()),
+        (Some(Keyword::VarExternal), _) => return different(place),
+        (Some(Keyword::Var), Some(Declared::Blocks(_))) => {
+            advice!("a block instance in a function";
+                "a function keeps nothing from call to call: declare the instance in the\n\
+                    program, and hand in what it gives as an input";
+                "VAR_INPUT pressed : BOOL; END_VAR")
+        }
+        _ if place.is_behind(Keyword::Function) && place.inputs().is_empty() => {
+            advice!("a function without an input";
+                "declare one at least: a call hands the current result to the first";
+                "VAR_INPUT v : INT (0..254); END_VAR")
+        }
+        (Some(Keyword::VarGlobal), Some(declared)) => return Ok(of_declared(declared, kind)),
+        (_, Some(declared)) => return Ok(of_declared(declared, None)),
+        (_, None) => BAD_DECLARATION,
+    };
+    Ok(Said::of(row))
 }
 
 /// What is said of a task.
-fn of_task(task: TaskDeclaration) -> &'static str {
-    match (task.single, task.interval) {
+fn of_task(task: Option<TaskDeclaration>) -> Advice {
+    let Some(
+        TaskDeclaration {
+            single,
+            interval,
+            ..
+        },
+    ) = task
+    else {
+        return BAD_DECLARATION;
+    };
+    match (single, interval) {
         (None, None) => advice!("a task that nothing starts";
             "write SINGLE with a trigger, or INTERVAL with a time, before PRIORITY";
             "TASK clock (INTERVAL := T#100ms, PRIORITY := 1);"),
@@ -80,22 +83,9 @@ fn of_task(task: TaskDeclaration) -> &'static str {
     }
 }
 
-/// Whether a range is none, or a first value stands outside it.
-fn is_outside(declared: Declared) -> bool {
-    match declared {
-        Declared::Variables {
-            specification: Specification::Subrange { low, high, .. },
-            initial,
-        } => match initial {
-            Some(Constant::Number(first)) => low > high || first < low || first > high,
-            _ => low > high,
-        },
-        _ => false,
-    }
-}
-
-/// What is said of other variables, of a type, or of a function's result.
-fn of_declared(declared: Declared) -> Said {
+/// What is said of other variables, of a type, or of a function's result; of a global variable with
+/// the kind of its address, if it has one.
+fn of_declared(declared: Declared, kind: Option<AddressKind>) -> Said {
     let Declared::Variables {
         specification,
         initial,
@@ -109,20 +99,29 @@ fn of_declared(declared: Declared) -> Said {
                 "write the lower limit first";
                 "level : INT (0..254);")
         }
+        (Specification::Subrange { low, high, .. }, Some(Constant::Number(first)))
+            if first < low || first > high => {
+            return Said::of(advice!("{0} is outside {1}..{2}";
+                "write a first value of the range, or a wider range";
+                "level : USINT (0..254) := 100;"))
+            .with_slots([Slot::Limit(first), Slot::Limit(low), Slot::Limit(high)]);
+        }
+        _ if matches!(kind, Some(AddressKind::InputBit)) => {
+            advice!("a type that does not fit the address";
+                "a trigger %IX is BOOL; what its source says is the information %IW, with\n\
+                    128 and the number of the source";
+                "sensor AT %IW0.128 : UINT (0..1023);")
+        }
+        _ if kind.is_some() => advice!("a type that does not fit the address";
+            "a level %QB is USINT or a range of 0 to 255, an answer, an information and a\n\
+                count %IW are numbers, a trigger %IX is BOOL";
+            "lamp AT %QB0.5 : USINT (0..254);"),
         (Specification::Bool, Some(_)) => advice!("a first value that is not a truth value";
             "write TRUE, FALSE, 1 or 0";
             "is_on : BOOL := TRUE;"),
         (_, Some(Constant::Bool(_))) => advice!("a first value that is not a number";
             "write a number, or a time";
             "level : USINT (0..254) := 100;"),
-        (Specification::Subrange { low, high, .. }, Some(Constant::Number(first)))
-            if first < low || first > high => {
-            let slots = [Slot::Limit(first), Slot::Limit(low), Slot::Limit(high)];
-            return Said::of(advice!("{0} is outside {1}..{2}";
-                "write a first value of the range, or a wider range";
-                "level : USINT (0..254) := 100;"))
-            .with_slots(slots);
-        }
         (Specification::Subrange { .. }, _) | (_, Some(_)) => {
             advice!("a range or a first value outside its type";
                 "SINT is -128..127, INT -32768..32767, DINT -2147483648..2147483647, USINT\n\
@@ -135,15 +134,17 @@ fn of_declared(declared: Declared) -> Said {
 
 /// What is said of a variable of VAR_EXTERNAL that has another type than the one of VAR_GLOBAL: the
 /// line of that, and the type that it could have, if that fits its address.
-fn different(place: &FaultPlace, global: Name) -> Result<Said, AllocError> {
-    let (from, to) = type_behind(place.spot.text, place.spot.at);
-    let (first, last) = type_behind(place.spot.text, global.from);
+fn different(place: &FaultPlace) -> Result<Said, AllocError> {
+    let Some(global) = place.global_named() else {
+        return Ok(Said::of(BAD_DECLARATION));
+    };
+    let at = global.name.from;
     let before = Found {
-        at: global.from,
+        at,
         cause: NameCause::NoTask,
     };
     let is_bad = match place.scope.next_fault(place.alloc, Some(before))? {
-        Some(found) => found.at == global.from,
+        Some(found) => found.at == at,
         None => false,
     };
     let said = if is_bad {
@@ -152,13 +153,12 @@ fn different(place: &FaultPlace, global: Name) -> Result<Said, AllocError> {
                 and the same here";
             "lamp AT %QB0.5 : USINT (0..254);"))
     } else {
+        let (from, to) = type_behind(place.spot.text, place.spot.at);
+        let (first, last) = type_behind(place.spot.text, at);
         Said::of(advice!("a type that is not that of VAR_GLOBAL";
             "write the same type in both";
             "VAR_EXTERNAL lamp : USINT (0..254); END_VAR"))
-        .with_change(Change::Put(from, to, "{0}"))
+        .put(from, to, "{0}", Slot::Part(first, last))
     };
-    Ok(
-        said.with_slots([Slot::Part(first, last); 3])
-            .with_facts("in VAR_GLOBAL:\n{g}\n", global.from),
-    )
+    Ok(said.with_facts("in VAR_GLOBAL:\n{g}\n", at))
 }

@@ -16,13 +16,11 @@ mod answers;
 mod changes;
 mod declarations;
 mod name_answers;
-mod name_causes;
 mod name_habits;
 mod other_faults;
 mod said;
 mod standing;
 mod tokens;
-mod told;
 mod unknown_names;
 
 pub use name_answers::answer_name;

@@ -1,11 +1,11 @@
-//! The faults of names of a text besides the one that is explained.
+//! The faults of names of a text besides the one that is explained: no two at one place, and none
+//! that only follows from another.
 
 use crate::name_answers::said_of;
 use crate::standing::FaultPlace;
-use crate::told::Told;
 use explaincures::AskedText;
 use ilscope::{Found, NameCause, NameFault, Scope, report_of};
-use ilsource::Source;
+use ilsource::{Purpose, Source, Symbol};
 use ilsyms::next_fault;
 use std::alloc::{AllocError, Global};
 
@@ -56,7 +56,10 @@ impl OtherFaults {
             more: 0,
             is_cut: false,
         };
-        let mut told = Told::nothing();
+        let mut told = Told {
+            place: None,
+            call: None,
+        };
         let mut found = Found { at, cause };
         told.add(&FaultPlace::of(alloc, asked, &scope, at)?, found);
         // How many faults are looked at.
@@ -83,7 +86,7 @@ impl OtherFaults {
         }
         if let NameFault::At { line, col, cause } = report_of(place.asked.text, found) {
             let said = said_of(place, cause)?;
-            let what = place.what(&said)?;
+            let what = place.filled(&said, said.row.what)?;
             self.named.push(NamedFault {
                 line,
                 col,
@@ -92,5 +95,51 @@ impl OtherFaults {
             })?;
         }
         Ok(())
+    }
+}
+
+/// What was told of a text up to a place: where the last fault stands, and the last instruction
+/// whose function there is not.
+#[derive(Clone, Copy)]
+struct Told {
+    place: Option<usize>,
+    call: Option<usize>,
+}
+
+impl Told {
+    /// Tells of the next fault, and whether it is told. Left out is too much of something, and an
+    /// operand of a function that there is not: such a line may be meant to be another instruction.
+    fn add(&mut self, place: &FaultPlace, found: Found) -> bool {
+        let instruction = match place.used {
+            Some(used) => Some(used.at),
+            None => None,
+        };
+        let is_known = self.place == Some(found.at)
+            || instruction.is_some() && self.call == instruction
+            || found.cause == NameCause::TooMany;
+        if is_known || follows(place, found.cause) {
+            return false;
+        }
+        self.place = Some(found.at);
+        if let (Some(Purpose::Invoke), NameCause::Unknown) = (place.purpose(), found.cause) {
+            self.call = instruction;
+        }
+        true
+    }
+}
+
+/// Whether a fault only follows from one before it.
+fn follows(place: &FaultPlace, cause: NameCause) -> bool {
+    match (cause, place.symbol()) {
+        (NameCause::Unknown, Some(Symbol::Block(block))) => place.has_unknown_type(block),
+        // A call of what is no instance is at fault itself.
+        (NameCause::Unknown, Some(Symbol::Port { block, .. })) => {
+            let is_passed = matches!(place.purpose(), Some(Purpose::Pass));
+            place.has_unknown_type(block) || is_passed && place.block_of_port().is_none()
+        }
+        (NameCause::BadDeclaration, Some(Symbol::Function(_))) => {
+            place.function_named().is_some() && place.inputs().is_empty()
+        }
+        _ => false,
     }
 }

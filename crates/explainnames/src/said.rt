@@ -1,10 +1,16 @@
 //! What is said of a fault of names, as plain values.
 
-/// A row of what is said, its columns apart by tabs: what is wrong, what helps, and lines of
-/// another text.
+use explaincures::Advice;
+use ilsource::Name;
+
+/// A row of what is said: what is wrong, what helps, and lines of another text.
 macro_rules! advice {
     ($what:literal; $cure:literal; $line:literal) => {
-        concat!($what, "\t", $cure, "\t", $line)
+        Advice {
+            what: $what,
+            cure: $cure,
+            line: $line,
+        }
     };
 }
 
@@ -13,8 +19,7 @@ pub(crate) use advice;
 /// What is said of a fault of names. A sign in braces is a slot of the texts.
 #[derive(Clone, Copy)]
 pub(crate) struct Said {
-    /// A row of [`advice`].
-    pub row: &'static str,
+    pub row: Advice,
     /// What more is known, in lines.
     pub facts: &'static str,
     /// What stands for `{0}` to `{2}`.
@@ -52,9 +57,16 @@ pub(crate) enum Change {
     Source(u64),
 }
 
+impl Slot {
+    /// A name of the text.
+    pub(crate) fn of(name: Name) -> Slot {
+        Slot::Part(name.from, name.to)
+    }
+}
+
 impl Said {
     /// What a row says, and nothing else.
-    pub(crate) fn of(row: &'static str) -> Said {
+    pub(crate) fn of(row: Advice) -> Said {
         Said {
             row,
             facts: "",
@@ -77,5 +89,16 @@ impl Said {
     /// The same, with what may cure the fault.
     pub(crate) fn with_change(self, change: Change) -> Said {
         Said { change, ..self }
+    }
+
+    /// The same, with a text in place of the bytes from one place to another, and what stands for
+    /// each slot.
+    pub(crate) fn put(self, from: usize, to: usize, with: &'static str, slot: Slot) -> Said {
+        let change = Change::Put(from, to, with);
+        Said {
+            change,
+            slots: [slot; 3],
+            ..self
+        }
     }
 }

@@ -1,13 +1,14 @@
 //! What stands at a place of a text.
 
-use explaincures::{AskedText, Spot};
+use crate::tokens::what_at;
+use explaincures::{AskedText, Spot, Surroundings};
 use ilblocks::BlockKind;
-use ilscope::{DeclaredVariable, FunctionScope, Scope};
+use ilscope::{DeclaredGlobal, DeclaredVariable, FunctionScope, Scope};
 use ilsource::{
-    Configuration, Constant, Declaration, Declared, Element, Line, Name, Operand, Purpose, Source,
-    SourceFunction, Specification, Symbol, TaskDeclaration,
+    Configuration, Constant, Declaration, Declared, Element, InstanceDeclaration, Line, Name,
+    Operand, Purpose, Source, Specification, Symbol, TaskDeclaration, Use,
 };
-use iltokens::AddressKind;
+use iltokens::{Keyword, What};
 use iluses::uses_of;
 use std::alloc::{AllocError, Global};
 
@@ -18,42 +19,9 @@ pub(crate) struct FaultPlace<'a, 's> {
     pub asked: &'a AskedText<'a>,
     pub scope: &'a Scope<'s>,
     pub spot: Spot<'a>,
-    pub standing: Standing,
-}
-
-/// What stands at a place of a text.
-#[derive(Clone, Copy)]
-pub(crate) enum Standing {
-    /// The name of a task, with the number of those before it.
-    Task(usize, TaskDeclaration),
-    /// The name of a program instance, with the number of those before it.
-    Instance(usize),
-    /// The name of a global variable: of which kind its address is, if it has one, and what it is
-    /// declared as.
-    Global(Option<AddressKind>, Declared),
-    Type(Declared),
-    Program,
-    /// The name of a function: whether it has inputs, and its result.
-    Function(bool, Declared),
-    /// The name of a function's input, with the number of those before it.
-    Input(usize, Declared),
-    /// A name that a function's VAR declares.
-    Own(Declared),
-    /// A name that a program declares.
-    Declared(Declared),
-    Used(Used),
-    Other,
-}
-
-/// What a line uses.
-#[derive(Clone, Copy)]
-pub(crate) struct Used {
-    pub symbol: Symbol,
-    /// Where its instruction stands, in or out of parentheses.
-    pub instruction: usize,
-    pub is_in_function: bool,
-    /// For what it stands there.
-    pub purpose: Purpose,
+    pub around: Surroundings,
+    /// What a line uses by the word at the place, if it does.
+    pub used: Option<Use<Symbol>>,
 }
 
 impl<'a, 's> FaultPlace<'a, 's> {
@@ -64,13 +32,14 @@ impl<'a, 's> FaultPlace<'a, 's> {
         scope: &'a Scope<'s>,
         at: usize,
     ) -> Result<FaultPlace<'a, 's>, AllocError> {
-        let standing = standing_at(alloc, scope.source(), at)?;
+        let used = used_at(alloc, lines_at(scope.source(), at), at)?;
         Ok(FaultPlace {
             alloc,
             asked,
             scope,
             spot: Spot::of(asked.text, at),
-            standing,
+            around: Surroundings::of(asked.text, at),
+            used,
         })
     }
 
@@ -79,6 +48,84 @@ impl<'a, 's> FaultPlace<'a, 's> {
         Name {
             from: self.spot.at,
             to: self.spot.found_to(),
+        }
+    }
+
+    /// For what a line uses the word at the place, if it does.
+    pub(crate) fn purpose(&self) -> Option<Purpose> {
+        Some(self.used?.purpose)
+    }
+
+    /// What a line names by the word at the place.
+    pub(crate) fn symbol(&self) -> Option<Symbol> {
+        match self.used?.operand {
+            Operand::Name(symbol) => Some(symbol),
+            Operand::Constant(_) => None,
+        }
+    }
+
+    /// Whether the place stands in a function.
+    pub(crate) fn is_in_function(&self) -> bool {
+        self.around.unit_word() == Some(Keyword::Function)
+    }
+
+    /// Whether this reserved word stands just before the place.
+    pub(crate) fn is_behind(&self, word: Keyword) -> bool {
+        let (from, _) = self.around.before;
+        what_at(self.spot.text, from) == Some(What::Keyword(word))
+    }
+
+    /// The lines of the program or the function in which the place stands.
+    pub(crate) fn lines(&self) -> &'a [Line<Symbol, Name>] {
+        lines_at(self.scope.source(), self.spot.at)
+    }
+
+    /// The configuration, if the text has one.
+    fn configuration(&self) -> Option<&'a Configuration> {
+        self.scope.source().configuration()
+    }
+
+    /// The program instances of the configuration.
+    pub(crate) fn instances(&self) -> &'a [InstanceDeclaration] {
+        match self.configuration() {
+            Some(configuration) => configuration.instances(),
+            None => &[],
+        }
+    }
+
+    /// The first task of the configuration.
+    pub(crate) fn first_task(&self) -> Option<TaskDeclaration> {
+        self.configuration()?.tasks().first().copied()
+    }
+
+    /// The first task that has the name at the place.
+    pub(crate) fn task_named(&self) -> Option<TaskDeclaration> {
+        let number = self.scope.task_number(self.name())?;
+        self.configuration()?.tasks().get(number).copied()
+    }
+
+    /// What the name at the place is declared as there.
+    pub(crate) fn declared(&self) -> Option<Declared> {
+        let at = self.spot.at;
+        if let (Some(Keyword::VarGlobal), Some(configuration)) = (
+            self.around.block_word(),
+            self.configuration(),
+        ) {
+            for one in configuration.globals() {
+                if has_name_at(one.names(), at) {
+                    return Some(variables_of(one.specification(), one.initial()));
+                }
+            }
+        }
+        match element_at(self.scope.source(), at)? {
+            Element::DerivedType(one) => Some(variables_of(one.specification, one.initial)),
+            Element::Function(one) if one.name().from == at => {
+                Some(variables_of(one.result_type(), None))
+            }
+            Element::Function(one) => {
+                declared_among(one.inputs(), at).or(declared_among(one.variables(), at))
+            }
+            Element::Program(one) => declared_among(one.declarations(), at),
         }
     }
 
@@ -91,11 +138,9 @@ impl<'a, 's> FaultPlace<'a, 's> {
         let mut found = None;
         for declaration in program.declarations() {
             for one in declaration.names() {
-                if one.is_same(name, self.spot.text) {
+                let is_block = matches!(found, Some(Declared::Blocks(_)));
+                if !is_block && one.is_same(name, self.spot.text) {
                     found = Some(declaration.declared_kind());
-                    if let Some(Declared::Blocks(_)) = found {
-                        return found;
-                    }
                 }
             }
         }
@@ -126,32 +171,19 @@ impl<'a, 's> FaultPlace<'a, 's> {
 
     /// The kind of the block instance of which a port is named at the place.
     pub(crate) fn block_of_port(&self) -> Option<BlockKind> {
-        match self.standing {
-            Standing::Used(
-                Used {
-                    symbol: Symbol::Port { block, .. },
-                    ..
-                },
-            ) => match self.declared_as(block)? {
-                Declared::Blocks(kind) => Some(kind),
-                _ => None,
-            },
-            _ => None,
-        }
-    }
-
-    /// The name of the function in which the place stands.
-    pub(crate) fn function_around(&self) -> Option<Name> {
-        match element_at(self.scope.source(), self.spot.at)? {
-            Element::Function(function) => Some(function.name()),
+        let Some(Symbol::Port { block, .. }) = self.symbol() else {
+            return None;
+        };
+        match self.declared_as(block)? {
+            Declared::Blocks(kind) => Some(kind),
             _ => None,
         }
     }
 
     /// The global variable that has the name at the place.
-    pub(crate) fn global_named(&self) -> Option<Name> {
+    pub(crate) fn global_named(&self) -> Option<DeclaredGlobal> {
         let number = self.scope.global_number(self.name())?;
-        Some(self.scope.globals().get(number)?.name)
+        self.scope.globals().get(number).copied()
     }
 
     /// The first function that has the name at the place.
@@ -169,50 +201,49 @@ impl<'a, 's> FaultPlace<'a, 's> {
     }
 }
 
-/// What stands at a place.
-fn standing_at(alloc: Global, source: &Source, at: usize) -> Result<Standing, AllocError> {
-    let configured = match source.configuration() {
-        Some(configuration) => configured_at(configuration, at),
-        None => None,
-    };
-    let element = element_at(source, at);
-    match (configured.or(declared_in(element, at)), element) {
-        (Some(found), _) => Ok(found),
-        (None, Some(Element::Function(function))) => used_at(alloc, true, function.lines(), at),
-        (None, Some(Element::Program(program))) => used_at(alloc, false, program.lines(), at),
-        _ => Ok(Standing::Other),
-    }
-}
-
-/// The function or the program in which a place stands, or the type whose name stands there.
+/// The function, the program or the type that begins last before a place.
 fn element_at(source: &Source, at: usize) -> Option<&Element> {
     let mut found = None;
     for element in source.elements() {
-        let is_there = match element {
-            Element::DerivedType(declared) => declared.name.from == at,
-            Element::Function(function) => function.name().from <= at,
-            Element::Program(program) => program.name().from <= at,
+        let name = match element {
+            Element::DerivedType(declared) => declared.name,
+            Element::Function(function) => function.name(),
+            Element::Program(program) => program.name(),
         };
-        if is_there {
+        if name.from <= at {
             found = Some(element);
         }
     }
     found
 }
 
-/// What an element declares at a place.
-fn declared_in(element: Option<&Element>, at: usize) -> Option<Standing> {
-    match element? {
-        Element::DerivedType(one) => {
-            Some(Standing::Type(variables_of(one.specification, one.initial)))
-        }
-        Element::Function(function) => in_function(function, at),
-        Element::Program(program) if program.name().from == at => Some(Standing::Program),
-        Element::Program(program) => {
-            let (_, declared) = declared_at(program.declarations(), at)?;
-            Some(Standing::Declared(declared))
+/// The lines of the program or the function in which a place stands.
+fn lines_at(source: &Source, at: usize) -> &[Line<Symbol, Name>] {
+    match element_at(source, at) {
+        Some(Element::Function(function)) => function.lines(),
+        Some(Element::Program(program)) => program.lines(),
+        _ => &[],
+    }
+}
+
+/// What lines use by the word at a place.
+fn used_at(
+    alloc: Global,
+    lines: &[Line<Symbol, Name>],
+    at: usize,
+) -> Result<Option<Use<Symbol>>, AllocError> {
+    for used in &uses_of(alloc, lines)? {
+        let is_there = match used.operand {
+            Operand::Name(Symbol::Port { block, port }) => block.from == at || port.from == at,
+            Operand::Name(Symbol::Variable(name) | Symbol::Block(name) | Symbol::Function(name)) =>
+                name.from == at,
+            Operand::Constant(_) => false,
+        };
+        if is_there {
+            return Ok(Some(*used));
         }
     }
+    Ok(None)
 }
 
 /// What is declared of these parts.
@@ -223,86 +254,22 @@ fn variables_of(specification: Specification, initial: Option<Constant>) -> Decl
     }
 }
 
-/// What is declared at a place of a function.
-fn in_function(function: &SourceFunction, at: usize) -> Option<Standing> {
-    if function.name().from == at {
-        let result = variables_of(function.result_type(), None);
-        return Some(Standing::Function(!function.inputs().is_empty(), result));
-    }
-    if let Some((number, declared)) = declared_at(function.inputs(), at) {
-        return Some(Standing::Input(number, declared));
-    }
-    let (_, declared) = declared_at(function.variables(), at)?;
-    Some(Standing::Own(declared))
-}
-
-/// What the name at a place is declared as, and how many names stand before it.
-fn declared_at(declarations: &[Declaration], at: usize) -> Option<(usize, Declared)> {
-    let mut number: usize = 0;
+/// What the name at a place is declared as among some.
+fn declared_among(declarations: &[Declaration], at: usize) -> Option<Declared> {
     for declaration in declarations {
-        for name in declaration.names() {
-            if name.from == at {
-                return Some((number, declaration.declared_kind()));
-            }
-            number = number.saturating_add(1);
+        if has_name_at(declaration.names(), at) {
+            return Some(declaration.declared_kind());
         }
     }
     None
 }
 
-/// What lines use at a place.
-fn used_at(
-    alloc: Global,
-    is_in_function: bool,
-    lines: &[Line<Symbol, Name>],
-    at: usize,
-) -> Result<Standing, AllocError> {
-    for used in &uses_of(alloc, lines)? {
-        if let Operand::Name(symbol) = used.operand {
-            if stands_at(symbol, at) {
-                return Ok(Standing::Used(Used {
-                    symbol,
-                    instruction: used.at,
-                    is_in_function,
-                    purpose: used.purpose,
-                }));
-            }
+/// Whether one of some names stands at a place.
+fn has_name_at(names: &[Name], at: usize) -> bool {
+    for name in names {
+        if name.from == at {
+            return true;
         }
     }
-    Ok(Standing::Other)
-}
-
-/// Whether a word of a symbol stands at a place.
-fn stands_at(symbol: Symbol, at: usize) -> bool {
-    match symbol {
-        Symbol::Variable(name) | Symbol::Block(name) | Symbol::Function(name) => name.from == at,
-        Symbol::Port { block, port } => block.from == at || port.from == at,
-    }
-}
-
-/// What stands at a place of a configuration.
-fn configured_at(configuration: &Configuration, at: usize) -> Option<Standing> {
-    for (number, task) in configuration.tasks().iter().enumerate() {
-        if task.name.from == at {
-            return Some(Standing::Task(number, *task));
-        }
-    }
-    for global in configuration.globals() {
-        for name in global.names() {
-            if name.from == at {
-                let declared = variables_of(global.specification(), global.initial());
-                let kind = match global.address() {
-                    Some(address) => Some(address.kind),
-                    None => None,
-                };
-                return Some(Standing::Global(kind, declared));
-            }
-        }
-    }
-    for (number, instance) in configuration.instances().iter().enumerate() {
-        if instance.name.from == at {
-            return Some(Standing::Instance(number));
-        }
-    }
-    None
+    false
 }

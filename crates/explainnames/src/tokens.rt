@@ -39,13 +39,6 @@ pub(crate) fn what_at(text: &[u8], at: usize) -> Option<What> {
     Some(token_at(text, at)?.what)
 }
 
-/// Where the name or the address that was found has a role first, from a place on and before the
-/// one at fault.
-pub(crate) fn same_before(spot: &Spot, start: usize, role: Role) -> Option<usize> {
-    let from = next_same(spot, start, role)?.from;
-    if from < spot.at { Some(from) } else { None }
-}
-
 /// The name or the address that was found, where it stands next with a role.
 pub(crate) fn next_same(spot: &Spot, start: usize, role: Role) -> Option<Token> {
     let mut before: Option<What> = None;
@@ -96,26 +89,21 @@ fn has_role(role: Role, before: Option<What>, behind: Option<What>) -> bool {
 
 /// Where the type stands that is declared behind a place: between the colon and what ends it.
 pub(crate) fn type_behind(text: &[u8], place: usize) -> (usize, usize) {
-    let mut from: Option<usize> = None;
-    let mut last = place;
-    let mut at = place;
+    let (mut from, mut last, mut at) = (None, place, place);
+    let mut is_behind = false;
     for _ in 0..text.len() {
         let Some(found) = token_at(text, at) else {
             break;
         };
         at = found.to;
-        match (found.what, from) {
-            (What::Delimiter(Delimiter::Semicolon | Delimiter::Assign), Some(from)) => {
-                return (from, last);
-            }
-            (What::Delimiter(Delimiter::Colon), None) => {
-                from = Some(match token_at(text, at) {
-                    Some(next) => next.from,
-                    None => at,
-                });
-            }
+        match found.what {
+            What::Delimiter(Delimiter::Colon) if !is_behind => is_behind = true,
+            What::Delimiter(Delimiter::Semicolon | Delimiter::Assign) if is_behind => break,
             _ => last = found.to,
         }
+        if is_behind && found.what != What::Delimiter(Delimiter::Colon) {
+            from = from.or(Some(found.from));
+        }
     }
-    (last, last)
+    (from.unwrap_or(last), last)
 }

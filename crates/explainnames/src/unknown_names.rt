@@ -1,14 +1,13 @@
 //! What is said of names that are not declared: those that other languages have, and others by
 //! where they stand, as ports, blocks, global variables and types.
 
-use crate::name_causes::unknown;
 use crate::name_habits::{is_among, name_habit};
 use crate::said::{Change, Said, Slot, advice};
-use crate::standing::{FaultPlace, Standing};
+use crate::standing::FaultPlace;
 use crate::tokens::{token_at, type_behind};
-use explaincures::{Spot, Surroundings, content_len};
-use ilsource::{Declared, Name, Purpose};
-use iltokens::{Delimiter, Keyword, What};
+use explaincures::{Advice, Spot, content_len};
+use ilsource::{Declared, Name, Purpose, Specification};
+use iltokens::Keyword;
 
 /// What is said of a name that is not declared.
 pub(crate) fn said_of_unknown(place: &FaultPlace) -> Said {
@@ -17,25 +16,96 @@ pub(crate) fn said_of_unknown(place: &FaultPlace) -> Said {
     // First on its line, or behind a label.
     let is_instruction = spot.is_first() || matches!(spot.front(), [.., b':'] | [.., b':', b' ']);
     if let Some((word, row)) = name_habit(spot.token(), is_instruction, is_alone) {
-        return habitual(spot, word, row);
+        return habitual(place, word, row);
     }
-    misspelled(spot)
-        .or(no_port(place))
+    let said = Said::of(unknown(place)).with_change(Change::Near);
+    if place.used.is_none() {
+        return said;
+    }
+    no_port(place)
         .or(other_kind(place))
         .or(of_function(place))
         .or(no_external(place))
         .or(other_form(place))
-        .or(blank_missing(place))
+        .or(blank_missing(place, is_alone))
         .or(of_result(place))
-        .or(of_input(place))
-        .unwrap_or(Said::of(unknown(place.standing)).with_change(Change::Near))
+        .unwrap_or(said)
+}
+
+/// What is said of a name that is not declared, where nothing else is known of it: another one may
+/// be near.
+fn unknown(place: &FaultPlace) -> Advice {
+    let (from, to) = place.around.before;
+    match (place.purpose(), place.around.block_word()) {
+        (None, Some(_)) if place.spot.part(from, to) == b":".as_slice() => {
+            advice!("a type that is not declared";
+                "correct the name, or declare the type above its use, in TYPE";
+                "TYPE Level : USINT (0..254); END_TYPE")
+        }
+        (None, Some(Keyword::VarExternal)) => advice!("a variable that no VAR_GLOBAL has";
+            "declare it in VAR_GLOBAL of the configuration, with the same type, or\n\
+                correct the name";
+            "VAR_GLOBAL lamp AT %QB0.5 : USINT (0..254); END_VAR"),
+        (None, None) if place.around.is_in_configuration() => {
+            advice!("a name that is not declared";
+                "SINGLE names a variable of VAR_GLOBAL, WITH a task of the configuration, and\n\
+                    behind the colon stands a program of the text";
+                "TASK clock (INTERVAL := T#100ms, PRIORITY := 1);\n\
+                    PROGRAM hall WITH clock : light;")
+        }
+        (Some(Purpose::Invoke), _) => {
+            advice!("no instruction, and no function that is declared above";
+                "correct the name, or declare the function above the line that calls it; no\n\
+                    function calls itself";
+                "FUNCTION half : INT (0..127)")
+        }
+        (Some(_), _) if is_number_of_block(place) => advice!("a name that is not declared";
+            "correct or declare the name, or write a number: ADR is 0 to 63 for a short\n\
+                address, 64 to 79 for the groups 0 to 15, and 80 for all gear; CMD counts the\n\
+                commands of the block from 0";
+            "CAL all(ADR := 80, CMD := 0)"),
+        (Some(_), _) if place.is_in_function() => {
+            advice!("a name that the function does not have";
+                "correct the name; a function has its inputs, its result and its VAR alone,\n\
+                    so hand in what else it needs as an input";
+                "VAR_INPUT lamp : USINT (0..254); END_VAR")
+        }
+        (Some(Purpose::Call), _) => advice!("a name that is not declared";
+            "CAL names an instance of a function block: correct the name, or declare the\n\
+                instance in VAR";
+            "VAR rest : TON; END_VAR"),
+        _ => advice!("a name that is not declared";
+            "correct the name, or declare it in this program: its own variables in\n\
+                VAR, those of the configuration in VAR_EXTERNAL";
+            "VAR_EXTERNAL lamp : USINT (0..254); END_VAR"),
+    }
+}
+
+/// Whether the address or the command of a block that sends is given by what was found.
+fn is_number_of_block(place: &FaultPlace) -> bool {
+    let front = place.spot.front().trim_ascii_end();
+    let named = match front.strip_suffix(b":=".as_slice()) {
+        Some(named) => named.trim_ascii_end(),
+        None => return false,
+    };
+    matches!(
+        named,
+        [.., b'A' | b'a', b'D' | b'd', b'R' | b'r'] | [.., b'C' | b'c', b'M' | b'm', b'D' | b'd']
+    )
 }
 
 /// What is said of a name that other languages have, for which a word stands, if one does. Where no
 /// result stands before an instruction that has another word here, one of logic loads; where that
 /// is not plain, no line is tried.
-fn habitual(spot: &Spot, word: &'static str, row: &'static str) -> Said {
-    let before = word_before(spot);
+fn habitual(place: &FaultPlace, word: &'static str, row: Advice) -> Said {
+    if matches!(word, "S" | "R") && is_of_number(place) {
+        return Said::of(advice!("an instruction that has another word here";
+            "{0} acts on truth values alone, and a number stands behind it: load a\n\
+                number, and store it with ST";
+            "LD 0\nST lamp"))
+        .with_slots([Slot::Word(word); 3]);
+    }
+    let before = word_before(place);
     let load = match word {
         "AND" | "OR" | "XOR" => "LD",
         "ANDN" | "ORN" | "XORN" => "LDN",
@@ -48,50 +118,64 @@ fn habitual(spot: &Spot, word: &'static str, row: &'static str) -> Said {
         _ => load.is_empty() || is_first(before) || is_logic(before),
     };
     // A cure that names the word is that of an instruction, or a type, with another word here.
-    let is_named = row.contains("{0}");
-    let (row, slots) = if is_named && is_loaded {
-        let row = advice!("an instruction that has another word here";
+    let is_named = row.cure.contains("{0}");
+    let said = if is_named && is_loaded {
+        Said::of(advice!("an instruction that has another word here";
             "write {0}, since no result stands before it; else {1}";
-            "LD button\nANDN off\nST light");
-        (row, [Slot::Word(load), Slot::Word(word), Slot::Nothing])
+            "LD button\nANDN off\nST light"))
+        .with_slots([Slot::Word(load), Slot::Word(word), Slot::Nothing])
     } else {
-        (row, [Slot::Word(word); 3])
+        Said::of(row).with_slots([Slot::Word(word); 3])
     };
-    let said = Said::of(row).with_slots(slots);
     if is_plain || !is_named && !word.is_empty() {
-        said.with_change(Change::Put(spot.at, spot.found_to(), "{0}"))
+        said.with_change(Change::Put(place.spot.at, place.spot.found_to(), "{0}"))
     } else {
         said
     }
 }
 
-/// The word that begins the last line before with one, or END_VAR behind it, if what was found
-/// begins its own line.
-fn word_before<'a>(spot: &Spot<'a>) -> &'a [u8] {
-    let (mut word, mut at) = ((0, 0), 0);
-    let mut is_begun = false;
-    for _ in 0..spot.line_from {
-        let found = match token_at(spot.text, at) {
-            Some(found) if found.from < spot.at && spot.is_first() => found,
-            _ => break,
-        };
-        at = found.to;
-        if found.what == What::Delimiter(Delimiter::LineEnd) {
-            is_begun = false;
-        } else if !is_begun || found.what == What::Keyword(Keyword::EndVar) {
-            word = (found.from, found.to);
-            is_begun = true;
+/// Whether a number of the program stands behind what was found.
+fn is_of_number(place: &FaultPlace) -> bool {
+    let Some(behind) = token_at(place.spot.text, place.spot.found_to()) else {
+        return false;
+    };
+    let name = Name {
+        from: behind.from,
+        to: behind.to,
+    };
+    let (Some(Declared::Variables { specification, .. } | Declared::External(specification))) =
+        place.declared_as(name) else {
+        return false;
+    };
+    matches!(
+        specification,
+        Specification::Integer(_) | Specification::Subrange { .. }
+    )
+}
+
+/// The first word of the line of instructions before; END_VAR where there is none, and nothing
+/// where what was found does not begin its own line.
+fn word_before<'a>(place: &FaultPlace<'a, '_>) -> &'a [u8] {
+    let spot = &place.spot;
+    let mut before = None;
+    for line in place.lines() {
+        if line.at < spot.at {
+            before = Some(line.at);
         }
     }
-    let (from, to) = word;
-    spot.part(from, to)
+    match before {
+        _ if !spot.is_first() => b"",
+        Some(at) => Spot::of(spot.text, at).first_word(),
+        None => b"END_VAR",
+    }
 }
 
 /// Whether an instruction behind a line that begins so has no result that it goes on with.
 fn is_first(before: &[u8]) -> bool {
-    let words = "PROGRAM,VAR,END_VAR,ST,STN,S,R,JMP,JMPC,JMPCN,CAL,CALC,CALCN,RET,RETC,RETCN,\
-        VAR_EXTERNAL,VAR_INPUT";
-    is_among(words, before)
+    is_among(
+        "END_VAR,ST,STN,S,R,JMP,JMPC,JMPCN,CAL,CALC,CALCN,RET,RETC,RETCN",
+        before,
+    )
 }
 
 /// Whether a line that begins so leaves a truth value that logic goes on with.
@@ -129,12 +213,11 @@ fn other_kind(place: &FaultPlace) -> Option<Said> {
             "",
         ),
     };
-    let said = Said::of(row);
-    Some(if word.is_empty() {
-        said
-    } else {
-        said.with_change(Change::Put(spot.at, spot.at, word))
-    })
+    let change = match word {
+        "" => Change::Nothing,
+        word => Change::Put(spot.at, spot.at, word),
+    };
+    Some(Said::of(row).with_change(change))
 }
 
 /// What is said of a time without its sign, of a timer that is numbered, and of a conversion of
@@ -145,11 +228,10 @@ fn other_form(place: &FaultPlace) -> Option<Said> {
     let front = spot.part(from, from.saturating_add(8));
     let end = spot.part(to.saturating_sub(8), to);
     if front.eq_ignore_ascii_case(b"BOOL_TO_") || end.eq_ignore_ascii_case(b"_TO_BOOL") {
-        let row = advice!("there is no conversion from or to BOOL";
+        return Some(Said::of(advice!("there is no conversion from or to BOOL";
             "a jump chooses a number by a truth value; a comparison, as NE 0, gives a\n\
                 truth value for a number";
-            "LD is_on\nJMPC bright\nLD 0\nJMP set\nbright: LD 254\nset: ST lamp");
-        return Some(Said::of(row));
+            "LD is_on\nJMPC bright\nLD 0\nJMP set\nbright: LD 254\nset: ST lamp")));
     }
     let [b'T' | b't', b'0'..=b'9', rest @ ..] = spot.token() else {
         return None;
@@ -169,17 +251,20 @@ fn other_form(place: &FaultPlace) -> Option<Said> {
             "VAR rest : TON; END_VAR\nCAL rest(IN := pressed, PT := T#3m)\nLD rest.Q"))
         .with_change(Change::Near)
     } else {
-        Said::of(advice!("a time without its #"; "a time begins with T#"; "T#100ms"))
-            .with_slots([Slot::Part(from.saturating_add(1), to); 3])
-            .with_change(Change::Put(from, to, "T#{0}"))
+        Said::of(advice!("a time without its #"; "a time begins with T#"; "T#100ms")).put(
+            from,
+            to,
+            "T#{0}",
+            Slot::Part(from.saturating_add(1), to),
+        )
     })
 }
 
 /// What is said of an instruction with its operand right behind it, a number or a name of the
 /// program, and nothing else on its line.
-fn blank_missing(place: &FaultPlace) -> Option<Said> {
+fn blank_missing(place: &FaultPlace, is_alone: bool) -> Option<Said> {
     let spot = &place.spot;
-    if spot.first_word() != spot.token() || content_len(spot.rest()) != spot.token().len() {
+    if !is_alone || spot.first_word() != spot.token() {
         return None;
     }
     let Name { from, to } = place.name();
@@ -195,12 +280,7 @@ fn blank_missing(place: &FaultPlace) -> Option<Said> {
             let row = advice!("a blank is missing behind {0}";
                 "an instruction and its operand have a blank between them";
                 "LD lamp");
-            let change = Change::Put(behind, behind, " ");
-            return Some(
-                Said::of(row)
-                    .with_slots([Slot::Word(word); 3])
-                    .with_change(change),
-            );
+            return Some(Said::of(row).put(behind, behind, " ", Slot::Word(word)));
         }
     }
     None
@@ -208,28 +288,23 @@ fn blank_missing(place: &FaultPlace) -> Option<Said> {
 
 /// What is said of a function's result by a name that other languages have for it.
 fn of_result(place: &FaultPlace) -> Option<Said> {
-    let name = place.function_around()?;
-    let names = "result,value,out,output";
-    if !is_among(names, place.spot.token()) {
+    let (from, to) = place.around.unit?.name?;
+    if !place.is_in_function() || !is_among("result,value,out,output", place.spot.token()) {
         return None;
     }
     let row = advice!("a name that the function does not have";
         "the result has the name of the function";
         "ST half");
-    let change = Change::Put(place.spot.at, place.spot.found_to(), "{0}");
-    let said = Said::of(row).with_slots([Slot::Part(name.from, name.to); 3]);
-    Some(said.with_change(change))
+    let Name { from: at, to: end } = place.name();
+    Some(Said::of(row).put(at, end, "{0}", Slot::Part(from, to)))
 }
 
 /// What is said of a function in a program, where no function can stand: without CAL, where nothing
 /// stands behind it.
 fn of_function(place: &FaultPlace) -> Option<Said> {
     place.function_named()?;
-    let Standing::Used(used) = place.standing else {
-        return None;
-    };
-    match used.purpose {
-        _ if used.is_in_function => None,
+    match place.purpose()? {
+        _ if place.is_in_function() => None,
         Purpose::Call => {
             let (from, _) = place.spot.first_place();
             let row = advice!("a function where a block instance is asked for";
@@ -246,48 +321,6 @@ fn of_function(place: &FaultPlace) -> Option<Said> {
     }
 }
 
-/// What is said of a name that an address or a command of a block that sends is given by.
-fn of_input(place: &FaultPlace) -> Option<Said> {
-    let front = place.spot.front().trim_ascii_end();
-    let named = front.strip_suffix(b":=".as_slice())?.trim_ascii_end();
-    let is_number = matches!(
-        named,
-        [.., b'A' | b'a', b'D' | b'd', b'R' | b'r'] | [.., b'C' | b'c', b'M' | b'm', b'D' | b'd']
-    );
-    let row = advice!("a name that is not declared";
-        "correct or declare the name, or write a number: ADR is 0 to 63 for a short\n\
-            address, 64 to 79 for the groups 0 to 15, and 80 for all gear; CMD counts the\n\
-            commands of the block from 0";
-        "CAL all(ADR := 80, CMD := 0)");
-    is_number.then_some(Said::of(row).with_change(Change::Near))
-}
-
-/// What is said of a name of the configuration, or of a type: another one may be near.
-fn misspelled(spot: &Spot) -> Option<Said> {
-    let around = Surroundings::of(spot.text, spot.at);
-    let (from, to) = around.before;
-    let row = match around.block {
-        Some(_) if spot.part(from, to) == b":".as_slice() => {
-            advice!("a type that is not declared";
-                "correct the name, or declare the type above its use, in TYPE";
-                "TYPE Level : USINT (0..254); END_TYPE")
-        }
-        Some(block) if block.word == Keyword::VarExternal => {
-            advice!("a variable that no VAR_GLOBAL has";
-                "declare it in VAR_GLOBAL of the configuration, with the same type, or\n\
-                    correct the name";
-                "VAR_GLOBAL lamp AT %QB0.5 : USINT (0..254); END_VAR")
-        }
-        None if around.is_in_configuration() => advice!("a name that is not declared";
-            "SINGLE names a variable of VAR_GLOBAL, WITH a task of the configuration, and\n\
-                behind the colon stands a program of the text";
-            "TASK clock (INTERVAL := T#100ms, PRIORITY := 1);\n\
-                PROGRAM hall WITH clock : light;"),
-        _ => return None,
-    };
-    Some(Said::of(row).with_change(Change::Near))
-}
-
 /// What is said of a port of a block instance.
 fn no_port(place: &FaultPlace) -> Option<Said> {
     place.block_of_port()?;
@@ -297,11 +330,11 @@ fn no_port(place: &FaultPlace) -> Option<Said> {
 
 /// What is said of a global variable that the program does not name in VAR_EXTERNAL.
 fn no_external(place: &FaultPlace) -> Option<Said> {
-    let name = place.global_named()?;
+    let name = place.global_named()?.name;
     let (from, to) = type_behind(place.spot.text, name.from);
     let row = advice!("a global variable that the program does not name";
         "name it in VAR_EXTERNAL of this program, with its type";
         "VAR_EXTERNAL {0} : {1}; END_VAR");
-    let (name, kind) = (Slot::Part(name.from, name.to), Slot::Part(from, to));
-    Some(Said::of(row).with_slots([name, kind, Slot::Nothing]))
+    let slots = [Slot::of(name), Slot::Part(from, to), Slot::Nothing];
+    Some(Said::of(row).with_slots(slots))
 }
