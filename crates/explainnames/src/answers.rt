@@ -1,33 +1,32 @@
-//! What is said of a fault of names, as text: what stands for the slots, and lists.
+//! What is said of a fault of names, as text: slots are filled, and changes are tried.
 
-use crate::said::{Said, Slot};
+use crate::said::{Change, Said, Slot};
 use crate::standing::FaultPlace;
-use crate::tokens::{Role, next_same};
-use explaincures::{Advice, Example, FaultAnswer, line_number, line_of, shown_text};
+use crate::tokens::{Role, next_same, token_at};
+use explaincures::{
+    Advice, Edit, EditOutcome, Example, FaultAnswer, is_near, line_number, line_of, near_word,
+    shown_text,
+};
+use iltokens::What;
 use std::alloc::AllocError;
 
-/// How many lines or sources are told at most.
+/// How many lines, sources or words are told or tried at most.
 pub(crate) const MOST_TOLD: usize = 8;
 
 impl FaultPlace<'_, '_> {
     /// What is said as an answer, with the first change that helps, if one does.
     pub(crate) fn answer(&self, said: &Said) -> Result<FaultAnswer, AllocError> {
-        let answer = self.plain(said)?;
-        match self.cure(said)? {
-            Some(edit) => answer.with_tried(self.alloc, self.spot.text, &edit),
-            None => Ok(answer),
-        }
-    }
-
-    /// The same, with the lines of another text.
-    fn plain(&self, said: &Said) -> Result<FaultAnswer, AllocError> {
         let Advice { what, cure, line } = said.row;
-        Ok(FaultAnswer {
+        let answer = FaultAnswer {
             what: self.filled(said, what)?,
             facts: self.filled(said, said.facts)?,
             cure: self.filled(said, cure)?,
             example: Example::Other(self.filled(said, line)?),
-        })
+        };
+        match self.cure(said)? {
+            Some(edit) => answer.with_tried(self.alloc, self.spot.text, &edit),
+            None => Ok(answer),
+        }
     }
 
     /// A text, with what stands for its slots.
@@ -45,48 +44,11 @@ impl FaultPlace<'_, '_> {
         Ok(text)
     }
 
-    /// Adds what stands for a slot: `{0}` to `{2}`, `{l}` and `{g}` as said; `{b}` is how many
-    /// buses there are, `{z}` the last of them, and `{c}` how many inputs the function has.
+    /// Adds what stands for a slot, or all of a list.
     fn push_slot(&self, text: &mut String, said: &Said, name: char) -> Result<(), AllocError> {
-        let [first, second, third] = said.slots;
-        let buses = u64::from(self.asked.binding.buses());
-        let line = line_number(self.spot.text, said.at);
-        let slot = match name {
-            '0' => first,
-            '1' => second,
-            '2' => third,
-            'l' => Slot::Number(line as u64),
-            'b' => Slot::Number(buses),
-            'z' => Slot::Number(buses.saturating_sub(1)),
-            'c' => Slot::Number(self.inputs().len() as u64),
-            'g' => {
-                let found = shown_text(self.alloc, line_of(self.spot.text, line))?;
-                return text.push_str(&format!(in self.alloc; "{line:>6} | {found}")?);
-            }
-            list => return self.push_list(text, list),
-        };
-        self.push(text, slot)
-    }
-
-    /// Adds what stands there in place of a slot.
-    fn push(&self, text: &mut String, slot: Slot) -> Result<(), AllocError> {
-        let alloc = self.alloc;
-        match slot {
-            Slot::Nothing => Ok(()),
-            Slot::Word(word) => text.push_str(word),
-            Slot::Bytes(bytes) => text.push_str(&shown_text(alloc, bytes)?),
-            Slot::Number(number) => text.push_str(&format!(in alloc; "{number}")?),
-            Slot::Limit(number) => text.push_str(&format!(in alloc; "{number}")?),
-            Slot::Part(from, to) => text.push_str(&shown_text(alloc, self.spot.part(from, to))?),
-            Slot::Source(bus, number) => text.push_str(&format!(in alloc; "{bus}.{number}")?),
-        }
-    }
-
-    /// Adds a list.
-    fn push_list(&self, text: &mut String, list: char) -> Result<(), AllocError> {
-        let mut at: usize = 0;
+        let mut at = said.at;
         for number in 0..self.spot.text.len() {
-            let Some(one) = self.listed(list, number, &mut at) else {
+            let Some(one) = self.slot(said, name, number, &mut at) else {
                 return Ok(());
             };
             text.push_str(if number > 0 { ", " } else { "" })?;
@@ -95,11 +57,16 @@ impl FaultPlace<'_, '_> {
         Ok(())
     }
 
-    /// What stands at a number of a list: `{p}` has the ports of the block whose port is meant,
-    /// `{i}` the inputs of the function, `{e}` the sources, and `{s}` the lines that store to the
-    /// variable, which are looked for from a place on.
-    fn listed(&self, list: char, number: usize, at: &mut usize) -> Option<Slot> {
-        match list {
+    /// What stands for a slot: `{0}` to `{2}`, `{l}` and `{g}` as said; `{b}` is how many buses
+    /// there are, `{z}` the last of them, and `{c}` how many inputs the function has. Or what stands
+    /// at a number of a list: `{p}` has the ports of the block whose port is meant, `{i}` the inputs
+    /// of the function, `{e}` the sources, and `{s}` the lines that store to the variable, which are
+    /// looked for from a place on.
+    fn slot(&self, said: &Said, name: char, number: usize, at: &mut usize) -> Option<Slot> {
+        let [first, second, third] = said.slots;
+        let buses = u64::from(self.asked.binding.buses());
+        let line = line_number(self.spot.text, *at) as u64;
+        match name {
             'p' => {
                 let port = self.block_of_port()?.ports().get(number)?;
                 Some(Slot::Bytes(port.name.spelling()))
@@ -111,14 +78,121 @@ impl FaultPlace<'_, '_> {
                 *at = found.to;
                 Some(Slot::Number(line_number(self.spot.text, found.from) as u64))
             }
+            _ if number > 0 => None,
+            '0' => Some(first),
+            '1' => Some(second),
+            '2' => Some(third),
+            'l' => Some(Slot::Number(line)),
+            'g' => Some(Slot::Line(line)),
+            'b' => Some(Slot::Number(buses)),
+            'z' => Some(Slot::Number(buses.saturating_sub(1))),
+            'c' => Some(Slot::Number(self.inputs().len() as u64)),
             _ => None,
         }
     }
 
+    /// Adds what stands there in place of a slot.
+    fn push(&self, text: &mut String, slot: Slot) -> Result<(), AllocError> {
+        let (alloc, spot) = (self.alloc, &self.spot);
+        let added = match slot {
+            Slot::Nothing => return Ok(()),
+            Slot::Word(word) => return text.push_str(word),
+            Slot::Bytes(bytes) => shown_text(alloc, bytes)?,
+            Slot::Number(number) => format!(in alloc; "{number}")?,
+            Slot::Limit(number) => format!(in alloc; "{number}")?,
+            Slot::Part(from, to) => shown_text(alloc, spot.part(from, to))?,
+            Slot::Source(bus, number) => format!(in alloc; "{bus}.{number}")?,
+            Slot::Line(line) => {
+                text.push_str(&format!(in alloc; "{line:>6} | ")?)?;
+                shown_text(alloc, line_of(spot.text, line as usize))?
+            }
+        };
+        text.push_str(&added)
+    }
+
     /// The source of this number, with what is added to its own.
-    pub(crate) fn source(&self, number: usize, added: u64) -> Option<Slot> {
+    fn source(&self, number: usize, added: u64) -> Option<Slot> {
         let bound = self.asked.binding.sources().get(number)?;
         let place = u64::from(bound.number).saturating_add(added);
         Some(Slot::Source(u64::from(bound.bus), place))
+    }
+
+    /// The first change that helps, if one does.
+    fn cure(&self, said: &Said) -> Result<Option<Edit>, AllocError> {
+        let with = match said.change {
+            Change::Nothing => return Ok(None),
+            Change::Put(from, to, with) => return self.helping(said, (from, to), with),
+            Change::Near => "{1}",
+            Change::Source(_) => "{0}{1}",
+        };
+        let [first, ..] = said.slots;
+        for one in &self.meant(said.change)? {
+            let tried = said.with_slots([first, *one, Slot::Nothing]);
+            let edit = self.helping(&tried, (self.spot.at, self.spot.found_to()), with)?;
+            if edit.is_some() {
+                return Ok(edit);
+            }
+        }
+        Ok(None)
+    }
+
+    /// A text in place of the bytes from one place to another, if that helps: after it the names of
+    /// the text have no fault up to the change.
+    fn helping(
+        &self,
+        said: &Said,
+        (from, to): (usize, usize),
+        with: &str,
+    ) -> Result<Option<Edit>, AllocError> {
+        let with = self.filled(said, with)?;
+        let edit = Edit::new(self.alloc, from, to, with.as_bytes())?;
+        let is_there = match edit.outcome(self.alloc, self.asked)? {
+            EditOutcome::Text => true,
+            EditOutcome::Name { is_later, .. } => !is_later,
+            _ => false,
+        };
+        Ok(if is_there { None } else { Some(edit) })
+    }
+
+    /// The first sources of the binding, with what is added to their numbers; or the reserved word
+    /// that is near to what was found, if one is, and then the names of the text that are, each once.
+    fn meant(&self, change: Change) -> Result<Vec<Slot>, AllocError> {
+        let mut all = Vec::new(self.alloc);
+        if let Change::Source(added) = change {
+            for number in 0..MOST_TOLD {
+                if let Some(source) = self.source(number, added) {
+                    all.push(source)?;
+                }
+            }
+            return Ok(all);
+        }
+        if let Some(word) = near_word(self.spot.token()) {
+            all.push(Slot::Word(word))?;
+        }
+        let mut at: usize = 0;
+        for _ in 0..self.spot.text.len() {
+            let Some(found) = token_at(self.spot.text, at) else {
+                return Ok(all);
+            };
+            at = found.to;
+            let name = self.spot.part(found.from, found.to);
+            let is_meant = found.what == What::Name && is_near(name, self.spot.token());
+            if is_meant && all.len() <= MOST_TOLD && !self.has_name(&all, name) {
+                all.push(Slot::Part(found.from, found.to))?;
+            }
+        }
+        Ok(all)
+    }
+
+    /// Whether a name is one of some.
+    fn has_name(&self, names: &[Slot], name: &[u8]) -> bool {
+        for one in names {
+            if let Slot::Part(from, to) = one {
+                if self.spot.part(*from, *to).eq_ignore_ascii_case(name) {
+                    return true;
+                }
+            }
+        }
+        false
     }
 }

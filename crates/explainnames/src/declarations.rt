@@ -5,7 +5,7 @@ use crate::standing::FaultPlace;
 use crate::tokens::type_behind;
 use explaincures::Advice;
 use ilscope::{Found, NameCause};
-use ilsource::{Constant, Declared, Specification, TaskDeclaration};
+use ilsource::{Constant, Declared, Specification};
 use iltokens::{AddressKind, Keyword};
 use std::alloc::AllocError;
 
@@ -18,11 +18,8 @@ const BAD_DECLARATION: Advice = advice!("a bad declaration";
 
 /// What is said of a bad declaration, or of a call that does not fit it.
 pub(crate) fn said_of_declaration(place: &FaultPlace) -> Result<Said, AllocError> {
-    let kind = match place.global_named() {
-        Some(global) => match global.address {
-            Some(address) => Some(address.kind),
-            None => None,
-        },
+    let kind = match place.address_named() {
+        Some(address) => Some(address.kind),
         None => None,
     };
     let row = match (place.around.block_word(), place.declared()) {
@@ -34,7 +31,7 @@ pub(crate) fn said_of_declaration(place: &FaultPlace) -> Result<Said, AllocError
                 "blend 100, 25"))
             .with_facts("its inputs ({c}): {i}\n", 0));
         }
-        _ if place.is_behind(Keyword::Task) => of_task(place.task_named()),
+        _ if place.is_behind(Keyword::Task) => of_task(place),
         (Some(Keyword::VarExternal), _) => return different(place),
         (Some(Keyword::Var), Some(Declared::Blocks(_))) => {
             advice!("a block instance in a function";
@@ -55,18 +52,12 @@ pub(crate) fn said_of_declaration(place: &FaultPlace) -> Result<Said, AllocError
 }
 
 /// What is said of a task.
-fn of_task(task: Option<TaskDeclaration>) -> Advice {
-    let Some(
-        TaskDeclaration {
-            single,
-            interval,
-            ..
-        },
-    ) = task
-    else {
+fn of_task(place: &FaultPlace) -> Advice {
+    let number = place.scope.task_number(place.name()).unwrap_or(0);
+    let Some(task) = place.task(number) else {
         return BAD_DECLARATION;
     };
-    match (single, interval) {
+    match (task.single, task.interval) {
         (None, None) => advice!("a task that nothing starts";
             "write SINGLE with a trigger, or INTERVAL with a time, before PRIORITY";
             "TASK clock (INTERVAL := T#100ms, PRIORITY := 1);"),

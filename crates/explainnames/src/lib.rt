@@ -13,7 +13,6 @@
 
 mod addresses;
 mod answers;
-mod changes;
 mod declarations;
 mod name_answers;
 mod name_habits;

@@ -7,7 +7,7 @@ use crate::standing::FaultPlace;
 use crate::tokens::{Role, next_same, token_at, type_behind};
 use crate::unknown_names::said_of_unknown;
 use explaincures::{Advice, AskedText, FaultAnswer, Surroundings};
-use ilscope::{DeclaredGlobal, NameCause, Scope};
+use ilscope::{NameCause, Scope};
 use ilsource::{Name, Operand, Purpose, Source, Symbol};
 use iltokens::Keyword;
 use iluses::{stored_globals, uses_of};
@@ -40,9 +40,20 @@ pub(crate) fn said_of(place: &FaultPlace, cause: NameCause) -> Result<Said, Allo
             said_before(place, given_twice(place), facts, Role::Given)
         }
         NameCause::UnknownLabel => unknown_label(place),
-        NameCause::BackwardJump => { said_before(place, BACKWARD_JUMP, LABEL_STANDS, Role::Label) }
+        NameCause::BackwardJump => {
+            let row = advice!("a jump that does not lead forward";
+                "put the label below the jump; what is to be done again is done in the\n\
+                    next scan";
+                "JMP below");
+            said_before(place, row, LABEL_STANDS, Role::Label)
+        }
         NameCause::BadAddress => said_of_address(place),
-        NameCause::InputRangeTooSmall => Said::of(INPUT_RANGE_TOO_SMALL),
+        NameCause::InputRangeTooSmall => {
+            Said::of(advice!("a variable that lacks values of its input";
+                "give it a type with all numbers of its address: answers are 0 to 258,\n\
+                    information 0 to 1023, counts 0 to 65535";
+                "answer AT %IW0.5 : UINT (0..258);"))
+        }
         NameCause::WrittenTwice => written_twice(place)?,
         NameCause::WritesInput => writes_input(place),
         NameCause::NoTask => without_task(place),
@@ -50,16 +61,6 @@ pub(crate) fn said_of(place: &FaultPlace, cause: NameCause) -> Result<Said, Allo
         NameCause::BadDeclaration => said_of_declaration(place)?,
     })
 }
-
-const BACKWARD_JUMP: Advice = advice!("a jump that does not lead forward";
-    "put the label below the jump; what is to be done again is done in the\n\
-        next scan";
-    "JMP below");
-
-const INPUT_RANGE_TOO_SMALL: Advice = advice!("a variable that lacks values of its input";
-    "give it a type with all numbers of its address: answers are 0 to 258,\n\
-        information 0 to 1023, counts 0 to 65535";
-    "answer AT %IW0.5 : UINT (0..258);");
 
 /// Where a label stands.
 const LABEL_STANDS: &str = "the label stands in line {l}\n";
@@ -140,14 +141,16 @@ fn written_twice(place: &FaultPlace) -> Result<Said, AllocError> {
     .with_facts("stored in line {s}\n", 0);
     let mut task: Option<Name> = None;
     for one in place.instances() {
+        if !is_stored_by(place, one.program)? {
+            continue;
+        }
         match (task, one.task) {
-            _ if !is_stored_by(place, one.program)? => {}
             (Some(first), Some(other)) if !first.is_same(other, place.spot.text) => {
                 let slots = [Slot::of(one.name), Slot::of(first), Slot::of(one.program)];
                 return Ok(said.with_slots(slots));
             }
-            (Some(_), _) => {}
             (None, its) => task = its,
+            _ => {}
         }
     }
     Ok(said.with_slots([Slot::Word("b"), Slot::Word("fast"), Slot::Word("sw")]))
@@ -156,20 +159,18 @@ fn written_twice(place: &FaultPlace) -> Result<Said, AllocError> {
 /// Whether a program stores to the global variable at the place.
 fn is_stored_by(place: &FaultPlace, program: Name) -> Result<bool, AllocError> {
     let scope = place.scope;
-    match (
-        scope.global_number(place.name()),
-        scope.program_number(program),
-    ) {
-        (Some(global), Some(number)) if number < scope.programs().len() => {
-            Ok(stored_globals(place.alloc, scope, number)?.contains(&global))
-        }
-        _ => Ok(false),
+    let global = scope.global_number(place.name()).unwrap_or(usize::MAX);
+    let number = scope.program_number(program).unwrap_or(usize::MAX);
+    if number >= scope.programs().len() {
+        return Ok(false);
     }
+    let stored = stored_globals(place.alloc, scope, number)?;
+    Ok(stored.contains(&global))
 }
 
 /// What is said of a store that cannot be, or of a first value of an input.
 fn writes_input(place: &FaultPlace) -> Said {
-    match (place.symbol(), place.purpose(), place.global_named()) {
+    match (place.symbol(), place.purpose(), place.address_named()) {
         (Some(_), _, _) if place.is_in_function() => {
             Said::of(advice!("a store to an input of the function";
                 "an input keeps its argument: store to the result, which has the function's\n\
@@ -186,16 +187,7 @@ fn writes_input(place: &FaultPlace) -> Said {
             .with_slots([Slot::of(block), Slot::of(port), Slot::Nothing])
             .with_facts("{0}.{1} is an output of the block {0}\n", 0)
         }
-        (
-            Some(_),
-            _,
-            Some(
-                DeclaredGlobal {
-                    address: Some(address),
-                    ..
-                },
-            ),
-        ) => { said_of_input(Slot::of(place.name()), address) }
+        (Some(_), _, Some(address)) => said_of_input(Slot::of(place.name()), address),
         _ => with_first_value(place),
     }
 }
@@ -203,11 +195,13 @@ fn writes_input(place: &FaultPlace) -> Said {
 /// What is said of an input of the buses that has a first value: it could have none.
 fn with_first_value(place: &FaultPlace) -> Said {
     let (_, from) = type_behind(place.spot.text, place.spot.at);
+    // Up to the semicolon.
     let mut to = from;
     for _ in 0..2 {
-        if let Some(found) = token_at(place.spot.text, to) {
-            to = found.to;
-        }
+        to = match token_at(place.spot.text, to) {
+            Some(found) => found.to,
+            None => to,
+        };
     }
     Said::of(advice!("a first value of an input of the buses";
         "an input is written by the buses alone: leave out := and its first value";
@@ -221,7 +215,7 @@ fn without_task(place: &FaultPlace) -> Said {
         "write WITH and a task";
         "TASK clock (INTERVAL := T#100ms, PRIORITY := 1);\nPROGRAM hall WITH clock : light;"));
     let to = place.spot.found_to();
-    match place.first_task() {
+    match place.task(0) {
         Some(task) => said.put(to, to, " WITH {0}", Slot::of(task.name)),
         None => said,
     }

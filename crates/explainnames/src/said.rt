@@ -42,6 +42,8 @@ pub(crate) enum Slot {
     Part(usize, usize),
     /// The bus and the number of a source.
     Source(u64, u64),
+    /// The line of this number, behind its number.
+    Line(u64),
 }
 
 /// What may cure a fault; it is shown where it does.

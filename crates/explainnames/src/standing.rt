@@ -5,8 +5,8 @@ use explaincures::{AskedText, Spot, Surroundings};
 use ilblocks::BlockKind;
 use ilscope::{DeclaredGlobal, DeclaredVariable, FunctionScope, Scope};
 use ilsource::{
-    Configuration, Constant, Declaration, Declared, Element, InstanceDeclaration, Line, Name,
-    Operand, Purpose, Source, Specification, Symbol, TaskDeclaration, Use,
+    Configuration, Constant, Declaration, Declared, DirectAddress, Element, InstanceDeclaration,
+    Line, Name, Operand, Purpose, Source, Specification, Symbol, TaskDeclaration, Use,
 };
 use iltokens::{Keyword, What};
 use iluses::uses_of;
@@ -75,11 +75,6 @@ impl<'a, 's> FaultPlace<'a, 's> {
         what_at(self.spot.text, from) == Some(What::Keyword(word))
     }
 
-    /// The lines of the program or the function in which the place stands.
-    pub(crate) fn lines(&self) -> &'a [Line<Symbol, Name>] {
-        lines_at(self.scope.source(), self.spot.at)
-    }
-
     /// The configuration, if the text has one.
     fn configuration(&self) -> Option<&'a Configuration> {
         self.scope.source().configuration()
@@ -93,14 +88,8 @@ impl<'a, 's> FaultPlace<'a, 's> {
         }
     }
 
-    /// The first task of the configuration.
-    pub(crate) fn first_task(&self) -> Option<TaskDeclaration> {
-        self.configuration()?.tasks().first().copied()
-    }
-
-    /// The first task that has the name at the place.
-    pub(crate) fn task_named(&self) -> Option<TaskDeclaration> {
-        let number = self.scope.task_number(self.name())?;
+    /// The task of the configuration with a number, counted from 0.
+    pub(crate) fn task(&self, number: usize) -> Option<TaskDeclaration> {
         self.configuration()?.tasks().get(number).copied()
     }
 
@@ -186,6 +175,11 @@ impl<'a, 's> FaultPlace<'a, 's> {
         self.scope.globals().get(number).copied()
     }
 
+    /// The address of that variable, if it has one.
+    pub(crate) fn address_named(&self) -> Option<DirectAddress> {
+        self.global_named()?.address
+    }
+
     /// The first function that has the name at the place.
     pub(crate) fn function_named(&self) -> Option<&'a FunctionScope<'s>> {
         let number = self.scope.function_number(self.name())?;
@@ -218,7 +212,7 @@ fn element_at(source: &Source, at: usize) -> Option<&Element> {
 }
 
 /// The lines of the program or the function in which a place stands.
-fn lines_at(source: &Source, at: usize) -> &[Line<Symbol, Name>] {
+pub(crate) fn lines_at(source: &Source, at: usize) -> &[Line<Symbol, Name>] {
     match element_at(source, at) {
         Some(Element::Function(function)) => function.lines(),
         Some(Element::Program(program)) => program.lines(),

@@ -3,8 +3,8 @@
 
 use crate::name_habits::{is_among, name_habit};
 use crate::said::{Change, Said, Slot, advice};
-use crate::standing::FaultPlace;
-use crate::tokens::{token_at, type_behind};
+use crate::standing::{FaultPlace, lines_at};
+use crate::tokens::{Token, token_at, type_behind};
 use explaincures::{Advice, Spot, content_len};
 use ilsource::{Declared, Name, Purpose, Specification};
 use iltokens::Keyword;
@@ -139,12 +139,9 @@ fn is_of_number(place: &FaultPlace) -> bool {
     let Some(behind) = token_at(place.spot.text, place.spot.found_to()) else {
         return false;
     };
-    let name = Name {
-        from: behind.from,
-        to: behind.to,
-    };
+    let Token { from, to, .. } = behind;
     let (Some(Declared::Variables { specification, .. } | Declared::External(specification))) =
-        place.declared_as(name) else {
+        place.declared_as(Name { from, to }) else {
         return false;
     };
     matches!(
@@ -158,7 +155,7 @@ fn is_of_number(place: &FaultPlace) -> bool {
 fn word_before<'a>(place: &FaultPlace<'a, '_>) -> &'a [u8] {
     let spot = &place.spot;
     let mut before = None;
-    for line in place.lines() {
+    for line in lines_at(place.scope.source(), spot.at) {
         if line.at < spot.at {
             before = Some(line.at);
         }
@@ -187,37 +184,27 @@ fn is_logic(before: &[u8]) -> bool {
 fn other_kind(place: &FaultPlace) -> Option<Said> {
     let spot = &place.spot;
     let is_block = matches!(place.declared_as(place.name())?, Declared::Blocks(_));
-    let (row, word) = match (is_block, spot.first_word() == spot.token()) {
-        (true, true) => (
-            advice!("a block instance where an instruction is asked for";
-                "a line begins with an instruction: CAL calls the instance";
-                "CAL rest(PT := T#3m)"),
-            "CAL ",
-        ),
-        (true, false) => (
-            advice!("a block instance where a variable is asked for";
-                "name one of its ports, behind a dot";
-                "LD rest.Q"),
-            "",
-        ),
-        (false, true) => (
-            advice!("a variable where an instruction is asked for";
-                "a line begins with an instruction: LD loads the variable, ST stores to it";
-                "LD light"),
-            "LD ",
-        ),
-        (false, false) => (
-            advice!("a variable where a block instance is asked for";
-                "CAL names an instance of a function block, which VAR declares";
-                "VAR rest : TON; END_VAR"),
-            "",
-        ),
+    let is_word = spot.first_word() == spot.token();
+    let row = match (is_block, is_word) {
+        (true, true) => advice!("a block instance where an instruction is asked for";
+            "a line begins with an instruction: CAL calls the instance";
+            "CAL rest(PT := T#3m)"),
+        (true, false) => advice!("a block instance where a variable is asked for";
+            "name one of its ports, behind a dot";
+            "LD rest.Q"),
+        (false, true) => advice!("a variable where an instruction is asked for";
+            "a line begins with an instruction: LD loads the variable, ST stores to it";
+            "LD light"),
+        (false, false) => advice!("a variable where a block instance is asked for";
+            "CAL names an instance of a function block, which VAR declares";
+            "VAR rest : TON; END_VAR"),
     };
-    let change = match word {
-        "" => Change::Nothing,
-        word => Change::Put(spot.at, spot.at, word),
+    let word = match is_word {
+        true if is_block => "CAL ",
+        true => "LD ",
+        false => "",
     };
-    Some(Said::of(row).with_change(change))
+    Some(Said::of(row).put(spot.at, spot.at, word, Slot::Nothing))
 }
 
 /// What is said of a time without its sign, of a timer that is numbered, and of a conversion of
