@@ -140,7 +140,7 @@ fn is_of_number(place: &FaultPlace) -> bool {
         return false;
     };
     let Token { from, to, .. } = behind;
-    let (Some(Declared::Variables { specification, .. } | Declared::External(specification))) =
+    let Some(Declared::Variables { specification, .. } | Declared::External(specification)) =
         place.declared_as(Name { from, to }) else {
         return false;
     };
