@@ -3,14 +3,8 @@
 use crate::bytes::place_of_pair;
 use crate::examples::{example_of, is_in_call};
 use crate::filling::{first_answer, given_len};
-use crate::habits::habit_at;
-use crate::near_declarations::{
-    near_declaration, nested_comment, parted_address, parted_time, two_names,
-};
-use crate::near_instructions::{assigned, expression, near_operand, near_sign, sign_behind};
-use crate::negations::negation;
+use crate::habits::habit_answer;
 use crate::numbers::numbers;
-use crate::operands::second_word;
 use crate::proposals::{ASKED, RESERVED, is_bracket, is_renamed, proposals};
 use crate::said::{Change, Said, Standing, Trial, advice};
 use explaincures::{
@@ -51,42 +45,28 @@ pub fn answer_text(
     }
 }
 
-/// What is said of what people write, of a negation or of a number; or this, where none is meant.
+/// What is said of what people write, or of a number; or this, where none is meant.
 fn habitual(
     alloc: Global,
     standing: &Standing,
     last: Option<Said>,
 ) -> Result<Option<FaultAnswer>, AllocError> {
-    let near = first_answer(alloc, standing, &near_misses(standing))?;
+    let near = habit_answer(alloc, standing, 0, 2)?;
     if near.is_some() {
         return Ok(near);
     }
     let [value, all, inputs] = equals(standing);
-    let (negated, second) = (negation(standing), second_word(standing));
-    let (habit, names) = (habit_at(standing), two_names(standing));
-    let open = unnamed(standing);
-    let candidates = [value, all, inputs, open, negated, second, habit, names];
+    let candidates = [value, all, inputs, unnamed(standing)];
     let answer = first_answer(alloc, standing, &candidates)?;
+    if answer.is_some() {
+        return Ok(answer);
+    }
+    let answer = habit_answer(alloc, standing, 2, 13)?;
     if answer.is_some() || is_range(alloc, standing)? {
         return Ok(answer);
     }
     let [number, other] = numbers(standing);
     first_answer(alloc, standing, &[number, other, last])
-}
-
-/// What is said of what is nearly right.
-fn near_misses(standing: &Standing) -> [Option<Said>; 9] {
-    [
-        nested_comment(standing),
-        parted_time(standing),
-        near_declaration(standing),
-        parted_address(standing),
-        near_sign(standing),
-        near_operand(standing),
-        sign_behind(standing),
-        assigned(standing),
-        expression(standing),
-    ]
 }
 
 /// Whether a range with two dots is meant at one.

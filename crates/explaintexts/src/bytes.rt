@@ -46,14 +46,3 @@ pub(crate) fn place_of_pair(bytes: &[u8], sought: &[u8; 2]) -> Option<usize> {
     }
     None
 }
-
-/// How often two bytes stand next to one another.
-pub(crate) fn count_of_pair(bytes: &[u8], sought: &[u8; 2]) -> usize {
-    let mut count = 0_usize;
-    for pair in bytes.windows(2) {
-        if pair == sought.as_slice() {
-            count = count.saturating_add(1);
-        }
-    }
-    count
-}

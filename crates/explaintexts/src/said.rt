@@ -39,8 +39,8 @@ pub(crate) type Place = (usize, usize);
 #[derive(Clone, Copy)]
 pub(crate) struct Said {
     pub row: Advice,
-    /// `{0}` to `{4}`: parts of the asked text. `{=}` is the first with `:=` for each `=`.
-    pub parts: [Place; 5],
+    /// `{0}` to `{5}`: parts of the asked text. `{=}` is the first with `:=` for each `=`.
+    pub parts: [Place; 6],
     /// `{w}` and `{v}`.
     pub words: (&'static str, &'static str),
     /// `{n}` and `{d}`; `{)}` is `)` on as many lines as the second says.
@@ -80,7 +80,7 @@ impl Said {
     pub(crate) fn of(row: Advice, part: Place) -> Said {
         Said {
             row,
-            parts: [part; 5],
+            parts: [part; 6],
             words: ("", ""),
             numbers: (0, 0),
             change: Change::Nothing,
@@ -107,7 +107,7 @@ impl Said {
     /// The same of two parts, with a text in place of another one.
     pub(crate) fn put_parts(self, part: Place, with: &'static str, parts: [Place; 2]) -> Said {
         let [first, second] = parts;
-        let parts = [first, second, first, second, second];
+        let parts = [first, second, first, second, second, second];
         Said {
             parts,
             ..self.put(part, with)
