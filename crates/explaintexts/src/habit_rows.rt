@@ -302,7 +302,7 @@ const OPERANDS: &[Habit] = habits! {
         "digits stand together, or with _ between them: a thousand is 1000 or 1_000";
         "LD 1_000")  =>
         Anywhere "< [ {thousands} _@ (one) {group} ]" Put("{0}{1}"),
-        Anywhere "^ ld {number} _@ {number}" Nothing;
+        Anywhere "^ ld {number} _@ {2}" Nothing;
     advice!("a store to two variables";
         "write it once for each, on a line of its own: the current result stays";
         "ST lamp\nST lamp2")  =>
