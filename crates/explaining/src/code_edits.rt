@@ -59,7 +59,8 @@ fn is_behind(refused: &Refused, place: usize) -> bool {
         Cause::TooBig => matches!(code.get(place), Some(Word::Store { .. })),
         _ => true,
     };
-    place > word && (is_free || place >= kept_to(code, word))
+    let is_closing = matches!(code.get(place), Some(Word::Close));
+    place > word && (is_free || !is_closing && place >= kept_to(code, word))
 }
 
 /// The operators that keep a number within what is allowed, in lines.
