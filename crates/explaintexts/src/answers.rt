@@ -61,7 +61,7 @@ fn habitual(
     if answer.is_some() {
         return Ok(answer);
     }
-    let answer = habit_answer(alloc, standing, 2, 13)?;
+    let answer = habit_answer(alloc, standing, 2, 12)?;
     if answer.is_some() || is_range(alloc, standing)? {
         return Ok(answer);
     }

@@ -1,7 +1,7 @@
 //! What people write who come from other languages: what is said of it, and how it is changed.
 
 use crate::habit::{Fix, Habit, Region, habits};
-use crate::near_rows::{name_rows, near_declarations, near_instructions, word_rows};
+use crate::near_rows::{near_declarations, near_instructions, siemens_rows, word_rows};
 use crate::said::advice;
 use explaincures::Advice;
 
@@ -23,7 +23,7 @@ pub(crate) const GROUPED: Advice = advice!("a number with a dot or a comma in it
         and one is 1";
     "LD 1_000");
 
-const LOGIC_SIGN: Advice = advice!("a sign that is not an operator";
+pub(crate) const LOGIC_SIGN: Advice = advice!("a sign that is not an operator";
     "operators are words, each on a line of its own: EQ, NE, GT, GE, LE and LT\n\
         compare, ADD, SUB, MUL, DIV and MOD calculate";
     "GT 100");
@@ -41,7 +41,7 @@ pub(crate) const PERCENT: Advice = advice!("a percent sign";
         number of 0 to 254";
     "MUL 50\nDIV 100");
 
-const TRUTH_SIGN: Advice = advice!("a sign that is not an operator";
+pub(crate) const TRUTH_SIGN: Advice = advice!("a sign that is not an operator";
     "operators are words: AND, OR, XOR and NOT combine truth values";
     "OR button");
 
@@ -439,35 +439,6 @@ const ADDRESSES: &[Habit] = habits! {
         Body "@ (declared)" Nothing;
 };
 
-/// What Siemens' lists have that is no name, and other signs.
-const SIEMENS: &[Habit] = habits! {
-    advice!("an operator of Siemens' lists";
-        "write its word, with the second value as its operand: ADD, SUB, MUL, DIV, EQ,\n\
-            NE, GT, GE, LT or LE";
-        "LD level\nADD change")  =>
-        Body "^ @ {}" ["+i", "+d", "+r", "-i", "-d", "-r", "*i", "*d", "*r", "/i", "/d", "/r", "==i",
-        "==d", "<>i", "<>d", ">=i", ">=d", "<=i", "<=d", ">i", ">d", "<i", "<d"] Nothing;
-    advice!("= as an instruction"; "write ST"; "ST lamp")  =>
-        Body "^ @ [ = ] _ (apart)" Put("ST");
-    advice!("ON as an instruction"; "write ORN"; "ORN button")  =>
-        Body "^ @ on" Nothing;
-    TRUTH_SIGN  =>
-        Body "^ @ [ {} ]" ["||", "|"] Put("OR");
-    advice!("a minus before a name";
-        "SUB takes away what ADD would add; MUL -1 turns the sign of the current result";
-        "LD level\nMUL -1")  =>
-        Anywhere "< {with} @ - ~{name}" Nothing;
-    advice!("a sign in a declaration";
-        "a declaration has names of letters, digits and _, a colon, a type, and behind :=\n\
-            one number or truth value if need be: nothing is computed there";
-        "lamp, lamp2 : USINT (0..254) := 100;")  =>
-        Declared "@ {}" ["=", "<", ">", "*", "/"] Nothing, Declared "@ {} (apart)" ["+", "-"] Nothing;
-    LOGIC_SIGN  =>
-        Anywhere "@ {}" ["=", "<", ">", "*", "/"] Nothing, Body "@ {}" ["+", "-", "!="] Nothing;
-    TRUTH_SIGN  =>
-        Body "@ |" Nothing;
-};
-
 /// Rows of comments, quotes and files.
 fn quote_rows() -> &'static [Habit] {
     QUOTES
@@ -508,11 +479,6 @@ fn address_rows() -> &'static [Habit] {
     ADDRESSES
 }
 
-/// Rows of Siemens' lists.
-fn siemens_rows() -> &'static [Habit] {
-    SIEMENS
-}
-
 /// Each table of habits, in the order in which they are asked. Each stands in a function of its own:
 /// what one function names is checked together, at the cost of its square.
 pub(crate) fn table(number: usize) -> &'static [Habit] {
@@ -528,7 +494,6 @@ pub(crate) fn table(number: usize) -> &'static [Habit] {
         8 => operand_rows(),
         9 => number_rows(),
         10 => address_rows(),
-        11 => siemens_rows(),
-        _ => name_rows(),
+        _ => siemens_rows(),
     }
 }

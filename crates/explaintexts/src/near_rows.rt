@@ -1,8 +1,8 @@
 //! What is nearly right: a sign too many, apart or in another place, a time or an address in two
-//! words, or an expression where one operand stands.
+//! words, or an expression where one operand stands; and what Siemens' lists have.
 
 use crate::habit::{Fix, Habit, Region, habits};
-use crate::habit_rows::NESTED_COMMENT;
+use crate::habit_rows::{LOGIC_SIGN, NESTED_COMMENT, TRUTH_SIGN};
 use crate::said::advice;
 use explaincures::Advice;
 
@@ -135,8 +135,33 @@ const WORDS: &[Habit] = habits! {
         Body "^ {with} {name} [ @ ] {operand}" Put("_");
 };
 
-/// Names that begin a declaration.
-const NAMES: &[Habit] = habits! {
+/// What Siemens' lists have that is no name, other signs, and two names.
+const SIEMENS: &[Habit] = habits! {
+    advice!("an operator of Siemens' lists";
+        "write its word, with the second value as its operand: ADD, SUB, MUL, DIV, EQ,\n\
+            NE, GT, GE, LT or LE";
+        "LD level\nADD change")  =>
+        Body "^ @ {}" ["+i", "+d", "+r", "-i", "-d", "-r", "*i", "*d", "*r", "/i", "/d", "/r", "==i",
+        "==d", "<>i", "<>d", ">=i", ">=d", "<=i", "<=d", ">i", ">d", "<i", "<d"] Nothing;
+    advice!("= as an instruction"; "write ST"; "ST lamp")  =>
+        Body "^ @ [ = ] _ (apart)" Put("ST");
+    advice!("ON as an instruction"; "write ORN"; "ORN button")  =>
+        Body "^ @ on" Nothing;
+    TRUTH_SIGN  =>
+        Body "^ @ [ {} ]" ["||", "|"] Put("OR");
+    advice!("a minus before a name";
+        "SUB takes away what ADD would add; MUL -1 turns the sign of the current result";
+        "LD level\nMUL -1")  =>
+        Anywhere "< {with} @ - ~{name}" Nothing;
+    advice!("a sign in a declaration";
+        "a declaration has names of letters, digits and _, a colon, a type, and behind :=\n\
+            one number or truth value if need be: nothing is computed there";
+        "lamp, lamp2 : USINT (0..254) := 100;")  =>
+        Declared "@ {}" ["=", "<", ">", "*", "/"] Nothing, Declared "@ {} (apart)" ["+", "-"] Nothing;
+    LOGIC_SIGN  =>
+        Anywhere "@ {}" ["=", "<", ">", "*", "/"] Nothing, Body "@ {}" ["+", "-", "!="] Nothing;
+    TRUTH_SIGN  =>
+        Body "@ |" Nothing;
     advice!("{0} before a name";
         "a declaration begins with the name; a colon and a type stand behind it, and :=\n\
             before a first value";
@@ -161,7 +186,7 @@ pub(crate) fn word_rows() -> &'static [Habit] {
     WORDS
 }
 
-/// Rows of names.
-pub(crate) fn name_rows() -> &'static [Habit] {
-    NAMES
+/// Rows of Siemens' lists, of other signs and of two names.
+pub(crate) fn siemens_rows() -> &'static [Habit] {
+    SIEMENS
 }
