@@ -405,11 +405,11 @@ const ADDRESSES: &[Habit] = habits! {
         "leave it out: each variable keeps its value from scan to scan, and over a\n\
             restart where `dalictl live` has --keep FILE";
         "VAR count : UINT; END_VAR")  =>
-        Variables "<< (qualified) [ {} * ] @" ["retain", "non_retain", "persistent"] Put("");
+        Variables "<< (first) [ {} * ] @" ["retain", "non_retain", "persistent"] Put("");
     advice!("there is no CONSTANT";
         "leave it out: a variable that nothing stores to keeps its first value";
         "VAR most : USINT := 200; END_VAR")  =>
-        Variables "<< (qualified) [ {} * ] @" ["constant", "const"] Put("");
+        Variables "<< (first) [ {} * ] @" ["constant", "const"] Put("");
     advice!("a function block of your own";
         "write a program that has an instance for each, or a FUNCTION, which keeps\n\
             nothing";

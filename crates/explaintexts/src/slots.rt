@@ -303,7 +303,7 @@ pub(crate) fn holds(standing: &Standing, here: &Spot, condition: &[u8]) -> bool 
             is_number && is_known && spot.at > from && literal.contains(&b'.')
         }
         (b"(declared)", _) => is_declaration(spot),
-        (b"(qualified)", _) => is_qualifier(standing),
+        (b"(first)", _) => is_place(standing, here, b"first"),
         _ => false,
     }
 }
@@ -318,18 +318,6 @@ fn is_declaration(spot: &Spot) -> bool {
         }
     }
     false
-}
-
-/// Whether the word before the place stands where a name is declared: right behind the word that
-/// begins a block of variables, or behind a semicolon of that block.
-fn is_qualifier(standing: &Standing) -> bool {
-    let Some(block) = standing.around.block else {
-        return false;
-    };
-    let (word, _) = block.words();
-    let from = block.at.saturating_add(word.len());
-    let front = standing.spot.part(from, standing.around.before.0);
-    matches!(front.trim_ascii_end(), [] | [.., b';'])
 }
 
 /// What a word is that stands first.
