@@ -124,16 +124,22 @@ fn unknown(bytes: &[u8], word: &[u8], forms: &'static [Form]) -> Reason {
 
 /// What is said of a word with which no line of a scenario begins, but people begin one.
 fn foreign(word: &[u8]) -> (&'static str, &'static str, Meant) {
-    match word {
-        b"wait" | b"sleep" | b"delay" | b"pause" => (NO_LINE, MOMENTS, Meant::Perhaps("tick")),
-        b"lamp" | b"light" | b"lampe" | b"leuchte" => (NO_LINE, KNOWN, Meant::Perhaps("gear")),
-        b"button" | b"press" | b"taster" | b"ereignis" => (NO_LINE, EVENT, Meant::Perhaps("event")),
-        b"expect" => (NO_LINE, EXPECTED, Meant::Perhaps("# {word}")),
-        _ => (NO_LINE, KNOWN, SMALL),
+    for (words, cure, meant) in FOREIGN {
+        if is_in(*words, word) {
+            return (NO_LINE, *cure, Meant::Perhaps(*meant));
+        }
     }
+    (NO_LINE, KNOWN, SMALL)
 }
 
-/// What helps there.
+/// Such words, what helps, and what may stand in their place.
+const FOREIGN: &[(&str, &str, &str)] = &[
+    ("wait sleep delay pause", MOMENTS, "tick"),
+    ("lamp light lampe leuchte", KNOWN, "gear"),
+    ("button press taster ereignis", EVENT, "event"),
+    ("expect", EXPECTED, "# {word}"),
+];
+
 const MOMENTS: &str = "write `tick` and a moment: moments count from the start, in milliseconds";
 
 const EVENT: &str = "the line of an event has the bus and a frame of six hexadecimal digits;\n\
@@ -309,35 +315,28 @@ fn is_met(field: Field, word: &[u8]) -> bool {
 /// Why a word is one too many, where these parts may follow. A number of 64 on is no second
 /// address, but a level.
 fn too_many(form: &Form, parts: &[Part], word: &[u8]) -> Reason {
-    let is_level = matches!(number_of(word, 254), Some(64..));
-    let (what, cure, meant) = match (word, parts) {
-        ([b'#', ..], _) => (TOO_MANY, "give a comment a line of its own", SMALL),
+    let what = "{word} is a word too many";
+    let cure = match (word, parts) {
+        ([b'#', ..], _) => "give a comment a line of its own",
         ([b'(', b'*', ..] | [b'/', b'/', ..] | [b';', ..], _) => {
-            let cure = "give a comment a line of its own, with # before it";
-            (TOO_MANY, cure, SMALL)
+            "give a comment a line of its own, with # before it"
         }
-        (_, [Part("level", ..), ..]) if is_level => {
+        (_, [Part("level", ..), ..]) if matches!(number_of(word, 254), Some(64..)) => {
             let what = "{word} does not say that it is a level";
-            let cure = "write the word `level` before it";
-            (what, cure, Meant::With("level {word}"))
+            let reason = Reason::of(what, "write the word `level` before it");
+            return reason.meaning(Meant::With("level {word}"));
         }
         (b"on" | b"off" | [b'l', b'e', b'v', b'e', b'l', ..], [Part("level", ..), ..]) => {
             let cure = "a first level has the word `level` and a blank before it";
-            (TOO_MANY, cure, Meant::Perhaps("level 254"))
+            return Reason::of(what, cure).meaning(Meant::Perhaps("level 254"));
         }
         _ if part_at(parts_of(form), word).is_some() => {
-            let cure = "give the level once, then the groups, and then the scenes";
-            (TOO_MANY, cure, SMALL)
+            "give the level once, then the groups, and then the scenes"
         }
-        _ => {
-            let cure = "leave out what stands here, or give it a line of its own";
-            (TOO_MANY, cure, SMALL)
-        }
+        _ => "leave out what stands here, or give it a line of its own",
     };
-    Reason::of(what, cure).meaning(meant)
+    Reason::of(what, cure)
 }
 
-/// What is wrong with a word that is too much, and how its line is meant.
-const TOO_MANY: &str = "{word} is a word too many";
-
+/// How a line is meant where nothing better is known.
 const SMALL: Meant = Meant::InSmallLetters;
