@@ -2,6 +2,7 @@
 //! values among them, and the slot from which it was computed. The ranges of `ilverify` say
 //! neither.
 
+use crate::facts::place_of;
 use ilcode::{Code, Word, WordOperand};
 use illisting::{is_marked, mark};
 use iltypes::{Function, Operator, Value};
@@ -23,10 +24,12 @@ pub fn constant_of(code: &Code, operand: WordOperand) -> Option<i64> {
 pub(crate) struct Current {
     /// Its value, where the words say it by themselves.
     pub value: Option<i64>,
-    /// The slot from which it was loaded.
+    /// The slot, or first port, from which it was loaded, by its place among what a code uses.
     pub origin: Option<usize>,
     /// Whether it was changed since then, as by ADD.
     pub is_changed: bool,
+    /// Whether that made it the opposite, and no more.
+    pub is_opposite: bool,
 }
 
 /// Nothing is known.
@@ -34,6 +37,7 @@ const UNKNOWN: Current = Current {
     value: None,
     origin: None,
     is_changed: false,
+    is_opposite: false,
 };
 
 impl Current {
@@ -48,6 +52,11 @@ impl Current {
             value,
             origin: self.origin,
             is_changed: self.is_changed || negated,
+            is_opposite: if negated {
+                !self.is_changed
+            } else {
+                self.is_opposite
+            },
         }
     }
 
@@ -58,6 +67,7 @@ impl Current {
             value: None,
             origin: self.origin,
             is_changed: self.is_changed || is_changed,
+            is_opposite: false,
         }
     }
 }
@@ -72,17 +82,14 @@ pub(crate) struct Way<'c> {
     landings: Vec<bool>,
     /// The number of the straight line. Along it nothing is jumped over.
     pub stretch: usize,
+    pub place: usize,
     /// The furthest place that a jump before leads to.
-    pub passed: usize,
+    passed: usize,
     pub result: Current,
 }
 
 impl<'c> Way<'c> {
     /// Before the first word.
-    ///
-    /// # Errors
-    ///
-    /// The allocator is out of memory.
     pub fn new(
         alloc: Global,
         code: &'c Code,
@@ -99,6 +106,7 @@ impl<'c> Way<'c> {
             trigger,
             landings,
             stretch: 0,
+            place: 0,
             passed: 0,
             result: UNKNOWN,
         })
@@ -107,6 +115,7 @@ impl<'c> Way<'c> {
     /// Comes to a place: what is known of the result ends where a jump leads to, and where a
     /// program or a function begins. A way may come to the first place again.
     pub fn arrive(&mut self, place: usize) {
+        self.place = place;
         if place == 0 {
             self.passed = 0;
         }
@@ -114,6 +123,11 @@ impl<'c> Way<'c> {
             self.stretch = self.stretch.saturating_add(1);
             self.result = UNKNOWN;
         }
+    }
+
+    /// Whether no jump leads past the word here.
+    pub fn is_always(&self) -> bool {
+        self.place >= self.passed
     }
 
     /// Goes on past a word.
@@ -149,7 +163,9 @@ impl<'c> Way<'c> {
             WordOperand::Slot(slot) if self.trigger == Some(usize::from(slot)) => {
                 loaded.value = Some(1);
             }
-            WordOperand::Slot(slot) => loaded.origin = Some(usize::from(slot)),
+            WordOperand::Slot(_) | WordOperand::Port { port: 0, .. } => {
+                loaded.origin = Some(place_of(self.code, operand));
+            }
             _ => loaded.value = constant_of(self.code, operand),
         }
         loaded

@@ -4,14 +4,15 @@
 ghost use Rattle.std.specs.Prelude.{◌<◌, length};
 
 use crate::current::{Current, Way};
-use crate::levels::{Driven, Level, Levels};
+use crate::levels::{BROADCAST, Driven, Level, Levels};
 use crate::line_starts::LineStarts;
 use ilblocks::{BlockKind, MOST_PORTS};
 use ilcode::{Code, Word, WordOperand};
 use ilcompile::Setup;
-use illisting::{TaskNames, functions_in, line_at, read_by, written_by};
+use illisting::{TaskNames, functions_in, line_at, name_in, read_by, written_by};
 use ilplan::{Activation, Location, Plan, SlotOwner, Task};
 use ilsource::{Name, Source};
+use iltypes::Condition;
 use std::alloc::{AllocError, Global};
 
 /// The number of LEVEL among the ports of a GEAR_LEVEL.
@@ -47,6 +48,10 @@ pub struct TaskFacts<'p> {
     used: Vec<Usage>,
     /// The calls of block instances, in the order of the words.
     pub calls: Vec<BlockCall>,
+    /// By the numbers of what levels drive, the place past the last call that sends one as it is.
+    sent: Vec<usize>,
+    /// The jumps of which the words before say the condition, with what it is.
+    pub conditions: Vec<(usize, bool)>,
 }
 
 /// A slot that is a global variable.
@@ -84,12 +89,20 @@ pub struct Usage {
     stretch: usize,
     origin: Option<usize>,
     /// Whether a word stores what was computed from itself.
-    moves: bool,
+    pub moves: bool,
     /// A slot besides of which a word stores what was computed.
     follows: Option<usize>,
+    /// The first word that stores, and the place among what a code uses from which it has just
+    /// this value or the opposite, where no other stores and each scan carries it out.
+    first: usize,
+    turned: Option<usize>,
     // Of the first port of a block instance:
     /// Whether the instance is called.
     pub is_called: bool,
+    /// Whether each scan calls it.
+    pub is_always: bool,
+    /// The one value that it has at all calls, as far as it is known.
+    given: Option<i64>,
     /// Whether a call surely has FALSE there.
     pub is_false: bool,
     /// Whether each scan calls it with FALSE there.
@@ -108,7 +121,11 @@ const UNNAMED: Usage = Usage {
     origin: None,
     moves: false,
     follows: None,
+    first: 0,
+    turned: None,
     is_called: false,
+    is_always: false,
+    given: None,
     is_false: false,
     is_always_false: false,
     is_always_true: false,
@@ -122,7 +139,19 @@ impl Usage {
             value,
             origin,
             is_changed,
+            is_opposite,
         } = way.stored_by(word);
+        let is_conditional = matches!(word, Word::Set(_) | Word::Reset(_));
+        if !self.is_stored {
+            self.first = way.place;
+        }
+        let is_only = self.first == way.place && way.is_always() && !is_conditional;
+        let is_kept = !is_changed && origin != Some(place);
+        self.turned = if is_only && (is_opposite || is_kept) {
+            origin
+        } else {
+            None
+        };
         if self.is_stored && self.value != value {
             self.value = None;
         } else {
@@ -134,7 +163,6 @@ impl Usage {
             Some(_) if is_changed => self.moves = true,
             _ => {}
         }
-        let is_conditional = matches!(word, Word::Set(_) | Word::Reset(_));
         let condition = way.result.value;
         if !is_conditional || condition != Some(0) {
             let is_held = !is_conditional || condition.is_some();
@@ -147,10 +175,18 @@ impl Usage {
     /// Adds a call of the block instance of which this is the first port.
     fn add_call(&mut self, call: &BlockCall) {
         let (is_false, is_true) = (call.port(0) == Some(0), call.port(0) == Some(1));
+        let is_one = !self.is_called || self.given == call.port(0);
+        self.given = if is_one { call.port(0) } else { None };
         self.is_called = true;
+        self.is_always = self.is_always || call.is_always;
         self.is_false = self.is_false || is_false;
         self.is_always_false = self.is_always_false || is_false && call.is_always;
         self.is_always_true = self.is_always_true || is_true && call.is_always;
+    }
+
+    /// The one value of the first port of a block instance, where it has one alone.
+    pub fn one_value(&self) -> Option<i64> {
+        self.value.or(self.given)
     }
 
     /// The value at a call on this straight line, where it is known: what the line stored, or else
@@ -200,10 +236,6 @@ impl BlockCall {
 }
 
 /// What rules look at of a setup and its source program.
-///
-/// # Errors
-///
-/// The allocator is out of memory.
 pub fn house_of<'p>(
     alloc: Global,
     setup: &'p Setup,
@@ -212,7 +244,7 @@ pub fn house_of<'p>(
     let plan = setup.plan();
     let lines = LineStarts::of(alloc, source.text())?;
     let tasks = facts_of(alloc, setup)?;
-    let levels = Levels::of(alloc, plan.buses(), &tasks)?;
+    let levels = Levels::of(alloc, plan, &tasks)?;
     Ok(House {
         plan,
         source,
@@ -223,10 +255,6 @@ pub fn house_of<'p>(
 }
 
 /// What notes look at, for each task.
-///
-/// # Errors
-///
-/// The allocator is out of memory.
 pub(crate) fn facts_of(alloc: Global, setup: &Setup) -> Result<Vec<TaskFacts<'_>>, AllocError> {
     let mut all = Vec::new(alloc);
     for number in 0..setup.plan().tasks() {
@@ -278,6 +306,8 @@ impl<'p> TaskFacts<'p> {
             globals: globals_in(alloc, plan, task)?,
             used: vec![in alloc; UNNAMED; port_place(code, code.kinds().len(), 0)]?,
             calls: Vec::new(alloc),
+            sent: vec![in alloc; 0; Driven::end(plan).number()]?,
+            conditions: Vec::new(alloc),
         })
     }
 
@@ -288,6 +318,25 @@ impl<'p> TaskFacts<'p> {
             task: self.number,
             code: self.code,
             functions: &self.functions,
+        }
+    }
+
+    /// The name of the variable in a slot, of the task or of one of its functions.
+    pub fn name_of(&self, plan: &Plan, slot: usize) -> Option<Name> {
+        match self.task.slots().get(slot) {
+            Some(found) => match found.variable {
+                SlotOwner::Own { name, .. } => Some(name),
+                SlotOwner::Global(_) => Some(self.globals.get(slot)?.name),
+            },
+            None => {
+                let mut name = None;
+                for (body, number) in self.code.functions().iter().zip(&self.functions) {
+                    if let Some(own) = slot.checked_sub(body.first) {
+                        name = name_in(plan.functions().get(*number)?, own);
+                    }
+                }
+                name
+            }
         }
     }
 
@@ -308,6 +357,34 @@ impl<'p> TaskFacts<'p> {
         match stored.follows {
             Some(origin) => stored.moves || self.slot(origin).moves,
             None => stored.moves,
+        }
+    }
+
+    /// Whether each scan stores to a first port, or each second one, what makes it rise each second
+    /// time: the opposite of what it was, or what a variable has that turns so.
+    pub fn is_turned(&self, block: usize) -> bool {
+        let place = port_place(self.code, block, 0);
+        match self.slot(place).turned {
+            Some(from) => from == place || self.slot(from).turned == Some(from),
+            None => false,
+        }
+    }
+
+    /// Whether a level is sent again as it is behind a place, or by a cyclic task somewhere.
+    pub fn sends_again(&self, level: Level, place: usize) -> bool {
+        let sent = self.sent.get(level.driven.number()).copied().unwrap_or(0);
+        sent > place || self.interval.is_some() && sent > 0
+    }
+
+    /// The level that a call sends again as it is, to what that drives or to all gear of its bus.
+    fn level_sent(&self, call: &BlockCall) -> Option<Driven> {
+        let level = self.globals.get(call.level?)?.driven()?;
+        let driven = call.driven()?;
+        let is_there = driven.address == BROADCAST || driven.address == level.address;
+        if is_there && driven.bus == level.bus && call.may_request() {
+            Some(level)
+        } else {
+            None
         }
     }
 
@@ -366,13 +443,24 @@ impl<'p> TaskFacts<'p> {
         }
     }
 
-    /// Adds the call of a block instance, where the word is one.
+    /// Adds the call of a block instance, or the condition of a jump, where the word is one.
     fn add_call(&mut self, way: &Way, place: usize, word: Word) -> Result<(), AllocError> {
         if let Some(call) = self.call_at(way, place, word) {
             if let Some(kept) = self.used.get_mut(port_place(self.code, call.block, 0)) {
                 kept.add_call(&call);
             }
+            if let Some(level) = self.level_sent(&call) {
+                if let Some(kept) = self.sent.get_mut(level.number()) {
+                    *kept = place.saturating_add(1);
+                }
+            }
             self.calls.push(call)?;
+        }
+        match (word, way.result.value) {
+            (Word::Jump { condition, .. }, Some(value)) if condition != Condition::Always => {
+                self.conditions.push((place, value == 1))?;
+            }
+            _ => {}
         }
         Ok(())
     }
@@ -399,12 +487,12 @@ impl<'p> TaskFacts<'p> {
                 level.known(stretch),
                 self.port(block, 4).known(stretch),
             ],
-            level: if level.stretch == stretch {
+            level: if level.stretch == stretch && matches!(found.kind, BlockKind::GearLevel) {
                 level.origin
             } else {
                 None
             },
-            is_always: place >= way.passed,
+            is_always: way.is_always(),
         })
     }
 }
@@ -418,7 +506,7 @@ fn port_place(code: &Code, block: usize, port: usize) -> usize {
 }
 
 /// The place of an operand among what a code uses; a constant has none there.
-fn place_of(code: &Code, operand: WordOperand) -> usize {
+pub fn place_of(code: &Code, operand: WordOperand) -> usize {
     match operand {
         WordOperand::Slot(slot) => usize::from(slot),
         WordOperand::Port { port, block } => {

@@ -3,6 +3,7 @@
 use crate::facts::{BlockCall, TaskFacts};
 use ilblocks::BlockKind;
 use illisting::{is_marked, mark};
+use ilplan::Plan;
 use ilsource::Name;
 use std::alloc::{AllocError, Global};
 
@@ -30,6 +31,14 @@ pub struct Driven {
 }
 
 impl Driven {
+    /// Past the last of all buses of a plan.
+    pub fn end(plan: &Plan) -> Driven {
+        Driven {
+            bus: plan.buses(),
+            address: 0,
+        }
+    }
+
     /// Its number among those of all buses.
     pub fn number(self) -> usize {
         usize::from(self.bus)
@@ -63,16 +72,9 @@ pub struct Levels {
 }
 
 impl Levels {
-    /// The levels that tasks store, on the given number of buses.
-    ///
-    /// # Errors
-    ///
-    /// The allocator is out of memory.
-    pub fn of(alloc: Global, buses: u8, tasks: &[TaskFacts]) -> Result<Levels, AllocError> {
-        let end = Driven {
-            bus: buses,
-            address: 0,
-        };
+    /// The levels that tasks store.
+    pub fn of(alloc: Global, plan: &Plan, tasks: &[TaskFacts]) -> Result<Levels, AllocError> {
+        let end = Driven::end(plan);
         let mut levels = Levels {
             levels: vec![in alloc; None; end.number()]?,
             members: vec![in alloc; false; end.member(0)]?,
@@ -115,22 +117,27 @@ impl Levels {
         }
     }
 
-    /// A level of more gear, that of this among it; or one that what is sent there changes as well,
-    /// but none that is soon sent again. Of several it is the first by its address.
-    pub fn beside(&self, driven: Driven, is_of_more: bool) -> Option<Level> {
+    /// A level of more gear, that of this among it. Of several it is the first by its address.
+    pub fn above(&self, driven: Driven) -> Option<Level> {
         for address in 0..ADDRESSES {
-            let other = Driven {
-                bus: driven.bus,
-                address,
-            };
-            let is_found = if is_of_more {
-                self.covers(other, driven)
-            } else {
-                address < BROADCAST && self.covers(driven, other)
-            };
-            match self.get(other) {
-                Some(level) if is_found && (is_of_more || !level.is_moved) => return Some(level),
-                _ => {}
+            if let Some(level) = self.get(Driven { address, ..driven }) {
+                if self.covers(level.driven, driven) {
+                    return Some(level);
+                }
+            }
+        }
+        None
+    }
+
+    /// A level that what is sent there at a place changes as well, but none that is soon sent
+    /// again. Of several it is the first by its address.
+    pub fn below(&self, driven: Driven, facts: &TaskFacts, place: usize) -> Option<Level> {
+        for address in 0..BROADCAST {
+            if let Some(level) = self.get(Driven { address, ..driven }) {
+                let is_again = level.is_moved || facts.sends_again(level, place);
+                if self.covers(driven, level.driven) && !is_again {
+                    return Some(level);
+                }
             }
         }
         None

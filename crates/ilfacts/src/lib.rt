@@ -20,7 +20,7 @@ mod line_starts;
 mod load;
 
 pub use current::constant_of;
-pub use facts::{BlockCall, GlobalSlot, House, TaskFacts, Usage, house_of};
+pub use facts::{BlockCall, GlobalSlot, House, TaskFacts, Usage, house_of, place_of};
 pub use levels::{BROADCAST, Driven, FIRST_GROUP, Level, Levels};
 pub use line_starts::LineStarts;
 pub use load::{add_tenths, rate_of, write_load};

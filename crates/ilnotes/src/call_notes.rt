@@ -1,10 +1,10 @@
 //! Notes on what the calls of block instances ask and command: several questions of which the
 //! answers come to one variable, and gear that something else commands as well.
 
-use crate::kinds::Kind;
-use crate::note::{Found, Note, NotePlace, Notes, note_of};
+use crate::kinds::{Kind, Rule};
+use crate::note::{Found, Note, NotePlace, Notes, note_at, note_of};
 use ilblocks::BlockKind;
-use ilfacts::{BROADCAST, BlockCall, Driven, House, Level, TaskFacts};
+use ilfacts::{BROADCAST, BlockCall, Driven, FIRST_GROUP, House, TaskFacts};
 use ilplan::{Location, Plan};
 use ilsource::Name;
 use std::alloc::{AllocError, Global};
@@ -36,15 +36,8 @@ pub(crate) struct Calls {
 
 impl Calls {
     /// No call so far, of a plan with these variables for answers.
-    ///
-    /// # Errors
-    ///
-    /// The allocator is out of memory.
     pub fn of(alloc: Global, plan: &Plan) -> Result<Calls, AllocError> {
-        let end = Driven {
-            bus: plan.buses(),
-            address: 0,
-        };
+        let end = Driven::end(plan);
         let mut calls = Calls {
             answerers: vec![in alloc; None; number_of(end, false)]?,
             commanded: vec![in alloc; None; end.number()]?,
@@ -98,9 +91,9 @@ impl Calls {
         note_of(Kind::SharedAnswer, NotePlace::Line(call.line), found)
     }
 
-    /// The note on a call, where it is a command to gear that another task commands too, one of
-    /// both a cyclic one, and that no level drives. What two event tasks command is what somebody
-    /// asked for last.
+    /// The note on a call, where it is a command to gear that another task commands too and that no
+    /// level drives. One of both tasks is a cyclic one: what two event tasks command is what
+    /// somebody asked for last. Where one of both commands all gear, both are.
     pub fn note_on_shared(
         &mut self,
         house: &House,
@@ -111,29 +104,47 @@ impl Calls {
         if house.levels.get(driven).is_some() {
             return None;
         }
-        let commanded = self.commanded.get_mut(driven.number())?;
-        let is_cyclic = facts.interval.is_some();
-        let Some(first) = commanded.as_mut() else {
-            *commanded = Some(Commanded {
-                task: facts.number,
-                is_cyclic,
-                line: call.line,
-                is_told: false,
-            });
-            return None;
+        let this = Commanded {
+            task: facts.number,
+            is_cyclic: facts.interval.is_some(),
+            line: call.line,
+            is_told: false,
         };
-        if first.is_told || first.task == facts.number || !first.is_cyclic && !is_cyclic {
+        let mut kind = Kind::SharedGear;
+        let mut first = self.shared_at(driven, this, false);
+        if first.is_none() {
+            kind = Kind::SharedMore;
+            for address in 0..BROADCAST.saturating_add(1) {
+                let is_all = (address == BROADCAST) != (driven.address == BROADCAST);
+                let least = address.min(driven.address);
+                if first.is_none() && is_all && least < FIRST_GROUP {
+                    first = self.shared_at(Driven { address, ..driven }, this, true);
+                }
+            }
+        }
+        if let Some(kept) = self.commanded.get_mut(driven.number()) {
+            *kept = kept.or(Some(this));
+        }
+        let Commanded { line, task, .. } = first?;
+        let (name, driven) = (Found::Name(call.name), Found::Driven(driven));
+        let found = [name, driven, Found::Count(line), Found::Task(task)];
+        note_of(kind, NotePlace::Line(call.line), found)
+    }
+
+    /// The first command to this, where another task makes it, one of both tasks is a cyclic one,
+    /// or both are, and it was not noted yet.
+    fn shared_at(&mut self, driven: Driven, this: Commanded, is_both: bool) -> Option<Commanded> {
+        let first = self.commanded.get_mut(driven.number())?.as_mut()?;
+        let is_cyclic = if is_both {
+            first.is_cyclic && this.is_cyclic
+        } else {
+            first.is_cyclic || this.is_cyclic
+        };
+        if first.is_told || first.task == this.task || !is_cyclic {
             return None;
         }
         first.is_told = true;
-        let (name, driven) = (Found::Name(call.name), Found::Driven(driven));
-        let found = [
-            name,
-            driven,
-            Found::Count(first.line),
-            Found::Task(first.task),
-        ];
-        note_of(Kind::SharedGear, NotePlace::Line(call.line), found)
+        Some(*first)
     }
 }
 
@@ -163,17 +174,16 @@ fn question_of(call: &BlockCall) -> Option<(bool, i64, i64)> {
 pub(crate) fn note_on_command(house: &House, facts: &TaskFacts, call: &BlockCall) -> Option<Note> {
     let driven = commanded_by(call)?;
     let (kind, level) = match house.levels.get(driven) {
-        Some(level) if sends_again(facts, call, level) => return None,
         Some(level) => (Kind::CommandToLevel, level),
         None => {
-            let changed = house.levels.beside(driven, false);
+            let changed = house.levels.below(driven, facts, call.place);
             (
                 Kind::CommandAboveLevel,
-                changed.or(house.levels.beside(driven, true))?,
+                changed.or(house.levels.above(driven))?,
             )
         }
     };
-    if level.is_moved {
+    if level.is_moved || facts.sends_again(level, call.place) {
         return None;
     }
     let (name, level) = (Found::Name(call.name), Found::Name(level.name));
@@ -181,16 +191,14 @@ pub(crate) fn note_on_command(house: &House, facts: &TaskFacts, call: &BlockCall
     note_of(kind, NotePlace::Line(call.line), found)
 }
 
-/// Whether a call sends a level again as it is: LEVEL of a GEAR_LEVEL is its variable.
-fn sends_again(facts: &TaskFacts, call: &BlockCall, level: Level) -> bool {
-    let slot = match call.level {
-        Some(slot) if matches!(call.kind, BlockKind::GearLevel) => slot,
-        _ => return false,
-    };
-    match facts.globals.get(slot) {
-        Some(global) => global.number == level.number,
-        None => false,
+/// The note on a call that sends 255 as a level.
+pub(crate) fn note_on_mask(call: &BlockCall) -> Option<Note> {
+    let is_level = matches!(call.kind, BlockKind::GearLevel) && call.may_request();
+    if !is_level || call.port(3)? != 255 {
+        return None;
     }
+    let (at, name) = (NotePlace::Line(call.line), Found::Name(call.name));
+    note_at(Kind::LevelMask, at, name, Found::Nothing)
 }
 
 /// What a call commands that changes levels.
@@ -206,7 +214,10 @@ fn commanded_by(call: &BlockCall) -> Option<Driven> {
 pub(crate) fn add_covered_levels(notes: &mut Notes, house: &House) {
     for bus in 0..house.plan.buses() {
         for address in 0..BROADCAST {
-            notes.add(note_on_covered(house, Driven { bus, address }));
+            notes.add(
+                Rule::Overlaps,
+                note_on_covered(house, Driven { bus, address }),
+            );
         }
     }
 }
@@ -214,7 +225,7 @@ pub(crate) fn add_covered_levels(notes: &mut Notes, house: &House) {
 /// The note on a level whose gear another level drives as well, where there is one.
 fn note_on_covered(house: &House, driven: Driven) -> Option<Note> {
     let level = house.levels.get(driven)?;
-    let other = house.levels.beside(driven, true)?;
+    let other = house.levels.above(driven)?;
     let (name, other_name) = (Found::Name(level.name), Found::Name(other.name));
     let found = [
         name,

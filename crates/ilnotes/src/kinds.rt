@@ -2,15 +2,19 @@
 //! what was found; and the rules in their order.
 
 /// The names of notes, in alphabetical order.
-pub const NOTE_NAMES: [&str; 39] = [
+pub const NOTE_NAMES: [&str; 44] = [
     "always-same",
     "bus-load",
     "command-beside-level",
+    "comment-in-comment",
+    "count-without-number",
+    "done-twice",
     "double-source",
     "foreign-information",
     "foreign-trigger",
     "input-always-true",
     "input-never-true",
+    "level-255",
     "level-at-each-scan",
     "level-never-stored",
     "level-without-address",
@@ -39,6 +43,7 @@ pub const NOTE_NAMES: [&str; 39] = [
     "unused",
     "unused-function",
     "unused-program",
+    "unused-result",
     "unused-source",
     "unused-task",
     "unused-trigger",
@@ -55,11 +60,13 @@ pub(crate) enum Kind {
     ForeignTrigger,
     LevelWithoutAddress,
     LevelNeverStored,
+    OtherIsStored,
     UnusedTrigger,
     NeverRead,
     StoredNeverRead,
     InputNeverRead,
     NeverStored,
+    OnlyReset,
     ResultNeverStored,
     Unused,
     UnusedFunction,
@@ -67,6 +74,8 @@ pub(crate) enum Kind {
     UnusedTask,
     NoTask,
     NoProgram,
+    DoneTwice,
+    CommentInComment,
     Unreached,
     UnreachedCall,
     UnusedSource,
@@ -76,27 +85,37 @@ pub(crate) enum Kind {
     ReadNeverCalled,
     TimerInEventTask,
     TimerWithoutTime,
+    CountWithoutNumber,
     SettingAtEachScan,
+    SettingAtEachSecondScan,
     EdgeOnce,
     CountOnce,
     TimeOnce,
     RequestOnce,
+    CountForGood,
     NeverTrue,
     LimitsSwapped,
     TimeWithoutUnit,
     TimeBelowInterval,
     Overwritten,
+    OverwrittenInput,
     AlwaysSame,
     AlwaysSameNumber,
+    AlwaysSameNumbers,
+    AlwaysSameCondition,
+    UnusedResult,
     NeverOff,
     SharedAnswer,
+    LevelMask,
     CommandToLevel,
     CommandAboveLevel,
     SharedGear,
+    SharedMore,
     LevelsOverlap,
     LevelAtEachScan,
     UnreadInformation,
     ForeignInformation,
+    ForeignCount,
     ManyRequests,
     BusLoad,
     ScenarioBus,
@@ -105,7 +124,7 @@ pub(crate) enum Kind {
 }
 
 /// The rules, in the order in which their notes stand, whichever were found first.
-#[derive(Clone, Copy, PartialEq, Eq)]
+#[derive(Clone, Copy)]
 pub(crate) enum Rule {
     Triggers,
     Variables,
@@ -130,30 +149,8 @@ pub(crate) enum Rule {
     ScenarioGear,
 }
 
-/// All rules, in this order.
-pub(crate) const RULES: [Rule; 21] = [
-    Rule::Triggers,
-    Rule::Variables,
-    Rule::Functions,
-    Rule::Programs,
-    Rule::Unreached,
-    Rule::UnusedSources,
-    Rule::DoubleSources,
-    Rule::Blocks,
-    Rule::Numbers,
-    Rule::Overwritten,
-    Rule::SameResults,
-    Rule::NeverOff,
-    Rule::Answers,
-    Rule::Commands,
-    Rule::SharedGear,
-    Rule::Overlaps,
-    Rule::Pace,
-    Rule::Requests,
-    Rule::Load,
-    Rule::ScenarioLines,
-    Rule::ScenarioGear,
-];
+/// How many rules there are.
+pub(crate) const RULES: u8 = 21;
 
 impl Rule {
     /// Whether it notes a place of the text once, whatever is found there besides.
@@ -170,51 +167,6 @@ impl Rule {
     }
 }
 
-/// The rule that gives notes of a kind.
-pub(crate) fn rule_of(kind: Kind) -> Rule {
-    match kind {
-        Kind::ForeignTrigger => Rule::Triggers,
-        Kind::LevelWithoutAddress
-        | Kind::LevelNeverStored
-        | Kind::UnusedTrigger
-        | Kind::NeverRead
-        | Kind::StoredNeverRead
-        | Kind::InputNeverRead
-        | Kind::NeverStored
-        | Kind::ResultNeverStored
-        | Kind::Unused => Rule::Variables,
-        Kind::UnusedFunction => Rule::Functions,
-        Kind::UnusedProgram | Kind::UnusedTask | Kind::NoTask | Kind::NoProgram => Rule::Programs,
-        Kind::Unreached | Kind::UnreachedCall => Rule::Unreached,
-        Kind::UnusedSource => Rule::UnusedSources,
-        Kind::DoubleSource => Rule::DoubleSources,
-        Kind::UnusedBlock
-        | Kind::StoredNeverCalled
-        | Kind::ReadNeverCalled
-        | Kind::TimerInEventTask
-        | Kind::TimerWithoutTime
-        | Kind::SettingAtEachScan
-        | Kind::EdgeOnce
-        | Kind::CountOnce
-        | Kind::TimeOnce
-        | Kind::RequestOnce
-        | Kind::NeverTrue => Rule::Blocks,
-        Kind::LimitsSwapped | Kind::TimeWithoutUnit | Kind::TimeBelowInterval => Rule::Numbers,
-        Kind::Overwritten => Rule::Overwritten,
-        Kind::AlwaysSame | Kind::AlwaysSameNumber => Rule::SameResults,
-        Kind::NeverOff => Rule::NeverOff,
-        Kind::SharedAnswer => Rule::Answers,
-        Kind::CommandToLevel | Kind::CommandAboveLevel => Rule::Commands,
-        Kind::SharedGear => Rule::SharedGear,
-        Kind::LevelsOverlap => Rule::Overlaps,
-        Kind::LevelAtEachScan | Kind::UnreadInformation | Kind::ForeignInformation => Rule::Pace,
-        Kind::ManyRequests => Rule::Requests,
-        Kind::BusLoad => Rule::Load,
-        Kind::ScenarioBus | Kind::ScenarioSource => Rule::ScenarioLines,
-        Kind::ScenarioGear => Rule::ScenarioGear,
-    }
-}
-
 /// The name of notes of a kind, and behind it their text.
 pub(crate) fn text_of(kind: Kind) -> &'static str {
     match kind {
@@ -228,11 +180,16 @@ pub(crate) fn text_of(kind: Kind) -> &'static str {
         Kind::LevelNeverStored => {
             "level-never-stored: no task stores the level {0}, which stays {1}"
         }
+        Kind::OtherIsStored => {
+            "level-never-stored: no task stores the level {0}, which stays {1}; the {0} of line {2} \
+             is another variable: VAR_EXTERNAL names the level"
+        }
         Kind::UnusedTrigger => "unused-trigger: {0} starts no task, and no task reads it",
         Kind::NeverRead => "never-read: {0} is never read",
         Kind::StoredNeverRead => "never-read: {0} is stored and never read",
         Kind::InputNeverRead => "never-read: the input {0} of {1} is never read",
         Kind::NeverStored => "never-stored: {0} is read and never stored, and stays {1}",
+        Kind::OnlyReset => { "never-stored: {0} is never TRUE: only FALSE is stored to it" }
         Kind::ResultNeverStored => "never-stored: the result of {0} is never stored, and stays {1}",
         Kind::Unused => "unused: {0} is not used",
         Kind::UnusedFunction => "unused-function: no task uses the function {0}",
@@ -240,6 +197,13 @@ pub(crate) fn text_of(kind: Kind) -> &'static str {
         Kind::UnusedTask => "unused-task: no program runs in the task {0}",
         Kind::NoTask => "nothing-runs: the configuration has no task: nothing runs",
         Kind::NoProgram => "nothing-runs: the text has no program: nothing runs",
+        Kind::DoneTwice => {
+            "done-twice: {0} does in each scan again what {1} did: {2} has no variables of its own"
+        }
+        Kind::CommentInComment => {
+            "comment-in-comment: the comment that begins here goes on to line {1}, where (* stands \
+             again: all between is comment"
+        }
         Kind::Unreached => "unreached: no scan of the task {0} comes here",
         Kind::UnreachedCall => "unreached: no call of {0} comes here",
         Kind::UnusedSource => "unused-source: the text does not use the source {0} of the binding",
@@ -261,9 +225,16 @@ pub(crate) fn text_of(kind: Kind) -> &'static str {
         Kind::TimerWithoutTime => {
             "timer-without-time: the timer {0} is given no PT: its time is over at once"
         }
+        Kind::CountWithoutNumber => {
+            "count-without-number: the counter {0} is given no PV: its Q is TRUE from the first call on"
+        }
         Kind::SettingAtEachScan => {
             "setting-at-each-scan: {0} makes its setting in each scan of the task {1}; a setting \
              is kept, and what keeps it wears out"
+        }
+        Kind::SettingAtEachSecondScan => {
+            "setting-at-each-scan: {0} makes its setting in each second scan of the task {1}; a \
+             setting is kept, and what keeps it wears out"
         }
         Kind::EdgeOnce => {
             "input-always-true: CLK of {0} is never FALSE again: its edge comes once, and then no \
@@ -280,6 +251,9 @@ pub(crate) fn text_of(kind: Kind) -> &'static str {
             "request-once: REQ of {0} is never FALSE again: it makes its request once, and then no \
              more"
         }
+        Kind::CountForGood => {
+            "input-never-true: R of {0} is never TRUE: once its Q is TRUE, it stays so"
+        }
         Kind::NeverTrue => "input-never-true: {1} of {0} is never TRUE: it does nothing",
         Kind::LimitsSwapped => {
             "limits-swapped: LIMIT {0}, {1} gives {1} whatever comes: the lower limit stands first"
@@ -292,15 +266,29 @@ pub(crate) fn text_of(kind: Kind) -> &'static str {
             "overwritten: what is stored to {0} here is lost: each way on stores it again before \
              the scan ends, as line {1} does, and nothing reads it in between"
         }
+        Kind::OverwrittenInput => {
+            "overwritten: what is stored to {0}.{2} here is lost: each way on stores it again, as \
+             line {1} does, before {0} is called"
+        }
         Kind::AlwaysSame => "always-same: {0} gives {1} whatever comes",
         Kind::AlwaysSameNumber => {
             "always-same: {0} gives {1} whatever comes: the number before it is {2}"
+        }
+        Kind::AlwaysSameNumbers => {
+            "always-same: {0} gives {1} whatever comes: the number before it is {2}, the other {3}"
+        }
+        Kind::AlwaysSameCondition => {
+            "always-same: the condition of this line is {0} whatever comes"
+        }
+        Kind::UnusedResult => {
+            "unused-result: what {0} gives is not used: the next instruction loads another value"
         }
         Kind::NeverOff => "never-off: no store turns {0} off: the least that is stored is {1}",
         Kind::SharedAnswer => {
             "shared-answer: {0} asks {1} another question than line {2} does; {3} has the answer \
              that came last, whichever question it is to"
         }
+        Kind::LevelMask => { "level-255: {0} sends 255, which is no new level; full light is 254" }
         Kind::CommandToLevel => {
             "command-beside-level: {0} commands {1}, whose level is {2}; {2} keeps its value, and \
              is sent again only once that changes"
@@ -312,6 +300,10 @@ pub(crate) fn text_of(kind: Kind) -> &'static str {
         Kind::SharedGear => {
             "shared-gear: {0} commands {1}, and so does line {2} in the task {3}; the gear has \
              what was sent last"
+        }
+        Kind::SharedMore => {
+            "shared-gear: {0} commands {1}, and line {2} in the task {3} commands some of the same \
+             gear; the gear has what was sent last"
         }
         Kind::LevelsOverlap => {
             "levels-overlap: {0} is also driven by {1}, the level of {2}; neither follows the \
@@ -328,6 +320,10 @@ pub(crate) fn text_of(kind: Kind) -> &'static str {
         Kind::ForeignInformation => {
             "foreign-information: {0} is the information of another source than the one whose \
              events start the task {1}"
+        }
+        Kind::ForeignCount => {
+            "foreign-information: {0} is the count of another source than the one whose events \
+             start the task {1}"
         }
         Kind::ManyRequests => {
             "many-requests: one scan of each task may make {0} requests; a bus keeps {1} of a \

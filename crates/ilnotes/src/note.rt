@@ -1,7 +1,8 @@
 //! Notes, as small values.
 
-use crate::kinds::Kind;
+use crate::kinds::{Kind, Rule};
 use ilblocks::BlockKind;
+use ilcode::Word;
 use ilfacts::Driven;
 use ilranges::Known;
 use ilsource::Name;
@@ -12,8 +13,8 @@ use std::alloc::{AllocError, Global};
 #[derive(Clone, Copy)]
 pub(crate) enum Found {
     Nothing,
-    /// The name of the first input of a block.
-    FirstInput(BlockKind),
+    /// The name of a port of a block.
+    Port(BlockKind, usize),
     /// A name of the text.
     Name(Name),
     /// The name of the task of this number.
@@ -29,8 +30,8 @@ pub(crate) enum Found {
     Source { bus: u8, source: u8 },
     /// The frame of an event.
     Event(u32),
-    /// The word at a place of a task's code.
-    Word { task: usize, place: usize },
+    /// A word of a task's code.
+    Word(usize, Word),
     Known(Known),
 }
 
@@ -77,16 +78,16 @@ pub(crate) type Added = Result<(), AllocError>;
 #[derive(Drop)]
 pub(crate) struct Notes {
     pub alloc: Global,
-    pub all: Vec<Note>,
+    pub all: Vec<(Rule, Note)>,
     /// Whether a note was left out, since the allocator was out of memory.
     pub is_cut: bool,
 }
 
 impl Notes {
-    /// Adds a note, where there is one.
-    pub fn add(&mut self, note: Option<Note>) {
+    /// Adds a note of a rule, where there is one.
+    pub fn add(&mut self, rule: Rule, note: Option<Note>) {
         if let Some(note) = note {
-            if self.all.push(note).is_err() {
+            if self.all.push((rule, note)).is_err() {
                 self.is_cut = true;
             }
         }

@@ -1,10 +1,11 @@
 //! Notes, printed as lines or as JSON.
 
-use crate::kinds::{RULES, Rule, rule_of, text_of};
+use crate::kinds::{RULES, Rule, text_of};
 use crate::note::{Found, Note, NotePlace, Notes};
 use crate::quoted::Quoted;
 use crate::rules::add_all_notes;
 use crate::scenario_notes::{Played, add_scenario_notes};
+use ilcode::Word;
 use ilcompile::Setup;
 use ilfacts::{BROADCAST, Driven, FIRST_GROUP, House, add_tenths, house_of};
 use illisting::{ValuesText, WordText};
@@ -60,10 +61,6 @@ pub fn write_notes<W: Write>(
 }
 
 /// All notes on a house, and on the scenario that is played in it.
-///
-/// # Errors
-///
-/// The allocator is out of memory.
 fn notes_on(alloc: Global, house: &House, played: Option<Played>) -> Result<Notes, AllocError> {
     let mut notes = Notes {
         alloc,
@@ -96,9 +93,9 @@ impl<'h, 'p, 'a> Printed<'h, 'p, 'a> {
         let mut is_first = true;
         let mut is_denied = false;
         let denied = self.asked.denied.unwrap_or("");
-        for rule in RULES.iter() {
-            for note in &notes.all {
-                if rule_of(note.kind) == *rule && self.is_new(&mut noted, *rule, note.place) {
+        for rule in 0..RULES {
+            for (found_by, note) in &notes.all {
+                if *found_by as u8 == rule && self.is_new(&mut noted, *found_by, note.place) {
                     let text = text_of(note.kind);
                     let (name, message) = text.split_once(": ").unwrap_or((text, ""));
                     self.add_note(page, is_first, note, (name, message));
@@ -115,7 +112,7 @@ impl<'h, 'p, 'a> Printed<'h, 'p, 'a> {
 
     /// Whether a note of a rule is printed: where the rule notes each place once, it is the first one
     /// there.
-    fn is_new(&self, noted: &mut Vec<Option<Rule>>, rule: Rule, place: NotePlace) -> bool {
+    fn is_new(&self, noted: &mut Vec<Option<u8>>, rule: Rule, place: NotePlace) -> bool {
         let at = match place {
             _ if !rule.notes_once() => return true,
             NotePlace::Name(name) => name.from,
@@ -123,8 +120,8 @@ impl<'h, 'p, 'a> Printed<'h, 'p, 'a> {
             NotePlace::Whole | NotePlace::Scenario(_) => return true,
         };
         match noted.get_mut(at) {
-            Some(last) if *last != Some(rule) => {
-                *last = Some(rule);
+            Some(last) if *last != Some(rule as u8) => {
+                *last = Some(rule as u8);
                 true
             }
             _ => false,
@@ -203,9 +200,9 @@ impl<'h, 'p, 'a> Printed<'h, 'p, 'a> {
     fn add_found(&self, page: &mut Page, found: Found) {
         match found {
             Found::Nothing => {}
-            Found::FirstInput(kind) => {
-                if let Some(input) = kind.ports().first() {
-                    let bytes = input.name.spelling();
+            Found::Port(kind, port) => {
+                if let Some(port) = kind.ports().get(port) {
+                    let bytes = port.name.spelling();
                     page.shown(&DeclaredName { bytes });
                 }
             }
@@ -232,16 +229,13 @@ impl<'h, 'p, 'a> Printed<'h, 'p, 'a> {
                     page.text(self.house.plan.task_name(task));
                 }
             }
-            Found::Word { task, place } => self.add_word(page, task, place),
+            Found::Word(task, word) => self.add_word(page, task, word),
         }
     }
 
-    /// Adds the word at a place of a task's code.
-    fn add_word(&self, page: &mut Page, task: usize, place: usize) {
-        let Some(facts) = self.house.tasks.get(task) else {
-            return;
-        };
-        if let Some(word) = facts.code.get(place) {
+    /// Adds a word of a task's code.
+    fn add_word(&self, page: &mut Page, task: usize, word: Word) {
+        if let Some(facts) = self.house.tasks.get(task) {
             let names = facts.names(self.house.plan);
             page.shown(&WordText {
                 names: &names,

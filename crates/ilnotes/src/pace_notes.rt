@@ -1,7 +1,7 @@
 //! Notes on levels that change more often than is likely meant, at each scan of a fast task or at
 //! each event whatever it says, and on buses that are asked for more frames than they carry.
 
-use crate::kinds::Kind;
+use crate::kinds::{Kind, Rule};
 use crate::note::{Added, Found, Note, NotePlace, Notes, note_at, note_of};
 use ilblocks::BlockKind;
 use ilfacts::{GlobalSlot, TaskFacts, rate_of};
@@ -38,7 +38,7 @@ pub(crate) fn note_on_blind(plan: &Plan, facts: &TaskFacts) -> Option<Note> {
         return None;
     };
     let task = Found::Task(facts.number);
-    let mut other = None;
+    let (mut other, mut count) = (None, None);
     for global in &facts.globals {
         let line = facts.slot(global.slot).read;
         match global.location {
@@ -49,16 +49,23 @@ pub(crate) fn note_on_blind(plan: &Plan, facts: &TaskFacts) -> Option<Note> {
                 let (at, name) = (NotePlace::Line(line), Found::Name(global.name));
                 other = note_at(Kind::ForeignInformation, at, name, task);
             }
+            Some(Location::Count { bus: b, source: s }) if line > 0 && (b, s) != (bus, source) => {
+                let (at, name) = (NotePlace::Line(line), Found::Name(global.name));
+                count = note_at(Kind::ForeignCount, at, name, task);
+            }
             _ => {}
         }
     }
     if other.is_some() || has_single_edge(facts) {
         return other;
     }
-    let changed = facts
+    let Some(changed) = facts
         .globals
         .iter()
-        .find(|global| is_changed(facts, **global))?;
+        .find(|global| is_changed(facts, **global))
+    else {
+        return count;
+    };
     let at = NotePlace::Line(facts.slot(changed.slot).read);
     let (name, source) = (Found::Name(changed.name), Found::Source { bus, source });
     note_of(
@@ -90,7 +97,10 @@ pub(crate) fn add_load_notes(notes: &mut Notes, tasks: &[TaskFacts], buses: u8) 
         let tenths = rate_of(notes.alloc, tasks, bus)?;
         if tenths > MOST_TENTHS {
             let (bus, tenths) = (Found::Number(i64::from(bus)), Found::Tenths(tenths));
-            notes.add(note_at(Kind::BusLoad, NotePlace::Whole, bus, tenths));
+            notes.add(
+                Rule::Load,
+                note_at(Kind::BusLoad, NotePlace::Whole, bus, tenths),
+            );
         }
     }
     Ok(())

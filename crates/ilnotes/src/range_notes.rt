@@ -3,12 +3,13 @@
 
 use crate::kinds::Kind;
 use crate::note::{Found, Note, NotePlace, note_at, note_of, note_on};
+use crate::number_notes::is_swapped;
 use ilblocks::BlockKind;
-use ilcode::{Target, Word};
+use ilcode::{Code, Target, Word, WordOperand};
 use ilfacts::{Driven, House, TaskFacts, constant_of};
 use illisting::line_at;
 use ilplan::Location;
-use ilranges::{Known, passing};
+use ilranges::{Entry, Known, passing};
 use iltypes::{Operator, Range, Value};
 
 /// What is stored to a level.
@@ -42,42 +43,113 @@ pub(crate) fn note_on_unreached(house: &House, facts: &TaskFacts, place: usize) 
     note_at(Kind::UnreachedCall, at, name, Found::Nothing)
 }
 
-/// The note on a word that leaves the same truth value whatever comes, where it is one.
+/// The note on a word that leaves the same value whatever comes, where it is one: an operator of
+/// which what is known on both sides lets one outcome alone be.
 pub(crate) fn note_on_same(
     facts: &TaskFacts,
     place: usize,
     word: Word,
-    before: Option<Known>,
+    entry: &Entry,
 ) -> Option<Note> {
-    let known = before?;
-    let outcome = Found::Value(Value::Bool(outcome_of(facts, word, known)?));
-    let (kind, third) = match known {
-        Known::Int(_) => (Kind::AlwaysSameNumber, Found::Known(known)),
-        Known::Bool => (Kind::AlwaysSame, Found::Nothing),
+    let mut left = entry.result?;
+    let mut right = left;
+    let mut constant = None;
+    let (word, operator) = match (word, entry.nesting.innermost()) {
+        (Word::Apply(operator, operand), _) => {
+            constant = constant_of(facts.code, operand);
+            right = known_of(facts.code, operand, entry)?;
+            (word, operator)
+        }
+        (Word::Close, Some(opened)) => {
+            left = opened.saved;
+            (Word::Open(opened.operator), opened.operator)
+        }
+        _ => return None,
     };
-    let task = facts.number;
-    let found = [Found::Word { task, place }, outcome, third, Found::Nothing];
+    let (kind, outcome) = match (left, right) {
+        (Known::Int(_), Known::Int(_)) if is_swapped(facts.code, place) => return None,
+        (Known::Int(left), Known::Int(right)) => match (
+            constant,
+            outcome_of(operator, left, right)?,
+        ) {
+            (Some(_), outcome) => (Kind::AlwaysSameNumber, outcome),
+            (None, outcome) => (Kind::AlwaysSameNumbers, outcome),
+        },
+        _ => (Kind::AlwaysSame, truth_of(operator, constant? == 1)?),
+    };
+    let (word, outcome) = (Found::Word(facts.number, word), Found::Value(outcome));
+    let found = [word, outcome, Found::Known(left), Found::Known(right)];
     note_of(kind, NotePlace::Line(line_at(facts.code, place)), found)
 }
 
-/// The truth value that a word leaves whatever comes: an operator with a constant, of which what is
-/// known before it lets one outcome alone be.
-fn outcome_of(facts: &TaskFacts, word: Word, known: Known) -> Option<bool> {
-    let Word::Apply(operator, operand) = word else {
-        return None;
-    };
-    let constant = constant_of(facts.code, operand)?;
-    match (operator, known) {
-        (Operator::And { negated }, _) if (constant == 1) == negated => Some(false),
-        (Operator::Or { negated }, _) if (constant == 1) != negated => Some(true),
-        (Operator::And { .. } | Operator::Or { .. }, _) => None,
-        (_, Known::Bool) => None,
-        (_, Known::Int(range)) => {
-            let holds = passing(range, operator, constant, true).is_some();
-            let fails = passing(range, operator, constant, false).is_some();
-            if holds == fails { None } else { Some(holds) }
+/// What is known of a constant or a variable.
+fn known_of(code: &Code, operand: WordOperand, entry: &Entry) -> Option<Known> {
+    match operand {
+        WordOperand::Slot(slot) => entry.slots.get(usize::from(slot)),
+        WordOperand::Constant(number) => {
+            let value = code.constants().get(usize::from(number))?;
+            Some(Known::of_value(*value))
         }
+        WordOperand::Port { .. } => None,
     }
+}
+
+/// The truth value that AND or OR with a constant leaves, where it is one alone.
+fn truth_of(operator: Operator, constant: bool) -> Option<Value> {
+    match operator {
+        Operator::And { negated } if constant == negated => Some(Value::Bool(false)),
+        Operator::Or { negated } if constant != negated => Some(Value::Bool(true)),
+        _ => None,
+    }
+}
+
+/// The one value that an operator leaves of all numbers of two ranges: a truth value where it
+/// compares them; else a number, where there are several before it, or DIV makes 0 of another.
+fn outcome_of(operator: Operator, left: Range, right: Range) -> Option<Value> {
+    let holds = may_be(operator, left, right, true);
+    if holds != may_be(operator, left, right, false) {
+        return Some(Value::Bool(holds));
+    }
+    match Known::after(operator, Known::Int(left), Known::Int(right)) {
+        Ok(Known::Int(Range { lo, hi })) if lo == hi => {
+            let is_cut = matches!(operator, Operator::Div) && lo == 0 && left.lo != 0;
+            if left.lo < left.hi || is_cut {
+                Some(Value::Int(lo))
+            } else {
+                None
+            }
+        }
+        _ => None,
+    }
+}
+
+/// Whether a comparison of some numbers of two ranges has this outcome. Those at the ends of the
+/// second range show it, or, of EQ and NE, at the ends of the first.
+fn may_be(operator: Operator, left: Range, right: Range, outcome: bool) -> bool {
+    passing(left, operator, right.lo, outcome).is_some()
+        || passing(left, operator, right.hi, outcome).is_some()
+        || matches!(operator, Operator::Eq | Operator::Ne)
+            && passing(right, operator, left.lo, outcome).is_some()
+}
+
+/// The note on a jump of which the words before say the condition.
+pub(crate) fn note_on_condition(facts: &TaskFacts, place: usize, is: bool) -> Option<Note> {
+    let at = NotePlace::Line(line_at(facts.code, place));
+    let value = Found::Value(Value::Bool(is));
+    note_at(Kind::AlwaysSameCondition, at, value, Found::Nothing)
+}
+
+/// The note on an operator whose result the next word replaces.
+pub(crate) fn note_on_unused(facts: &TaskFacts, place: usize, word: Word) -> Option<Note> {
+    let after = place.saturating_add(1);
+    let next = facts.code.get(after)?;
+    let is_unused = matches!((word, next), (Word::Apply(..), Word::Load { .. }));
+    if !is_unused || facts.code.is_start(after) {
+        return None;
+    }
+    let at = NotePlace::Line(line_at(facts.code, place));
+    let word = Found::Word(facts.number, word);
+    note_at(Kind::UnusedResult, at, word, Found::Nothing)
 }
 
 /// Adds what a word stores to a level, where it does, in each scan or not.
@@ -102,7 +174,7 @@ pub(crate) fn keep_stored(
         return;
     };
     if let Some(kept) = stored.get_mut(global.number) {
-        let is_moved = facts.is_moved(global.slot);
+        let is_moved = facts.slot(global.slot).moves;
         *kept = Some(match *kept {
             Some(other) => Kept {
                 values: other.values.hull(values),
@@ -140,7 +212,7 @@ pub(crate) fn note_on_level(house: &House, number: usize, kept: Kept) -> Option<
     let Some(Location::Level { bus, address }) = global.location else {
         return None;
     };
-    if house.levels.beside(Driven { bus, address }, true).is_some() {
+    if house.levels.above(Driven { bus, address }).is_some() {
         return None;
     }
     note_on(Kind::NeverOff, global.name, Found::Number(lo))

@@ -1,7 +1,7 @@
 //! Notes on a scenario that is played with a text: what it says of buses that are not there, events
 //! that are of no source, and gear that it lacks.
 
-use crate::kinds::Kind;
+use crate::kinds::{Kind, Rule};
 use crate::note::{Added, Found, NotePlace, Notes, note_at};
 use daliframe::Frame24;
 use ilfacts::{Driven, FIRST_GROUP, House};
@@ -87,7 +87,10 @@ impl<'p> Comparison<'p> {
         if bus >= self.plan.buses() {
             if self.seen.insert(u64::from(bus), true)?.is_none() {
                 let bus = Found::Number(i64::from(bus));
-                notes.add(note_at(Kind::ScenarioBus, at, bus, Found::Nothing));
+                notes.add(
+                    Rule::ScenarioLines,
+                    note_at(Kind::ScenarioBus, at, bus, Found::Nothing),
+                );
             }
             return Ok(());
         }
@@ -100,7 +103,10 @@ impl<'p> Comparison<'p> {
                 let is_new = self.seen.insert(sender_of(bus, frame), true)?.is_none();
                 if is_new && !self.has_source(bus, frame) {
                     let event = Found::Event(frame.number());
-                    notes.add(note_at(Kind::ScenarioSource, at, event, Found::Nothing));
+                    notes.add(
+                        Rule::ScenarioLines,
+                        note_at(Kind::ScenarioSource, at, event, Found::Nothing),
+                    );
                 }
             }
             _ => {}
@@ -122,12 +128,11 @@ impl<'p> Comparison<'p> {
                 if self.gear.get(&driven.number()).is_none() {
                     if let Some(level) = house.levels.get(driven) {
                         let name = Found::Name(level.name);
-                        notes.add(note_at(
-                            Kind::ScenarioGear,
-                            NotePlace::Whole,
-                            name,
-                            Found::Driven(driven),
-                        ));
+                        let (whole, driven) = (NotePlace::Whole, Found::Driven(driven));
+                        notes.add(
+                            Rule::ScenarioGear,
+                            note_at(Kind::ScenarioGear, whole, name, driven),
+                        );
                     }
                 }
             }

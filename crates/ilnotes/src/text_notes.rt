@@ -1,11 +1,11 @@
 //! Notes on what no task has: programs, tasks without one, and sources of the binding.
 
-use crate::kinds::Kind;
-use crate::note::{Added, Found, NotePlace, Notes, note_at, note_on};
+use crate::kinds::{Kind, Rule};
+use crate::note::{Added, Found, Note, NotePlace, Notes, note_at, note_of, note_on};
 use ilfacts::House;
 use illisting::{is_marked, mark};
 use ilplan::{Location, Plan};
-use ilsource::{Element, Source};
+use ilsource::{Declared, Element, InstanceDeclaration, Name, Program, Source};
 use std::alloc::{AllocError, Global};
 use wordlines::BoundSource;
 
@@ -17,14 +17,24 @@ pub(crate) fn add_program_notes(notes: &mut Notes, source: &Source) {
     };
     let (text, instances) = (source.text(), configuration.instances());
     for element in source.elements() {
-        if let Element::Program(program) = element {
-            let name = program.name();
-            if !instances
-                .iter()
-                .any(|instance| instance.program.is_same(name, text))
-            {
-                notes.add(note_on(Kind::UnusedProgram, name, Found::Nothing));
+        let Element::Program(program) = element else {
+            continue;
+        };
+        let name = program.name();
+        let mut first: Option<InstanceDeclaration> = None;
+        for instance in instances {
+            if instance.program.is_same(name, text) {
+                let other = first.unwrap_or(*instance);
+                let note = note_on_twice(text, program, other, *instance);
+                notes.add(Rule::Programs, note);
+                first = Some(other);
             }
+        }
+        if first.is_none() {
+            notes.add(
+                Rule::Programs,
+                note_on(Kind::UnusedProgram, name, Found::Nothing),
+            );
         }
     }
     for task in configuration.tasks() {
@@ -33,8 +43,58 @@ pub(crate) fn add_program_notes(notes: &mut Notes, source: &Source) {
             None => false,
         });
         if !has_program {
-            notes.add(note_on(Kind::UnusedTask, task.name, Found::Nothing));
+            notes.add(
+                Rule::Programs,
+                note_on(Kind::UnusedTask, task.name, Found::Nothing),
+            );
         }
+    }
+}
+
+/// The note on an instance of a program that does the same as another one of its task, since the
+/// program has no variables and blocks of its own.
+fn note_on_twice(
+    text: &[u8],
+    program: &Program,
+    first: InstanceDeclaration,
+    second: InstanceDeclaration,
+) -> Option<Note> {
+    for declaration in program.declarations() {
+        if !matches!(declaration.declared_kind(), Declared::External(_)) {
+            return None;
+        }
+    }
+    if first.name == second.name || !first.task?.is_same(second.task?, text) {
+        return None;
+    }
+    let (first, at) = (Found::Name(first.name), NotePlace::Name(second.name));
+    let (second, program) = (Found::Name(second.name), Found::Name(program.name()));
+    note_of(
+        Kind::DoneTwice,
+        at,
+        [second, first, program, Found::Nothing],
+    )
+}
+
+/// Adds a note for each comment in which a later line has the sign of a comment again.
+pub(crate) fn add_comment_notes(notes: &mut Notes, house: &House) {
+    let mut begun: Option<Name> = None;
+    let mut last = b' ';
+    for (to, byte) in house.source.text().iter().enumerate() {
+        let from = to.saturating_sub(1);
+        match (last, *byte, begun) {
+            (b'(', b'*', None) => begun = Some(Name { from, to }),
+            (b'(', b'*', Some(first)) => {
+                let second = house.lines.at(Name { from, to }).line;
+                if house.lines.at(first).line < second {
+                    let note = note_on(Kind::CommentInComment, first, Found::Count(second));
+                    notes.add(Rule::Numbers, note);
+                }
+            }
+            (b'*', b')', Some(first)) if from > first.to => begun = None,
+            _ => {}
+        }
+        last = *byte;
     }
 }
 
@@ -52,7 +112,8 @@ pub(crate) fn add_idle_notes(notes: &mut Notes, house: &House) {
     } else {
         return;
     };
-    notes.add(note_at(kind, NotePlace::Whole, Found::Nothing, Found::Nothing));
+    let note = note_at(kind, NotePlace::Whole, Found::Nothing, Found::Nothing);
+    notes.add(Rule::Programs, note);
 }
 
 /// Adds a note for each source of the binding that the text does not use, and for each that is
@@ -62,13 +123,15 @@ pub(crate) fn add_source_notes(notes: &mut Notes, plan: &Plan) -> Added {
     for (place, bound) in plan.sources().iter().enumerate() {
         let this = found_of(bound);
         if !is_marked(&used, number_of(bound.bus, bound.number)) {
-            notes.add(note_at(Kind::UnusedSource, NotePlace::Whole, this, Found::Nothing));
+            let note = note_at(Kind::UnusedSource, NotePlace::Whole, this, Found::Nothing);
+            notes.add(Rule::UnusedSources, note);
         }
         let key = key_of(bound);
         let mut before = plan.sources().iter().take(place);
         if let Some(first) = before.find(|other| key_of(other) == key) {
             let first = found_of(first);
-            notes.add(note_at(Kind::DoubleSource, NotePlace::Whole, first, this));
+            let note = note_at(Kind::DoubleSource, NotePlace::Whole, first, this);
+            notes.add(Rule::DoubleSources, note);
         }
     }
     Ok(())

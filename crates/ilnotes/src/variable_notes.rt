@@ -2,9 +2,9 @@
 //! likely meant as levels. What is used is kept under the place of its name, so that the instances
 //! of a program are one.
 
-use crate::kinds::Kind;
-use crate::note::{Added, Found, Note, NotePlace, Notes, note_at, note_on};
-use ilfacts::{GlobalSlot, House, TaskFacts};
+use crate::kinds::{Kind, Rule};
+use crate::note::{Added, Found, Note, NotePlace, Notes, note_at, note_of, note_on};
+use ilfacts::{GlobalSlot, House, TaskFacts, Usage};
 use illisting::name_in;
 use ilplan::{Global, Location, SlotOwner, UserFunction};
 use ilsource::Name;
@@ -15,6 +15,8 @@ use iltypes::{IlType, Range, Value};
 struct Use {
     is_read: bool,
     is_stored: bool,
+    /// Whether a word stores something else than FALSE or 0.
+    is_other: bool,
     /// How many tasks and program instances name it.
     times: u32,
 }
@@ -23,6 +25,7 @@ struct Use {
 const UNUSED: Use = Use {
     is_read: false,
     is_stored: false,
+    is_other: false,
     times: 0,
 };
 
@@ -56,7 +59,10 @@ pub(crate) fn add_variable_notes(notes: &mut Notes, house: &House) -> Added {
             .tasks
             .iter()
             .any(|facts| facts.trigger == Some(number));
-        notes.add(note_on_global(&uses, global, starts));
+        notes.add(
+            Rule::Variables,
+            note_on_global(house, &uses, global, starts),
+        );
     }
     for (number, function) in house.plan.functions().iter().enumerate() {
         if house
@@ -66,16 +72,17 @@ pub(crate) fn add_variable_notes(notes: &mut Notes, house: &House) -> Added {
         {
             let inputs = function.inputs().len();
             for own in 0..inputs.saturating_add(function.variables().len()) {
-                notes.add(note_on_own(&uses, function, own));
+                notes.add(Rule::Variables, note_on_own(&uses, function, own));
             }
         } else {
-            notes.add(note_on(Kind::UnusedFunction, function.name(), Found::Nothing));
+            let note = note_on(Kind::UnusedFunction, function.name(), Found::Nothing);
+            notes.add(Rule::Functions, note);
         }
     }
     for facts in &house.tasks {
         for slot in facts.task.slots() {
             if let SlotOwner::Own { name, .. } = slot.variable {
-                notes.add(note_on_use(&uses, name, slot.initial));
+                notes.add(Rule::Variables, note_on_use(&uses, name, slot.initial));
             }
         }
     }
@@ -85,34 +92,29 @@ pub(crate) fn add_variable_notes(notes: &mut Notes, house: &House) -> Added {
 /// Adds how a task uses its variables, and those of its functions. What its lines store to is what
 /// the contract of `Task::stores` says; functions have no such list, so their words are asked.
 fn add_task(uses: &mut Uses, house: &House, facts: &TaskFacts) {
-    let slots = facts.task.slots();
-    for place in 0..slots.len() {
-        let is_stored = facts.task.stores(place);
-        let name = match slots[place].variable {
-            SlotOwner::Own { name, .. } => Some(name),
-            SlotOwner::Global(_) => facts.globals.get(place).map(|global| global.name),
-        };
-        let is_read = facts.slot(place).read > 0;
-        add_use(uses, name, is_read, is_stored);
+    for place in 0..facts.task.slots().len() {
+        let name = facts.name_of(house.plan, place);
+        add_use(uses, name, facts.slot(place), facts.task.stores(place));
     }
     for (body, number) in facts.code.functions().iter().zip(&facts.functions) {
         if let Some(function) = house.plan.functions().get(*number) {
             for own in 0..body.slots {
                 let slot = facts.slot(body.first.saturating_add(own));
-                add_use(uses, name_in(function, own), slot.read > 0, slot.is_stored);
+                add_use(uses, name_in(function, own), slot, slot.is_stored);
             }
         }
     }
 }
 
 /// Adds a use of a variable, where it is there.
-fn add_use(uses: &mut Uses, name: Option<Name>, is_read: bool, is_stored: bool) {
+fn add_use(uses: &mut Uses, name: Option<Name>, used: Usage, is_stored: bool) {
     let Some(name) = name else {
         return;
     };
     if let Some(kept) = uses.get_mut(name.from) {
-        kept.is_read = kept.is_read || is_read;
+        kept.is_read = kept.is_read || used.read > 0;
         kept.is_stored = kept.is_stored || is_stored;
+        kept.is_other = kept.is_other || used.value != Some(0);
         kept.times = kept.times.saturating_add(1);
     }
 }
@@ -125,7 +127,7 @@ fn use_of(uses: &Uses, name: Name) -> Use {
 /// The note on a global variable that starts a task or not, where there is one. One without an
 /// address that has the numbers of a level, and that a task stores and no other task names, is
 /// likely meant as a level.
-fn note_on_global(uses: &Uses, global: &Global, starts: bool) -> Option<Note> {
+fn note_on_global(house: &House, uses: &Uses, global: &Global, starts: bool) -> Option<Note> {
     let Global { name, initial, .. } = *global;
     let used = use_of(uses, name);
     match global.location {
@@ -134,7 +136,13 @@ fn note_on_global(uses: &Uses, global: &Global, starts: bool) -> Option<Note> {
         }
         None => note_on_use(uses, name, initial),
         Some(Location::Level { .. }) if !used.is_stored => {
-            note_on(Kind::LevelNeverStored, name, Found::Value(initial))
+            let (kind, line) = match same_stored(house, uses, name) {
+                Some(other) => (Kind::OtherIsStored, house.lines.at(other).line),
+                None => (Kind::LevelNeverStored, 0),
+            };
+            let (initial, line) = (Found::Value(initial), Found::Count(line));
+            let found = [Found::Name(name), initial, line, Found::Nothing];
+            note_of(kind, NotePlace::Name(name), found)
         }
         Some(Location::Level { .. }) => None,
         Some(_) if used.is_read => None,
@@ -142,6 +150,22 @@ fn note_on_global(uses: &Uses, global: &Global, starts: bool) -> Option<Note> {
         Some(Location::Trigger { .. }) => note_on(Kind::UnusedTrigger, name, Found::Nothing),
         Some(_) => note_on(Kind::NeverRead, name, Found::Nothing),
     }
+}
+
+/// The variable of this name that a program has of its own and stores.
+fn same_stored(house: &House, uses: &Uses, global: Name) -> Option<Name> {
+    for facts in &house.tasks {
+        for slot in facts.task.slots() {
+            match slot.variable {
+                SlotOwner::Own { name, .. }
+                    if use_of(uses, name).is_stored && name.is_same(global, house.plan.text()) => {
+                    return Some(name);
+                }
+                _ => {}
+            }
+        }
+    }
+    None
 }
 
 /// The note on a function's variable of this number, where there is one: an input is stored by each
@@ -168,7 +192,8 @@ fn note_on_own(uses: &Uses, function: &UserFunction, own: usize) -> Option<Note>
 fn note_on_use(uses: &Uses, name: Name, first: Value) -> Option<Note> {
     let used = use_of(uses, name);
     let (kind, second) = match (used.is_stored, used.is_read) {
-        (true, true) => return None,
+        (true, true) if used.is_other || first != Value::Bool(false) => return None,
+        (true, true) => (Kind::OnlyReset, Found::Nothing),
         (true, false) => (Kind::StoredNeverRead, Found::Nothing),
         (false, true) => (Kind::NeverStored, Found::Value(first)),
         (false, false) => (Kind::Unused, Found::Nothing),
