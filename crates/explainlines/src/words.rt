@@ -134,9 +134,9 @@ fn foreign(word: &[u8]) -> (&'static str, &'static str, Meant) {
 
 /// Such words, what helps, and what may stand in their place.
 const FOREIGN: &[(&str, &str, &str)] = &[
-    ("wait sleep delay pause", MOMENTS, "tick"),
-    ("lamp light lampe leuchte", KNOWN, "gear"),
-    ("button press taster ereignis", EVENT, "event"),
+    ("wait,sleep,delay,pause", MOMENTS, "tick"),
+    ("lamp,light,lampe,leuchte", KNOWN, "gear"),
+    ("button,press,taster,ereignis", EVENT, "event"),
     ("expect", EXPECTED, "# {word}"),
 ];
 
