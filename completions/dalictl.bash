@@ -19,9 +19,9 @@ _dalictl() {
         list) options='--bind --json --help' files='--bind' others='' ;;
         code) options='--bind --help' files='--bind' others='' ;;
         step) options='--bind --scans --every --help' files='--bind' others='--scans --every' ;;
-        play) options='--keep --limit --names --brief --expect --watch --help' files='--keep' others='--limit --expect --watch' ;;
+        play) options='--bind --keep --limit --names --brief --expect --watch --help' files='--bind --keep' others='--limit --expect --watch' ;;
         look) options='--bind --keep --text --out --bus --from --to --watch --help' files='--bind --keep --out' others='--bus --from --to --watch' ;;
-        run) options='--keep --limit --workers --help' files='--keep' others='--limit --workers' ;;
+        run) options='--bind --keep --limit --workers --help' files='--bind --keep' others='--limit --workers' ;;
         probe) options='--line --patience --bus --record --json --help' files='--line --record' others='--patience --bus' ;;
         listen) options='--line --patience --bind --bus --record --for --stop --help' files='--line --bind --record --stop' others='--patience --bus --for' ;;
         blink) options='--line --patience --help' files='--line' others='--patience' ;;
