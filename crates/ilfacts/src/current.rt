@@ -90,6 +90,10 @@ pub(crate) struct Way<'c> {
 
 impl<'c> Way<'c> {
     /// Before the first word.
+    ///
+    /// # Errors
+    ///
+    /// The allocator is out of memory.
     pub fn new(
         alloc: Global,
         code: &'c Code,

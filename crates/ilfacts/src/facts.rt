@@ -236,6 +236,10 @@ impl BlockCall {
 }
 
 /// What rules look at of a setup and its source program.
+///
+/// # Errors
+///
+/// The allocator is out of memory.
 pub fn house_of<'p>(
     alloc: Global,
     setup: &'p Setup,
@@ -255,6 +259,10 @@ pub fn house_of<'p>(
 }
 
 /// What notes look at, for each task.
+///
+/// # Errors
+///
+/// The allocator is out of memory.
 pub(crate) fn facts_of(alloc: Global, setup: &Setup) -> Result<Vec<TaskFacts<'_>>, AllocError> {
     let mut all = Vec::new(alloc);
     for number in 0..setup.plan().tasks() {

@@ -73,6 +73,10 @@ pub struct Levels {
 
 impl Levels {
     /// The levels that tasks store.
+    ///
+    /// # Errors
+    ///
+    /// The allocator is out of memory.
     pub fn of(alloc: Global, plan: &Plan, tasks: &[TaskFacts]) -> Result<Levels, AllocError> {
         let end = Driven::end(plan);
         let mut levels = Levels {

@@ -74,6 +74,10 @@ pub fn add_tenths(page: &mut Page, tenths: i64) {
 }
 
 /// How many tenths of a frame a second the cyclic tasks may ask a bus for together.
+///
+/// # Errors
+///
+/// The allocator is out of memory.
 pub fn rate_of(alloc: Global, tasks: &[TaskFacts], bus: u8) -> Result<i64, AllocError> {
     let mut tenths: i64 = 0;
     for facts in tasks {

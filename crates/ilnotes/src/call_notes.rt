@@ -36,6 +36,10 @@ pub(crate) struct Calls {
 
 impl Calls {
     /// No call so far, of a plan with these variables for answers.
+    ///
+    /// # Errors
+    ///
+    /// The allocator is out of memory.
     pub fn of(alloc: Global, plan: &Plan) -> Result<Calls, AllocError> {
         let end = Driven::end(plan);
         let mut calls = Calls {

@@ -61,6 +61,10 @@ pub fn write_notes<W: Write>(
 }
 
 /// All notes on a house, and on the scenario that is played in it.
+///
+/// # Errors
+///
+/// The allocator is out of memory.
 fn notes_on(alloc: Global, house: &House, played: Option<Played>) -> Result<Notes, AllocError> {
     let mut notes = Notes {
         alloc,
