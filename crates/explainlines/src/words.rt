@@ -233,6 +233,17 @@ const PLACE: &str = "a place is the number of a bus, a dot and a number of 0 to 
 
 const FRAME: &str = "a frame is six hexadecimal digits, such as 048402";
 
+/// What helps where a moment or an event is asked for and something else is written.
+fn cure_of(form: &Form, field: Field, word: &[u8], is_number: bool) -> Option<&'static str> {
+    match (form.0, field, word) {
+        ("tick" | "ticks", _, [b'0'..=b'9' | b'T' | b't', ..]) if !is_number => Some(MILLISECONDS),
+        ("event", Field::Number(..), _) if is_number => None,
+        ("event", Field::Frame, [first, _, _, _, ..]) if first.is_ascii_hexdigit() => None,
+        ("event", _, _) => Some(EVENT),
+        _ => None,
+    }
+}
+
 /// Why a word is not as its field says, or is missing where it is empty: with what the field may
 /// be.
 fn unmet(form: &Form, field: Field, word: &[u8]) -> Reason {
@@ -245,13 +256,7 @@ fn unmet(form: &Form, field: Field, word: &[u8]) -> Reason {
         Field::Place => ("place", "", PLACE, 0, 0),
         Field::Frame => ("frame", "", FRAME, 0, 0),
     };
-    let cure = match (form.0, field, word) {
-        ("tick" | "ticks", _, [b'0'..=b'9' | b'T' | b't', ..]) if !is_number => MILLISECONDS,
-        ("event", Field::Number(..), _) if is_number => cure,
-        ("event", Field::Frame, [first, _, _, _, ..]) if first.is_ascii_hexdigit() => cure,
-        ("event", _, _) => EVENT,
-        _ => cure,
-    };
+    let cure = cure_of(form, field, word, is_number).unwrap_or(cure);
     let near = near_in(list, word);
     let is_listed = matches!(near, Some(one) if one.as_bytes().eq_ignore_ascii_case(word));
     let what = match field {
