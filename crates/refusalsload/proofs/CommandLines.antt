@@ -11,7 +11,7 @@ use Rattle.clap.specs.declared.error.kind.ErrorKind.{ErrorKind}
 use Rattle.clap.specs.declared.error.kind.ErrorKind.TheVariants.{OutOfMemory}
 use Rattle.invocations.specs.ExpectedWords.{AreExpected}
 use Rattle.invocations.specs.Invocations.{IsLineName, expected_words, watched_words}
-use Rattle.commandline.specs.CommandLine.{AreTaken, HasWrongValue, IsAtFault, IsConflicting}
+use Rattle.commandline.specs.CommandLine.{AreTaken, HasPlayFiles, HasWrongValue, IsAtFault, IsConflicting}
 use Rattle.commandline.specs.CommandLine.{IsLacking, NamesNoLines, Spell, command_line}
 
 -- no kind of a fault
@@ -44,12 +44,12 @@ not_conflicting found none (inl beside) =
     let long : 4 ≡ 5 = ap (λ (text : Text). length text) beside.0 in omega (arith, long)
 not_conflicting found none (inr twice) = none twice.0
 
-not_lacking : (found : List Row) → ¬ IsLacking (codes "play") found
-not_lacking found (inl probe) =
+not_lacking : (found : List Row) → HasPlayFiles found → ¬ IsLacking (codes "play") found
+not_lacking found files (inl probe) =
     let long : 4 ≡ 5 = ap (λ (text : Text). length text) probe.0 in omega (arith, long)
-not_lacking found (inr (inl look)) = let first : 112 ≡ 108 = ap first_byte look.0 in omega (arith, first)
-not_lacking found (inr (inr (inl code))) = let first : 112 ≡ 99 = ap first_byte code.0 in omega (arith, first)
-not_lacking found (inr (inr (inr live))) = let first : 112 ≡ 108 = ap first_byte live.0 in omega (arith, first)
+not_lacking found files (inr (inl lacks)) = lacks.1 files
+not_lacking found files (inr (inr (inl code))) = let first : 112 ≡ 99 = ap first_byte code.0 in omega (arith, first)
+not_lacking found files (inr (inr (inr live))) = let first : 112 ≡ 108 = ap first_byte live.0 in omega (arith, first)
 
 no_line : ¬ IsLineName (codes "play")
 no_line (inl probe) = let long : 4 ≡ 5 = ap (λ (text : Text). length text) probe in omega (arith, long)
@@ -68,13 +68,13 @@ no_wrong_value found expected few (inr (inl lines)) = no_lines_named found lines
 no_wrong_value found expected few (inr (inr (inl unexpected))) = unexpected.1 [] expected
 no_wrong_value found expected few (inr (inr (inr many))) = omega (arith, few, many.1)
 
--- a play that names no binding by an option, expects nothing and watches few names is not at fault
+-- a play that names its files, and no binding by an option, expects nothing and watches few names is not at fault
 pub play_is_fine : (kind : ErrorKind) (found : List Row) → ¬ IsSome (first_of (codes "bind") found)
-    → AreExpected (expected_words found) [] → length (watched_words found) ≤ 16
+    → HasPlayFiles found → AreExpected (expected_words found) [] → length (watched_words found) ≤ 16
     → ¬ IsAtFault kind (codes "play") found
-play_is_fine kind found none expected few (inl conflict) = not_conflicting found none conflict.0
-play_is_fine kind found none expected few (inr (inl lack)) = not_lacking found lack.0
-play_is_fine kind found none expected few (inr (inr wrong)) = no_wrong_value found expected few wrong.0
+play_is_fine kind found none files expected few (inl conflict) = not_conflicting found none conflict.0
+play_is_fine kind found none files expected few (inr (inl lack)) = not_lacking found files lack.0
+play_is_fine kind found none files expected few (inr (inr wrong)) = no_wrong_value found expected few wrong.0
 
 -- what was found is not at fault
 abbrev pub IsFine : ErrorKind → Option (Text × List Row) → Type 0
@@ -127,4 +127,5 @@ rows_in (Some found) = found.1
 pub watched_is_fine : (kind : ErrorKind) → IsFine kind (subcommand_of command_line two_watched)
 unfolding walk_fault walked defaults_fault flags_fault bundle_met
 watched_is_fine kind =
-    play_is_fine kind (rows_in (subcommand_of command_line two_watched)) (λ some. cc) (record { each = tt; few = lit≤ tt }) (lit≤ tt)
+    play_is_fine kind (rows_in (subcommand_of command_line two_watched)) (λ some. cc) (refl, inr refl)
+    (record { each = tt; few = lit≤ tt }) (lit≤ tt)
