@@ -142,28 +142,39 @@ fn key_at(code: &Code, place: usize) -> Option<usize> {
     }
 }
 
-/// The place of a store on a way on from a word, where all ways store the variable; a call reads
-/// the inputs of its block.
+/// The place of a store on a way on from a word, where all ways store the variable.
 fn on_from(code: &Code, next: &[Option<usize>], span: Span, place: usize) -> Option<usize> {
     let word = code.get(place)?;
     let behind = next_at(next, span, place.saturating_add(1));
-    match (word, read_by(word)) {
-        (Word::Jump { condition, target }, _) => {
+    if is_read(code, word, span.key) {
+        return None;
+    }
+    match word {
+        Word::Jump { condition, target } => {
             let there = next_at(next, span, target as usize);
             if condition == Condition::Always {
                 return there;
             }
             Some(there?.min(behind?))
         }
-        (_, Some(read)) if place_of(code, read) == span.key => None,
-        (Word::Call(block), _) => {
-            let first = place_of(code, WordOperand::Port { port: 0, block });
-            match span.key.checked_sub(first) {
-                Some(port) if port < MOST_PORTS => None,
-                _ => behind,
-            }
-        }
         _ => behind,
+    }
+}
+
+/// Whether a word reads what stands at a place among what a code uses; a call reads the inputs of
+/// its block.
+fn is_read(code: &Code, word: Word, key: usize) -> bool {
+    if let Some(read) = read_by(word) {
+        if place_of(code, read) == key {
+            return true;
+        }
+    }
+    match word {
+        Word::Call(block) => {
+            let first = place_of(code, WordOperand::Port { port: 0, block });
+            matches!(key.checked_sub(first), Some(port) if port < MOST_PORTS)
+        }
+        _ => false,
     }
 }
 
