@@ -319,7 +319,7 @@ impl Hint<'_> {
         page.text(" is asked for");
         if self.files.count(self.path) > 1 {
             page.text(": it stands twice");
-        } else if self.files.binding.is_some() {
+        } else if self.files.text.is_some() && self.files.binding.is_some() {
             page.text(": exchange the files");
         }
     }
