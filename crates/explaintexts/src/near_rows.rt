@@ -140,27 +140,27 @@ const SIEMENS: &[Habit] = habits! {
     advice!("an operator of Siemens' lists";
         "write its word, with the second value as its operand: ADD, SUB, MUL, DIV, EQ,\n\
             NE, GT, GE, LT or LE";
-        "LD level\nADD change")  =>
+        "LD level\nADD change") =>
         Body "^ @ {}" ["+i", "+d", "+r", "-i", "-d", "-r", "*i", "*d", "*r", "/i", "/d", "/r", "==i",
         "==d", "<>i", "<>d", ">=i", ">=d", "<=i", "<=d", ">i", ">d", "<i", "<d"] Nothing;
-    advice!("= as an instruction"; "write ST"; "ST lamp")  =>
+    advice!("= as an instruction"; "write ST"; "ST lamp") =>
         Body "^ @ [ = ] _ (apart)" Put("ST");
-    advice!("ON as an instruction"; "write ORN"; "ORN button")  =>
+    advice!("ON as an instruction"; "write ORN"; "ORN button") =>
         Body "^ @ on" Nothing;
-    TRUTH_SIGN  =>
+    TRUTH_SIGN =>
         Body "^ @ [ {} ]" ["||", "|"] Put("OR");
     advice!("a minus before a name";
         "SUB takes away what ADD would add; MUL -1 turns the sign of the current result";
-        "LD level\nMUL -1")  =>
+        "LD level\nMUL -1") =>
         Anywhere "< {with} @ - ~{name}" Nothing;
     advice!("a sign in a declaration";
         "a declaration has names of letters, digits and _, a colon, a type, and behind :=\n\
             one number or truth value if need be: nothing is computed there";
-        "lamp, lamp2 : USINT (0..254) := 100;")  =>
+        "lamp, lamp2 : USINT (0..254) := 100;") =>
         Declared "@ {}" ["=", "<", ">", "*", "/"] Nothing, Declared "@ {} (apart)" ["+", "-"] Nothing;
-    LOGIC_SIGN  =>
+    LOGIC_SIGN =>
         Anywhere "@ {}" ["=", "<", ">", "*", "/"] Nothing, Body "@ {}" ["+", "-", "!="] Nothing;
-    TRUTH_SIGN  =>
+    TRUTH_SIGN =>
         Body "@ |" Nothing;
     advice!("{0} before a name";
         "a declaration begins with the name; a colon and a type stand behind it, and :=\n\
