@@ -58,10 +58,10 @@ impl FaultPlace<'_, '_> {
     }
 
     /// What stands for a slot: `{0}` to `{2}`, `{l}` and `{g}` as said; `{b}` is how many buses
-    /// there are, `{z}` the last of them, and `{c}` how many inputs the function has. Or what stands
-    /// at a number of a list: `{p}` has the ports of the block whose port is meant, `{i}` the inputs
-    /// of the function, `{e}` the sources, and `{s}` the lines that store to the variable, which are
-    /// looked for from a place on.
+    /// there are, `{z}` the last of them, and `{c}` how many inputs the function has. Or what
+    /// stands at a number of a list: `{p}` has the ports of the block whose port is meant, `{i}`
+    /// the inputs of the function, `{e}` the sources, and `{s}` the lines that store to the
+    /// variable, which are looked for from a place on.
     fn slot(&self, said: &Said, name: char, number: usize, at: &mut usize) -> Option<Slot> {
         let [first, second, third] = said.slots;
         let buses = u64::from(self.asked.binding.buses());
@@ -155,7 +155,8 @@ impl FaultPlace<'_, '_> {
     }
 
     /// The first sources of the binding, with what is added to their numbers; or the reserved word
-    /// that is near to what was found, if one is, and then the names of the text that are, each once.
+    /// that is near to what was found, if one is, and then the names of the text that are, each
+    /// once.
     fn meant(&self, change: Change) -> Result<Vec<Slot>, AllocError> {
         let mut all = Vec::new(self.alloc);
         if let Change::Source(added) = change {

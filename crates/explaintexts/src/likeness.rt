@@ -1,13 +1,13 @@
 //! How a line looks: a pattern, which has words, signs and slots, is compared with it.
 //!
-//! Its items stand apart by blanks. Where it begins stands first, if that is not the place that is
-//! asked about: `^` the line, `<` the word before the place on its line, `<<` the same on any line,
-//! `#` the number around the place, `%` the word that begins the block of variables, `&` the word of
-//! other languages that does. Then come words and signs as they are written, which may be absent
-//! with `?` behind them; slots in braces and conditions in parentheses (src/slots.rt), of which `{}`
-//! is one of the pattern's words; `@`, the place; `[` and `]`, between which a change puts its text;
-//! `*`, blanks if any; `_`, a blank or more; `$`, the end of the line. `_` right before an item asks
-//! for a blank before it, and `~` for none.
+//! Its items stand apart by blanks. Where it begins stands first, if that is not the place that
+//! is asked about: `^` the line, `<` the word before the place on its line, `<<` the same on any
+//! line, `#` the number around the place, `%` the word that begins the block of variables, `&`
+//! the word of other languages that does. Then come words and signs as they are written, which
+//! may be absent with `?` behind them; slots in braces and conditions in parentheses
+//! (src/slots.rt), of which `{}` is one of the pattern's words; `@`, the place; `[` and `]`,
+//! between which a change puts its text; `*`, blanks if any; `_`, a blank or more; `$`, the end
+//! of the line. `_` right before an item asks for a blank before it, and `~` for none.
 
 use crate::said::{Change, Place, Said, Standing, Trial};
 use crate::slots::{holds, operator_of, place_within, slot_end, word_end, words_end};
