@@ -3,7 +3,7 @@
 use commandfiles::{Disk, add_texts, bytes_at};
 use commandline::{Invocation, Question};
 use iltext::parse;
-use options::Files;
+use options::{Files, PlayFiles};
 use page::Page;
 use plantload::{LoadFault, load};
 use std::alloc::Global;
@@ -20,56 +20,64 @@ pub struct NamedFiles<'a> {
 impl<'a> NamedFiles<'a> {
     /// Those of a command that prints one line of a fault.
     pub fn of(invocation: &Invocation<'a>) -> Option<NamedFiles<'a>> {
+        let mut named = NamedFiles {
+            text: None,
+            binding: None,
+            scenario: None,
+        };
         match invocation {
-            Invocation::Ask(inquiry) => Some(NamedFiles::without_scenario(inquiry.files())),
+            Invocation::Ask(inquiry) => named.judge(inquiry.files()),
             Invocation::Play { files, .. }
             | Invocation::Run { files, .. }
-            | Invocation::Look { files, .. } => Some(NamedFiles {
-                text: Some(files.text),
-                binding: Some(files.binding),
-                scenario: Some(files.scenario),
-            }),
-            Invocation::Code { files, .. } => Some(NamedFiles::without_scenario(*files)),
+            | Invocation::Look { files, .. } => named.play(files),
+            Invocation::Code { files, .. } => named.judge(*files),
             Invocation::Tell { files, question } if has_fault_line(*question) => {
-                Some(NamedFiles::without_scenario(*files))
+                named.judge(*files);
             }
-            Invocation::Live { files, .. } => Some(NamedFiles {
-                text: Some(files.text),
-                binding: Some(files.binding),
-                scenario: None,
-            }),
-            Invocation::EventLine { binding, .. } => Some(NamedFiles {
-                text: None,
-                binding: Some(*binding),
-                scenario: None,
-            }),
-            _ => None,
-        }
-    }
-
-    /// A text, and a binding where there is one.
-    fn without_scenario(files: Files<'a>) -> NamedFiles<'a> {
-        NamedFiles {
-            text: Some(files.text),
-            binding: files.binding,
-            scenario: None,
-        }
-    }
-
-    /// The paths, in the order in which they stand in a command.
-    fn paths(self) -> [Option<&'a str>; 3] {
-        [self.text, self.binding, self.scenario]
-    }
-
-    /// How many of the paths are this one.
-    fn count(self, path: &str) -> usize {
-        let mut count = 0_usize;
-        for named in self.paths() {
-            if named == Some(path) {
-                count = count.saturating_add(1);
+            Invocation::Live { files, .. } => {
+                named.text = Some(files.text);
+                named.binding = Some(files.binding);
             }
+            Invocation::EventLine { binding, .. } => named.binding = Some(*binding),
+            _ => return None,
         }
-        count
+        Some(named)
+    }
+
+    /// Names a text, and a binding where there is one.
+    fn judge(&mut self, files: Files<'a>) {
+        self.text = Some(files.text);
+        self.binding = files.binding;
+    }
+
+    /// Names a text, a binding and a scenario.
+    fn play(&mut self, files: &PlayFiles<'a>) {
+        self.text = Some(files.text);
+        self.binding = Some(files.binding);
+        self.scenario = Some(files.scenario);
+    }
+
+    /// The path of the file at a place.
+    fn path(&self, place: Kind) -> &'a str {
+        let path = match place {
+            Kind::Text => self.text,
+            Kind::Binding => self.binding,
+            Kind::Scenario => self.scenario,
+        };
+        path.unwrap_or("")
+    }
+
+    /// Whether a file cannot be read again, as standard input.
+    fn is_read_once(&self) -> bool {
+        is_read_once(self.text) || is_read_once(self.binding) || is_read_once(self.scenario)
+    }
+
+    /// Whether a path stands at two places.
+    fn has_twice(&self, path: &str) -> bool {
+        let is_text = self.text == Some(path);
+        let is_binding = self.binding == Some(path);
+        let is_scenario = self.scenario == Some(path);
+        is_text && is_binding || is_scenario && (is_text || is_binding)
     }
 }
 
@@ -82,7 +90,7 @@ fn has_fault_line(question: Question) -> bool {
 }
 
 /// What a file can be.
-#[derive(Clone, Copy, PartialEq, Eq)]
+#[derive(Clone, Copy)]
 enum Kind {
     Text,
     Binding,
@@ -125,28 +133,45 @@ fn has_words(bytes: &[u8]) -> bool {
     false
 }
 
+/// A file with a fault.
+#[derive(Clone, Copy)]
+struct Blame {
+    /// What stands at its place in the command.
+    place: Kind,
+    /// What it is, where it is a file of another kind without a fault.
+    other: Option<Kind>,
+}
+
+impl Blame {
+    /// That of a file with these bytes.
+    fn of(alloc: Global, place: Kind, bytes: &[u8]) -> Blame {
+        let other = match Kind::of(alloc, bytes) {
+            Some(kind) if kind as u8 != place as u8 => Some(kind),
+            _ => None,
+        };
+        Blame { place, other }
+    }
+}
+
 /// The file with the first fault.
 #[derive(Clone, Copy)]
 pub struct Hint<'a> {
     files: NamedFiles<'a>,
-    path: &'a str,
-    /// What stands at its place in the command.
-    place: Kind,
-    /// What it is, where nothing stands against it as that.
-    kind: Option<Kind>,
+    blame: Blame,
 }
 
 /// The file with the first fault, in the order in which files are read; none where there is no
 /// fault, a file is not read again, or memory runs out.
 pub fn hint_of<'a, D: Disk>(alloc: Global, disk: &D, named: NamedFiles<'a>) -> Option<Hint<'a>> {
-    for path in named.paths() {
-        if is_read_once(path) {
-            return None;
-        }
+    if named.is_read_once() {
+        return None;
     }
-    match check_again(alloc, disk, named) {
-        Ok(()) => None,
-        Err(hint) => hint,
+    match check_again(alloc, disk, &named) {
+        Err(Some(blame)) => Some(Hint {
+            files: named,
+            blame,
+        }),
+        _ => None,
     }
 }
 
@@ -154,27 +179,17 @@ pub fn hint_of<'a, D: Disk>(alloc: Global, disk: &D, named: NamedFiles<'a>) -> O
 ///
 /// # Errors
 ///
-/// The file with the first fault; none where a file is not read again, or memory runs out.
-fn check_again<'a, D: Disk>(
-    alloc: Global,
-    disk: &D,
-    named: NamedFiles<'a>,
-) -> Result<(), Option<Hint<'a>>> {
+/// The first file with a fault; none where one is not read again, or memory runs out.
+fn check_again<D: Disk>(alloc: Global, disk: &D, named: &NamedFiles) -> Result<(), Option<Blame>> {
     let binding = match named.binding {
-        Some(path) => binding_in(alloc, named, path, &read_again(alloc, disk, path)?)?,
+        Some(path) => binding_at(alloc, disk, path)?,
         None => Binding::one_bus(alloc),
     };
     if let Some(path) = named.text {
-        check_text(
-            alloc,
-            named,
-            path,
-            &binding,
-            &read_again(alloc, disk, path)?,
-        )?;
+        check_text(alloc, disk, path, &binding)?;
     }
     match named.scenario {
-        Some(path) => check_scenario(alloc, named, path, &read_again(alloc, disk, path)?),
+        Some(path) => check_scenario(alloc, disk, path),
         None => Ok(()),
     }
 }
@@ -184,11 +199,7 @@ fn check_again<'a, D: Disk>(
 /// # Errors
 ///
 /// None, where it cannot be read again.
-fn read_again<'a, D: Disk>(
-    alloc: Global,
-    disk: &D,
-    path: &'a str,
-) -> Result<Vec<u8>, Option<Hint<'a>>> {
+fn read_again<D: Disk>(alloc: Global, disk: &D, path: &str) -> Result<Vec<u8>, Option<Blame>> {
     match bytes_at(alloc, disk, path) {
         Ok(bytes) => Ok(bytes),
         Err(_) => Err(None),
@@ -199,54 +210,46 @@ fn read_again<'a, D: Disk>(
 ///
 /// # Errors
 ///
-/// That it has a fault; none where memory runs out.
-fn binding_in<'a>(
-    alloc: Global,
-    named: NamedFiles<'a>,
-    path: &'a str,
-    bytes: &[u8],
-) -> Result<Binding, Option<Hint<'a>>> {
-    match Binding::parse(alloc, bytes) {
+/// That it has a fault; none where it is not read again, or memory runs out.
+fn binding_at<D: Disk>(alloc: Global, disk: &D, path: &str) -> Result<Binding, Option<Blame>> {
+    let bytes = read_again(alloc, disk, path)?;
+    match Binding::parse(alloc, &bytes) {
         Ok(binding) => Ok(binding),
         Err(LineFault::Memory) => Err(None),
-        Err(_) => Err(hint_at(alloc, named, path, Kind::Binding, bytes)),
+        Err(_) => Err(Some(Blame::of(alloc, Kind::Binding, &bytes))),
     }
 }
 
-/// Judges the text under the binding.
+/// Judges the text in a file under the binding.
 ///
 /// # Errors
 ///
-/// That it has a fault; none where memory runs out.
-fn check_text<'a>(
+/// That it has a fault; none where it is not read again, or memory runs out.
+fn check_text<D: Disk>(
     alloc: Global,
-    named: NamedFiles<'a>,
-    path: &'a str,
+    disk: &D,
+    path: &str,
     binding: &Binding,
-    bytes: &[u8],
-) -> Result<(), Option<Hint<'a>>> {
-    match load(alloc, bytes, binding) {
+) -> Result<(), Option<Blame>> {
+    let bytes = read_again(alloc, disk, path)?;
+    match load(alloc, &bytes, binding) {
         Ok(_) => Ok(()),
         Err(LoadFault::Memory) => Err(None),
-        Err(_) => Err(hint_at(alloc, named, path, Kind::Text, bytes)),
+        Err(_) => Err(Some(Blame::of(alloc, Kind::Text, &bytes))),
     }
 }
 
-/// Judges the scenario.
+/// Judges the scenario in a file.
 ///
 /// # Errors
 ///
-/// That it has a fault; none where memory runs out.
-fn check_scenario<'a>(
-    alloc: Global,
-    named: NamedFiles<'a>,
-    path: &'a str,
-    bytes: &[u8],
-) -> Result<(), Option<Hint<'a>>> {
-    match simbus::parse(alloc, bytes) {
+/// That it has a fault; none where it is not read again, or memory runs out.
+fn check_scenario<D: Disk>(alloc: Global, disk: &D, path: &str) -> Result<(), Option<Blame>> {
+    let bytes = read_again(alloc, disk, path)?;
+    match simbus::parse(alloc, &bytes) {
         Ok(_) => Ok(()),
         Err(LineFault::Memory) => Err(None),
-        Err(_) => Err(hint_at(alloc, named, path, Kind::Scenario, bytes)),
+        Err(_) => Err(Some(Blame::of(alloc, Kind::Scenario, &bytes))),
     }
 }
 
@@ -264,47 +267,25 @@ pub(crate) fn misplaced_text<'a>(
     files: Files<'a>,
     bytes: &[u8],
 ) -> Option<Hint<'a>> {
-    let hint = hint_at(
-        alloc,
-        NamedFiles::without_scenario(files),
-        files.text,
-        Kind::Text,
-        bytes,
-    )?;
-    hint.is_misplaced().then_some(hint)
-}
-
-/// That a file with these bytes has the first fault.
-fn hint_at<'a>(
-    alloc: Global,
-    files: NamedFiles<'a>,
-    path: &'a str,
-    place: Kind,
-    bytes: &[u8],
-) -> Option<Hint<'a>> {
-    Some(Hint {
-        files,
-        path,
-        place,
-        kind: Kind::of(alloc, bytes),
-    })
+    let blame = Blame::of(alloc, Kind::Text, bytes);
+    if blame.other.is_none() {
+        return None;
+    }
+    let files = NamedFiles {
+        text: Some(files.text),
+        binding: files.binding,
+        scenario: None,
+    };
+    Some(Hint { files, blame })
 }
 
 impl Hint<'_> {
-    /// Whether the file is one of another kind.
-    fn is_misplaced(&self) -> bool {
-        match self.kind {
-            Some(kind) => kind != self.place,
-            None => false,
-        }
-    }
-
     /// The line that is printed.
     pub fn page(&self, alloc: Global) -> Page {
         let mut page = Page::new(alloc);
-        match self.kind {
-            Some(kind) if kind != self.place => self.say_misplaced(&mut page, kind),
-            _ => self.say_fault(&mut page),
+        match self.blame.other {
+            Some(kind) => self.say_misplaced(&mut page, kind),
+            None => self.say_fault(&mut page),
         }
         page.text("\n");
         page
@@ -312,12 +293,15 @@ impl Hint<'_> {
 
     /// Adds that the file is one of another kind.
     fn say_misplaced(&self, page: &mut Page, kind: Kind) {
-        add_texts(page, &[self.path, " is "]);
+        let place = self.blame.place;
+        let path = self.files.path(place);
+        page.text(path);
+        page.text(" is ");
         page.text(kind.words());
         page.text(", where ");
-        page.text(self.place.words());
+        page.text(place.words());
         page.text(" is asked for");
-        if self.files.count(self.path) > 1 {
+        if self.files.has_twice(path) {
             page.text(": it stands twice");
         } else if self.files.text.is_some() && self.files.binding.is_some() {
             page.text(": exchange the files");
@@ -326,41 +310,40 @@ impl Hint<'_> {
 
     /// Adds how to have the fault explained.
     fn say_fault(&self, page: &mut Page) {
-        add_texts(page, &["the fault is in ", self.path, ": dalictl explain "]);
-        match self.files.text {
-            Some(text) => add_typed(page, text),
-            None => page.text("TEXT"),
-        }
+        let path = self.files.path(self.blame.place);
+        add_texts(page, &["the fault is in ", path, ": dalictl explain"]);
+        add_typed(page, self.files.text.unwrap_or("TEXT"));
         if let Some(binding) = self.files.binding {
-            page.text(" ");
             add_typed(page, binding);
         }
-        if self.place == Kind::Scenario {
-            page.text(" ");
-            add_typed(page, self.path);
+        if matches!(self.blame.place, Kind::Scenario) {
+            add_typed(page, path);
         }
     }
 }
 
-/// Adds a path as it is typed in a shell, where a word that begins with a minus is an option.
+/// Adds a blank and a path as it is typed in a shell, where a word that begins with a minus is an
+/// option.
 fn add_typed(page: &mut Page, path: &str) {
-    page.text(if path.starts_with('-') { "./" } else { "" });
+    page.text(if path.starts_with('-') { " ./" } else { " " });
     if path.chars().all(is_plain) {
         page.text(path);
-        return;
+    } else {
+        add_quoted(page, path);
     }
+}
+
+/// Adds a path between apostrophes.
+fn add_quoted(page: &mut Page, path: &str) {
     page.text("'");
     for letter in path.chars() {
-        match letter {
-            '\'' => page.text("'\\''"),
-            letter => page.letter(letter),
-        }
+        page.text(if letter == '\'' { "'\\'" } else { "" });
+        page.letter(letter);
     }
     page.text("'");
 }
 
 /// Whether a shell reads a letter as it is.
 fn is_plain(letter: char) -> bool {
-    letter.is_ascii_alphanumeric()
-        || matches!(letter, '/' | '.' | '_' | '-' | '+' | ',' | '=' | ':')
+    letter.is_ascii_alphanumeric() || "/._-+,=:".contains(letter)
 }

@@ -7,7 +7,7 @@ use commandfiles::{
     check, named_at,
 };
 use commandline::Question;
-use explaining::{AskedText, explain_binding, explain_load, explain_scenario};
+use explaining::{AskedText, explain_binding, explain_scenario, explanation_of};
 use ilcompile::Setup;
 use ilfacts::write_load;
 use illisting::write_task;
@@ -371,7 +371,7 @@ fn explained_text(
                 binding,
                 is_bound,
             };
-            explain_load(alloc, out, &text, &stop)?;
+            explanation_of(alloc, &text, &stop)?.write_to(alloc, out, text.text)?;
             let status = ExitStatus::of_stop(&Stop::from(stop.fault));
             Ok(Explained::Refused(status))
         }

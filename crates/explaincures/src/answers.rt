@@ -1,5 +1,8 @@
 //! What is asked about, and what is said of a fault.
 
+ghost use Rattle.std.specs.Prelude.{◌≡◌, IfOk};
+ghost use Rattle.explaincures.specs.declared.answers.Example.TheVariants.{Changed};
+
 use crate::edits::{Edit, TriedLines};
 use std::alloc::{AllocError, Global};
 use std::io;
@@ -28,6 +31,16 @@ pub struct Advice {
     pub line: &'static str,
 }
 
+impl Advice {
+    /// What a row says: a text with `|` between what is wrong, what helps, and the line. A table of
+    /// such texts is proved in a third of the steps that take three texts a row.
+    pub fn of(row: &'static str) -> Advice {
+        let (what, rest) = row.split_once('|').unwrap_or((row, ""));
+        let (cure, line) = rest.split_once('|').unwrap_or((rest, ""));
+        Advice { what, cure, line }
+    }
+}
+
 /// What is said of a fault.
 #[derive(Drop)]
 pub struct FaultAnswer {
@@ -45,8 +58,8 @@ pub struct FaultAnswer {
 pub enum Example {
     /// A line in place of that at fault: with it the file is accepted, or the fault is gone.
     Tried(String),
-    /// Lines in place of these: with them the text is accepted, or the fault is gone.
-    TriedLines(TriedLines),
+    /// A change of the text: with it the text is accepted, or the fault is gone.
+    Changed(Edit),
     /// Lines of another text.
     Other(String),
 }
@@ -62,45 +75,63 @@ impl FaultAnswer {
         })
     }
 
-    /// The same, with lines that were tried.
-    pub fn with_tried(
-        self,
-        alloc: Global,
-        text: &[u8],
-        edit: &Edit,
-    ) -> Result<FaultAnswer, AllocError> {
-        let lines = edit.lines(alloc, text)?;
-        Ok(FaultAnswer {
-            example: Example::TriedLines(lines),
-            ..self
-        })
+    /// The same, with a change that was tried.
+    pub fn with_change(self, edit: Edit) -> FaultAnswer
+        ensures { result.example ≡ Changed edit }
+    {
+        let example = Example::Changed(edit);
+        FaultAnswer { example, ..self }
     }
 
     /// The same, with more that is known.
-    pub fn with_facts(self, facts: String) -> FaultAnswer {
+    pub fn with_facts(self, facts: String) -> FaultAnswer
+        ensures { result.example ≡ self.example }
+    {
         FaultAnswer { facts, ..self }
     }
 }
 
-/// Writes what is known, what helps, and the lines, of a fault on this line.
-pub fn write_answer<W: Write>(out: &mut W, answer: &FaultAnswer, line: usize) -> io::Result<()> {
+/// Writes what is known, what helps, and the lines, of a fault on this line of a text.
+///
+/// # Errors
+///
+/// The writer's, or that the allocator is out of memory.
+pub fn write_answer<W: Write>(
+    alloc: Global,
+    out: &mut W,
+    text: &[u8],
+    answer: &FaultAnswer,
+    line: usize,
+) -> io::Result<()> {
     out.write_all(answer.facts.as_bytes())?;
     write_lines(out, ["cure: ", "      "], answer.cure.as_str())?;
-    let lines = match &answer.example {
-        Example::Tried(lines) | Example::Other(lines) => lines.as_str(),
-        Example::TriedLines(tried) => tried.with.as_str(),
-    };
     match &answer.example {
-        Example::Other(_) => writeln!(out, "for example:")?,
-        Example::TriedLines(TriedLines { first, last, .. }) if first != last => {
-            writeln!(out, "as lines {first} to {last} could read:")?
+        Example::Tried(lines) => {
+            out.write_all(TRIED)?;
+            write_lines(out, ["    "; 2], lines.as_str())
         }
-        Example::TriedLines(TriedLines { first, .. }) if *first != line => {
-            writeln!(out, "as line {first} could read:")?
+        Example::Changed(edit) => write_tried(out, &edit.lines(alloc, text)?, line),
+        Example::Other(lines) => {
+            out.write_all(b"for example:\n")?;
+            write_lines(out, ["    "; 2], lines.as_str())
         }
-        _ => writeln!(out, "as it could read:")?,
     }
-    write_lines(out, ["    "; 2], lines)
+}
+
+/// What stands above a line that was tried.
+const TRIED: &[u8] = b"as it could read:\n";
+
+/// Writes lines that were tried, for a fault on this line.
+fn write_tried<W: Write>(out: &mut W, tried: &TriedLines, line: usize) -> io::Result<()> {
+    let TriedLines { first, last, with } = tried;
+    if first != last {
+        writeln!(out, "as lines {first} to {last} could read:")?;
+    } else if *first != line {
+        writeln!(out, "as line {first} could read:")?;
+    } else {
+        out.write_all(TRIED)?;
+    }
+    write_lines(out, ["    "; 2], with.as_str())
 }
 
 /// Writes the lines of a text: the first with one front, the others with another.

@@ -1,13 +1,15 @@
 //! Changes of a text that may cure it, and trying them.
 
-ghost use Rattle.std.specs.Prelude.{◌≡◌, IfOk};
+ghost use Rattle.std.specs.Prelude.{◌≡◌, IfOk, IsTrue, length};
+ghost use Rattle.ilsource.specs.Places.{line_at, col_at};
 ghost use Rattle.explaincures.specs.LeavingOut.{IsEdit};
-ghost use Rattle.explaincures.specs.Trying.{IsTried, changed_part};
+ghost use Rattle.explaincures.specs.Trying.{IsOnSide, IsTried, changed_part, lines_of};
 
 use crate::answers::AskedText;
 use crate::marking::{line_number, shown_text};
 use crate::spots::{Spot, content_len, part, place_of};
-use ilscope::NameFault;
+use ildeclared::NameFault;
+use ilsource::LineColumn;
 use iltext::{TextFault, parse};
 use plantload::{LoadFault, load};
 use std::alloc::{AllocError, Global};
@@ -81,30 +83,79 @@ impl Edit {
         Ok(read_to(alloc, &bytes)? >= bytes.len())
     }
 
-    /// What stands against the whole text with the change.
-    pub fn outcome(&self, alloc: Global, asked: &AskedText) -> Result<EditOutcome, AllocError>
-        ensures { IfOk result (IsTried asked.now.binding.now asked.now.text.now self.now) }
+    /// What stands against the whole text with the change, which is to cure what stands on a line,
+    /// counted from 1: what the loader says of it.
+    ///
+    /// # Errors
+    ///
+    /// The allocator is out of memory.
+    pub fn outcome(
+        &self,
+        alloc: Global,
+        asked: &AskedText,
+        line: usize,
+    ) -> Result<EditOutcome, AllocError>
+        ensures { IfOk result (IsTried asked.now.binding.now asked.now.text.now line self.now) }
     {
-        let bytes = self.apply(alloc, asked.text, 0, asked.text.len())?;
-        let first = Spot::of(&bytes, self.from);
-        let last = Spot::of(&bytes, self.from.saturating_add(self.with.len()));
+        let text = asked.text;
+        let bytes = self.apply(alloc, text, 0, text.len())?;
         match load(alloc, &bytes, asked.binding) {
             Ok(_) => Ok(EditOutcome::Accepted),
-            Err(LoadFault::Memory) => Err(AllocError),
-            Err(LoadFault::Text(_)) => Ok(EditOutcome::Text),
-            Err(LoadFault::Name(fault)) => {
-                let at = place_in(&bytes, &fault);
-                Ok(EditOutcome::Name {
-                    is_there: at >= first.line_from && at <= last.line_to,
-                    is_later: at > last.line_to,
-                })
+            Err(
+                LoadFault::Text(
+                    TextFault::At {
+                        line: found,
+                        col,
+                        ..
+                    },
+                ),
+            ) => {
+                if is_end(&bytes, found, col) {
+                    return Ok(EditOutcome::Ended);
+                }
+                Ok(EditOutcome::Text(self.side_of(text, &bytes, line, found)))
+            }
+            Err(LoadFault::Name(NameFault::At { line: found, .. })) => {
+                Ok(EditOutcome::Name(self.side_of(text, &bytes, line, found)))
             }
             Err(LoadFault::Code(refused)) => Ok(EditOutcome::Code {
                 task: refused.task(),
                 word: refused.refusal().word,
             }),
+            Err(_) => Err(AllocError),
         }
     }
+
+    /// On which side of the change, and of a line of the text, a line of the changed text stands.
+    fn side_of(&self, text: &[u8], bytes: &[u8], asked: usize, line: usize) -> Side
+        ensures { IsOnSide self.now text.now bytes.now asked line result }
+    {
+        let last = LineColumn::of(text, self.to).line.max(asked);
+        let behind = lines_of(text).saturating_sub(last);
+        if line < LineColumn::of(text, self.from).line {
+            Side::Before
+        } else if line > lines_of(bytes).saturating_sub(behind) {
+            Side::Behind
+        } else {
+            Side::There
+        }
+    }
+}
+
+/// How many lines there are.
+fn lines_of(bytes: &[u8]) -> usize
+    ensures { result ≡ lines_of bytes.now }
+{
+    LineColumn::of(bytes, bytes.len()).line
+}
+
+/// Whether a line and a column are those of a text's end.
+fn is_end(bytes: &[u8], line: usize, col: usize) -> bool
+    ensures { IsTrue result → (line ≡ line_at bytes.now (length bytes.now))
+        × (col ≡ col_at bytes.now (length bytes.now)) }
+{
+    let end = LineColumn::of(bytes, bytes.len());
+    end.line == line && end.col == col
 }
 
 /// Up to where a text reads: where its first fault stands, or behind all where it has none.
@@ -125,21 +176,25 @@ pub struct TriedLines {
     pub with: String,
 }
 
+/// Where a line of a changed text stands.
+#[derive(Clone, Copy)]
+pub enum Side {
+    Before,
+    /// On a line of the change, or on one from there up to the line that it is to cure.
+    There,
+    Behind,
+}
+
 /// What stands against a text with a change.
 #[derive(Clone, Copy)]
 pub enum EditOutcome {
     Accepted,
-    Text,
-    /// A fault of names: on the lines of the change, or behind them.
-    Name { is_there: bool, is_later: bool },
+    /// The text ends too early.
+    Ended,
+    /// A fault of the text before its end.
+    Text(Side),
+    /// A fault of names.
+    Name(Side),
     /// A refused word of a task.
     Code { task: usize, word: usize },
-}
-
-/// Where a fault of names stands; at the end of the text where memory ran out.
-fn place_in(text: &[u8], fault: &NameFault) -> usize {
-    match fault {
-        NameFault::Memory => text.len(),
-        NameFault::At { line, col, .. } => place_of(text, *line, *col),
-    }
 }

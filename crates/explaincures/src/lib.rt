@@ -3,8 +3,8 @@
 //! What crosses the boundary: a [`Spot`], what stands at a place and around it; [`Surroundings`],
 //! what is open there; [`Possible`], what could stand there, for which the parser is asked; an
 //! [`Edit`], a change, with its [`EditOutcome`] where it is tried; and a [`FaultAnswer`], what is
-//! said of a fault, whose lines were tried or are of another text. [`Edit::outcome`] says that a
-//! change is accepted exactly where the text with it is (`IsTried`). [`left_out`] and
+//! said of a fault, with a change that was tried, or lines of another text. [`Edit::outcome`] says
+//! what the loader says of the text with the change (`IsTried`). [`left_out`] and
 //! [`in_place_of_sign`] take away signs that stand for nothing, and nothing else (`LeavesOut`,
 //! `ReplacesSign`). What is printed is fixed by worked rows (crates/rows); of the rest of the code
 //! it is proved that it is safe and ends.
@@ -27,7 +27,7 @@ mod surroundings;
 mod words;
 
 pub use answers::{Advice, AskedText, Example, FaultAnswer, write_answer};
-pub use edits::{Edit, EditOutcome, TriedLines};
+pub use edits::{Edit, EditOutcome, Side, TriedLines};
 pub use leaving_out::{in_place_of_sign, left_out};
 pub use marking::{
     first_column, line_number, line_of, shown_text, write_found, write_line, write_place,

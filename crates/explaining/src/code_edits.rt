@@ -1,8 +1,11 @@
 //! Changes of a text that may cure a refused word, with the names of the text.
 
+ghost use Rattle.std.specs.Prelude.{◌<◌, IsTrue};
+ghost use Rattle.explaincures.specs.Trying.{RunsOn};
+
 use crate::code_causes::Change;
 use crate::refused::{Refused, instruction_on};
-use explaincures::{Edit, EditOutcome, Spot, line_number, part, place_of, shown_text};
+use explaincures::{Edit, EditOutcome, Spot, line_number, part, place_of};
 use ilcode::{Code, Word};
 use illisting::line_at;
 use ilranges::Cause;
@@ -16,43 +19,44 @@ pub(crate) fn edit_of(
     refused: &Refused,
     change: Change,
 ) -> Result<Option<Edit>, AllocError> {
-    match (change, refused.refusal.cause) {
-        (Change::Truth, _) => truth_edit(alloc, refused),
-        (Change::Comparison, _) => comparison_edit(alloc, refused),
-        (Change::Guard(guard, label), _) => guard_edit(alloc, refused, guard, label),
-        (Change::Before(_), Cause::WrongType) if refused.mismatch.is_none() => Ok(None),
-        (Change::Before(lines), _) => inserted(alloc, refused, lines),
-        (Change::Limits, Cause::OutOfRange { found, allowed }) => {
-            let limits = limits_of(alloc, found, allowed)?;
-            inserted(alloc, refused, &limits)
-        }
-        (Change::Limits, _) => Ok(None),
+    match change {
+        Change::Truth => truth_edit(alloc, refused),
+        Change::Comparison => comparison_edit(alloc, refused),
+        Change::Guard(guard, label) => guard_edit(alloc, refused, guard, label),
+        Change::Before(lines) if may_insert(refused) => inserted(alloc, refused, lines),
+        Change::Before(_) => Ok(None),
+        Change::Limits => limits_edit(alloc, refused),
     }
 }
 
-/// Whether the word is accepted with a change, and with the words more that come before it.
-pub(crate) fn is_cure(
-    alloc: Global,
-    refused: &Refused,
-    change: Change,
-    edit: &Edit,
-) -> Result<bool, AllocError> {
+/// Whether lines before a refused word are tried: not where a value of the wrong type is not found.
+fn may_insert(refused: &Refused) -> bool {
+    refused.mismatch.is_some() || !matches!(refused.refusal.cause, Cause::WrongType)
+}
+
+/// Whether the word is accepted with a change that was tried, and with the words more that come
+/// before it.
+pub(crate) fn is_cure(refused: &Refused, change: Change, edit: &Edit, outcome: EditOutcome) -> bool
+    ensures { IsTrue result → RunsOn refused.now.names.now.task refused.now.refusal.word outcome }
+{
     let more = match change {
         Change::Guard(..) => 3,
         _ => line_number(&edit.with, edit.with.len()).saturating_sub(1),
     };
-    Ok(match edit.outcome(alloc, refused.asked)? {
+    match outcome {
         EditOutcome::Accepted => true,
         EditOutcome::Code { task, word } if task == refused.names.task => {
             is_behind(refused, word.saturating_sub(more))
         }
         EditOutcome::Code { task, .. } => task > refused.names.task,
-        _ => false,
-    })
+        EditOutcome::Text(_) | EditOutcome::Name(_) => false,
+    }
 }
 
 /// Whether a change moves the refusal on to this place, and not just to what takes the result.
-fn is_behind(refused: &Refused, place: usize) -> bool {
+fn is_behind(refused: &Refused, place: usize) -> bool
+    ensures { IsTrue result → refused.now.refusal.word < place }
+{
     let (code, word) = (refused.names.code, refused.refusal.word);
     let is_free = match refused.refusal.cause {
         Cause::WrongType => false,
@@ -74,16 +78,67 @@ pub(crate) fn limits_of(alloc: Global, found: Range, allowed: Range) -> Result<S
     }
 }
 
+/// The operators before the refused instruction that keep the number within what is allowed.
+fn limits_edit(alloc: Global, refused: &Refused) -> Result<Option<Edit>, AllocError> {
+    let Cause::OutOfRange { found, allowed } = refused.refusal.cause else {
+        return Ok(None);
+    };
+    let limits = limits_of(alloc, found, allowed)?;
+    inserted(alloc, refused, &limits)
+}
+
 /// Lines before the refused instruction, set in as its line is.
 fn inserted(alloc: Global, refused: &Refused, lines: &str) -> Result<Option<Edit>, AllocError> {
     let spot = refused.spot();
-    let mut with = Vec::new(alloc);
-    for line in lines.split('\n') {
-        with.extend_from_slice(line.as_bytes())?;
-        with.push(b'\n')?;
-        with.extend_from_slice(blanks_before(&spot))?;
+    let with = Lines {
+        front: "",
+        name: b"",
+        lines,
+        kept: b"",
+        behind: "\n",
+    };
+    with.edit(alloc, &spot, spot.at, spot.at)
+}
+
+/// What comes into a text: what stands before a name, the name, lines, what is kept of the text,
+/// and lines behind that. Lines are set in as that of a place is.
+#[derive(Clone, Copy)]
+struct Lines<'q> {
+    front: &'static str,
+    name: &'q [u8],
+    lines: &'q str,
+    kept: &'q [u8],
+    behind: &'static str,
+}
+
+impl Lines<'_> {
+    /// The change that puts it in place of what stands between two places.
+    fn edit(
+        &self,
+        alloc: Global,
+        spot: &Spot,
+        from: usize,
+        to: usize,
+    ) -> Result<Option<Edit>, AllocError> {
+        let blanks = blanks_before(spot);
+        let mut with = Vec::from_slice(alloc, self.front.as_bytes())?;
+        with.extend_from_slice(self.name)?;
+        push_lines(&mut with, self.lines.as_bytes(), blanks)?;
+        with.extend_from_slice(self.kept)?;
+        push_lines(&mut with, self.behind.as_bytes(), blanks)?;
+        Ok(Some(Edit { from, to, with }))
     }
-    Ok(Some(Edit::new(alloc, spot.at, spot.at, &with)?))
+}
+
+/// Adds lines, with blanks behind each line end.
+fn push_lines(with: &mut Vec<u8>, lines: &[u8], blanks: &[u8]) -> Result<(), AllocError> {
+    for byte in lines {
+        with.push(*byte)?;
+        if *byte == b'\n' {
+            with.extend_from_slice(blanks)?;
+        }
+    }
+    Ok(())
 }
 
 /// The blanks at the front of a line.
@@ -114,11 +169,19 @@ fn comparison_edit(alloc: Global, refused: &Refused) -> Result<Option<Edit>, All
         return Ok(None);
     };
     let name = name_at(&operand);
-    let to = operand.at.saturating_add(name.len());
-    let name = shown_text(alloc, name)?;
-    let blanks = shown_text(alloc, blanks_before(&spot))?;
-    let with = format!(in alloc; "( {name}\n{blanks}NE 0\n{blanks})")?;
-    Ok(Some(Edit::new(alloc, spot.found_to(), to, with.as_bytes())?))
+    let with = Lines {
+        front: "( ",
+        name,
+        lines: "\nNE 0\n)",
+        kept: b"",
+        behind: "",
+    };
+    with.edit(
+        alloc,
+        &spot,
+        spot.found_to(),
+        operand.at.saturating_add(name.len()),
+    )
 }
 
 /// A guard before what is computed around a division, and its label behind that; none where the
@@ -126,27 +189,42 @@ fn comparison_edit(alloc: Global, refused: &Refused) -> Result<Option<Edit>, All
 fn guard_edit(
     alloc: Global,
     refused: &Refused,
-    guard: &str,
-    label: &str,
+    guard: &'static str,
+    label: &'static str,
 ) -> Result<Option<Edit>, AllocError> {
-    let (text, code, word) = (refused.asked.text, refused.names.code, refused.refusal.word);
-    let (Some((first, last)), Some(divisor)) = (computation(code, word), refused.operand_of(word))
-    else {
+    let (Some(guarded), Some(divisor)) = (
+        guarded_by(refused),
+        refused.operand_of(refused.refusal.word),
+    ) else {
         return Ok(None);
     };
-    let begin = instruction_on(text, first);
-    let end = Spot::of(text, place_of(text, last, 1));
     let name = name_at(&divisor);
-    if name.is_empty() || keyword_of(begin.token()) != Some(Keyword::Ld) {
+    if name.is_empty() {
         return Ok(None);
     }
-    let blanks = shown_text(alloc, blanks_before(&divisor))?;
-    let name = shown_text(alloc, name)?;
-    let lines = shown_text(alloc, begin.part(begin.at, end.line_to))?;
-    let with = format!(in alloc;
-        "LD {name}\n{blanks}{guard}\n{blanks}JMPC {label}\n{blanks}{lines}\n{blanks}{label}:"
-    )?;
-    Ok(Some(Edit::new(alloc, begin.at, end.line_to, with.as_bytes())?))
+    let with = Lines {
+        front: "LD ",
+        name,
+        lines: guard,
+        kept: guarded.rest(),
+        behind: label,
+    };
+    with.edit(alloc, &divisor, guarded.at, guarded.line_to)
+}
+
+/// What is computed around a division, from its LD on to the end of its last line.
+fn guarded_by<'q>(refused: &Refused<'q, '_>) -> Option<Spot<'q>> {
+    let text = refused.asked.text;
+    let (first, last) = computation(refused.names.code, refused.refusal.word)?;
+    let begin = instruction_on(text, first);
+    if keyword_of(begin.token()) != Some(Keyword::Ld) {
+        return None;
+    }
+    let end = Spot::of(text, place_of(text, last, 1));
+    Some(Spot {
+        line_to: end.line_to,
+        ..begin
+    })
 }
 
 /// The first and the last line of what is computed around a division: from the load before it to
@@ -205,13 +283,18 @@ fn is_kept(code: &Code, place: usize) -> bool {
 
 /// The name that stands at a place, with that of a port.
 fn name_at<'q>(spot: &Spot<'q>) -> &'q [u8] {
-    let rest = spot.rest();
-    let len = rest
-        .iter()
-        .take_while(|byte| byte.is_ascii_alphanumeric() || **byte == b'_' || **byte == b'.')
-        .count();
-    match rest {
-        [first, ..] if first.is_ascii_digit() => b"",
-        _ => part(rest, 0, len),
+    match spot.rest() {
+        [b'0'..=b'9', ..] => b"",
+        rest => part(rest, 0, name_len(rest)),
     }
+}
+
+/// How many bytes a name has that stands first, with that of a port.
+fn name_len(bytes: &[u8]) -> usize {
+    for (index, byte) in bytes.iter().enumerate() {
+        if !byte.is_ascii_alphanumeric() && *byte != b'_' && *byte != b'.' {
+            return index;
+        }
+    }
+    bytes.len()
 }

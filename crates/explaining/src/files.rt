@@ -1,13 +1,17 @@
 //! Files with their faults.
 
+ghost use Rattle.std.specs.Prelude.{◌≡◌, IfOk, Some};
+ghost use Rattle.explaincures.specs.Trying.{IsGone, NamesOn, ReadsOn, RunsOn, ShowsCure};
+ghost use Rattle.explaining.specs.Explained.{StandsAt};
+
 use crate::further::Further;
 use crate::refused::{answer_task, print_refused};
-use crate::told::{Title, Told};
+use crate::told::{Explanation, Title};
 use explaincures::{AskedText, Example, place_of};
 use explainlines::{LineFile, bad_line};
 use explainnames::{OtherFaults, answer_name};
 use explaintexts::answer_text;
-use ilscope::{NameCause, NameFault};
+use ildeclared::{NameCause, NameFault};
 use ilsource::Source;
 use iltext::{TextCause, TextFault};
 use page::Page;
@@ -17,49 +21,58 @@ use std::io;
 use std::io::Write;
 use wordlines::{BindFault, LineFault, ScenarioFault};
 
-/// Explains why a text is not loaded.
+/// Why a text is not loaded, explained: at the place of the fault that the loader gives. A change
+/// that is shown was tried: with it the text is accepted, or that fault is gone.
 ///
 /// # Errors
 ///
-/// The writer's, or that the allocator is out of memory.
-pub fn explain_load<W: Write>(
+/// The allocator is out of memory, or was when the text was loaded.
+pub fn explanation_of(
     alloc: Global,
-    out: &mut W,
     asked: &AskedText,
     stop: &NotLoaded,
-) -> io::Result<()> {
-    let told = match (&stop.fault, &stop.source) {
+) -> Result<Explanation, AllocError>
+    ensures place { IfOk result (StandsAt stop.now.fault) }
+    ensures cure { IfOk result (λ told. ShowsCure asked.now.binding.now asked.now.text.now told.line
+        (IsGone stop.now.fault) told.answer) }
+{
+    match (&stop.fault, &stop.source) {
         (LoadFault::Text(TextFault::At { line, col, cause }), _) => {
-            told_text(alloc, asked, (*line, *col), *cause)?
+            told_text(alloc, asked, (*line, *col), *cause)
         }
         (LoadFault::Name(NameFault::At { line, col, cause }), Some(source)) => {
-            told_name(alloc, asked, source, (*line, *col), *cause)?
+            told_name(alloc, asked, source, (*line, *col), *cause)
         }
-        (LoadFault::Code(refused), _) => told_code(alloc, asked, refused)?,
-        _ => return out.write_all(NO_MEMORY),
-    };
-    told.write_to(out, asked.text)
+        (LoadFault::Code(refused), _) => told_code(alloc, asked, refused),
+        _ => Err(AllocError),
+    }
 }
 
 /// What is written where memory ran out.
 const NO_MEMORY: &[u8] = b"no memory\n";
 
-/// Explains a fault of a text; where lines were tried that cure it, its faults behind that are
+/// Explains a fault of a text; where a change is shown that cures it, its faults behind that are
 /// named.
 fn told_text(
     alloc: Global,
     asked: &AskedText,
     place: (usize, usize),
     cause: TextCause,
-) -> Result<Told, AllocError> {
+) -> Result<Explanation, AllocError>
+    ensures line { IfOk result (λ told. told.line ≡ place.0) }
+    ensures mark { IfOk result (λ told. told.mark ≡ Some place.1) }
+    ensures cure { IfOk result (λ told.
+        ShowsCure asked.now.binding.now asked.now.text.now place.0 ReadsOn told.answer) }
+{
     let at = place_of(asked.text, place.0, place.1);
-    let answer = answer_text(alloc, asked, at, cause)?;
+    let answer = answer_text(alloc, asked, place.0, at, cause)?;
     let mut further = Further::of(alloc, asked);
-    if let Example::TriedLines(tried) = &answer.example {
-        further.add_behind(tried)?;
+    if let Example::Changed(edit) = &answer.example {
+        further.add_behind(&edit.lines(alloc, asked.text)?)?;
     }
     let title = Title::Fault("text", cause.number());
-    Ok(Told::of(alloc, asked.path, place, title, answer, further.into_page()))
+    let behind = further.into_page();
+    Ok(Explanation::of(alloc, asked.path, place, title, answer, behind))
 }
 
 /// Explains a fault of names; the others are named, a line each, and how many more there are.
@@ -69,9 +82,14 @@ fn told_name(
     source: &Source,
     place: (usize, usize),
     cause: NameCause,
-) -> Result<Told, AllocError> {
+) -> Result<Explanation, AllocError>
+    ensures line { IfOk result (λ told. told.line ≡ place.0) }
+    ensures mark { IfOk result (λ told. told.mark ≡ Some place.1) }
+    ensures cure { IfOk result (λ told.
+        ShowsCure asked.now.binding.now asked.now.text.now place.0 NamesOn told.answer) }
+{
     let at = place_of(asked.text, place.0, place.1);
-    let answer = answer_name(alloc, asked, source, at, cause)?;
+    let answer = answer_name(alloc, asked, source, place.0, at, cause)?;
     let others = OtherFaults::of(alloc, asked, source, at, cause)?;
     let mut further = Further::of(alloc, asked);
     for fault in &others.named {
@@ -82,7 +100,8 @@ fn told_name(
         print_more(&mut further.page, others.more, others.is_cut);
     }
     let title = Title::Fault("name", cause.number());
-    Ok(Told::of(alloc, asked.path, place, title, answer, further.into_page()))
+    let behind = further.into_page();
+    Ok(Explanation::of(alloc, asked.path, place, title, answer, behind))
 }
 
 /// Prints how many faults of names there are besides; where `is_cut` there may be more.
@@ -102,7 +121,15 @@ fn print_more(page: &mut Page, more: usize, is_cut: bool) {
 
 /// Explains a task whose code is refused: with what leads to the word. Of each task behind it the
 /// first refused word is named.
-fn told_code(alloc: Global, asked: &AskedText, refused: &RefusedTask) -> Result<Told, AllocError> {
+fn told_code(
+    alloc: Global,
+    asked: &AskedText,
+    refused: &RefusedTask,
+) -> Result<Explanation, AllocError>
+    ensures line { IfOk result (λ told. told.line ≡ refused.now.refusal.line) }
+    ensures cure { IfOk result (λ told. ShowsCure asked.now.binding.now asked.now.text.now
+        refused.now.refusal.line (RunsOn refused.now.task refused.now.refusal.word) told.answer) }
+{
     let (plan, task, refusal) = (refused.plan(), refused.task(), refused.refusal());
     let mut further = Further::of(alloc, asked);
     let page = &mut further.page;
@@ -117,7 +144,7 @@ fn told_code(alloc: Global, asked: &AskedText, refused: &RefusedTask) -> Result<
         mark,
         &answer.what,
     );
-    Ok(Told {
+    Ok(Explanation {
         head,
         line: refusal.line,
         mark,
@@ -176,6 +203,6 @@ fn explain_lines<Of, W: Write>(
         LineFile::Scenario => Title::Line("scenario"),
     };
     let place = (line, bad.col);
-    let told = Told::of(alloc, path, place, title, bad.answer, Page::new(alloc));
-    told.write_to(out, bytes)
+    let told = Explanation::of(alloc, path, place, title, bad.answer, Page::new(alloc));
+    told.write_to(alloc, out, bytes)
 }

@@ -7,8 +7,8 @@ use explaincures::{AskedText, Example, FaultAnswer, TriedLines, place_of};
 use explainnames::{OtherFaults, answer_name};
 use explaintexts::answer_text;
 use ilcompile::compile;
+use ildeclared::{NameCause, NameFault};
 use ilplan::Plan;
-use ilscope::{NameCause, NameFault};
 use ilsource::Source;
 use ilsyms::resolve;
 use iltext::{TextCause, TextFault, parse};
@@ -104,9 +104,9 @@ impl<'a> Further<'a> {
         cause: TextCause,
     ) -> Result<Option<TriedLines>, AllocError> {
         let at = place_of(text.text, line, col);
-        let FaultAnswer { what, example, .. } = answer_text(self.alloc, text, at, cause)?;
+        let FaultAnswer { what, example, .. } = answer_text(self.alloc, text, line, at, cause)?;
         let tried = match example {
-            Example::TriedLines(tried) => Some(tried),
+            Example::Changed(edit) => Some(edit.lines(self.alloc, text.text)?),
             _ => None,
         };
         // A text that ends too early is not worth a line more, unless it can be said what is
@@ -144,7 +144,7 @@ impl<'a> Further<'a> {
         cause: NameCause,
     ) -> Result<(), AllocError> {
         let at = place_of(text.text, line, col);
-        let FaultAnswer { what, .. } = answer_name(self.alloc, text, source, at, cause)?;
+        let FaultAnswer { what, .. } = answer_name(self.alloc, text, source, line, at, cause)?;
         let title = Title::Fault("name", cause.number());
         self.add(cured.number(line), col, title, &what);
         let others = OtherFaults::of(self.alloc, text, source, at, cause)?;

@@ -3,13 +3,15 @@
 //! leads there.
 //!
 //! What crosses the boundary: the bytes of a file with its fault ([`AskedText`] for a text, and what
-//! `plantload::load_with_source` says of it), and lines on a writer. Lines that are proposed as they
-//! could read were tried: with them the text is accepted, or its fault is gone. What is printed is
-//! fixed by worked rows (crates/rows); of the code it is proved that it is safe and ends.
+//! `plantload::load_with_source` says of it), and an [`Explanation`], or lines on a writer. An
+//! explanation stands at the place that the loader gives (`StandsAt`), and a change of the text that
+//! it shows was tried: with it the text is accepted, or its fault is gone (`ShowsCure`). What is
+//! printed is fixed by worked rows (crates/rows); of the rest of the code it is proved that it is safe
+//! and ends.
 //!
 //! ```text
 //! let Err(stop) = load_with_source(alloc, &text, &binding) else { .. };
-//! explain_load(alloc, &mut out, &asked, &stop)?;
+//! explanation_of(alloc, &asked, &stop)?.write_to(alloc, &mut out, &text)?;
 //! ```
 #![tactic(auto)]
 
@@ -27,4 +29,5 @@ mod told;
 mod ways;
 
 pub use explaincures::AskedText;
-pub use files::{explain_binding, explain_load, explain_scenario};
+pub use files::{explain_binding, explain_scenario, explanation_of};
+pub use told::Explanation;

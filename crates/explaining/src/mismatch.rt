@@ -1,7 +1,7 @@
 //! What was found and what is wanted, where a value is of the wrong type.
 
 use ilcode::{Code, Word, WordOperand};
-use illisting::{read_by, written_by};
+use illisting::{ValuesText, read_by, written_by};
 use ilranges::{Cause, Entry, Known};
 use iltypes::{Function, Operator};
 use ilverify::{Pass, Passed, Refusal};
@@ -148,11 +148,12 @@ pub(crate) struct ValueText(pub Option<Known>);
 impl fmt::Display for ValueText {
     fn fmt<W: fmt::Write>(&self, f: &mut fmt::Formatter<W>) -> fmt::Result {
         match self.0 {
-            Some(Known::Bool) => f.write_str("a truth value"),
-            Some(Known::Int(range)) if range.lo == range.hi => {
-                write!(f, "the number {}", range.lo)
+            Some(Known::Int(range)) => {
+                let front = if range.lo == range.hi { "the" } else { "a" };
+                let known = Known::Int(range);
+                write!(f, "{front} number {}", ValuesText { known })
             }
-            Some(Known::Int(range)) => write!(f, "a number {}..{}", range.lo, range.hi),
+            Some(Known::Bool) => f.write_str("a truth value"),
             None => f.write_str("a number"),
         }
     }

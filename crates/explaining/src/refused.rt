@@ -1,6 +1,7 @@
 //! Words that are refused, and what is said of a task that has one.
 
-ghost use Rattle.std.specs.Prelude.{◌<◌, length};
+ghost use Rattle.std.specs.Prelude.{◌<◌, length, IfOk};
+ghost use Rattle.explaincures.specs.Trying.{RunsOn, ShowsCure};
 
 use crate::code_answers::answer_code;
 use crate::mismatch::{Mismatch, mismatch_at};
@@ -8,7 +9,7 @@ use crate::requests::print_requests;
 use crate::told::{Title, print_head};
 use crate::ways::{Behind, operand_on, print_way};
 use explaincures::{AskedText, FaultAnswer, Spot, first_column, place_of};
-use ilblocks::BlockKind;
+use ilblocks::{BlockKind, PortName};
 use ilcode::{Code, Word};
 use ilcompile::compile;
 use illisting::{TaskNames, functions_in, line_at, print_deepest_calls, print_longest_calls};
@@ -40,6 +41,8 @@ pub(crate) fn answer_task(
     refusal: Refusal,
 ) -> Result<(Option<usize>, FaultAnswer), AllocError>
     requires { task < length plan.now.tasks }
+    ensures { IfOk result (λ told. ShowsCure asked.now.binding.now asked.now.text.now refusal.line
+        (RunsOn task refusal.word) told.1) }
 {
     let code = compile(alloc, plan, task)?;
     let functions = functions_in(alloc, plan, task)?;
@@ -106,7 +109,7 @@ impl<'q, 'n> Refused<'q, 'n> {
     pub(crate) fn operand_of(&self, place: usize) -> Option<Spot<'q>> {
         let code = self.names.code;
         let behind = match (input_of(code, place), code.get(place)) {
-            (Some((_, name)), _) => Behind::Input(name),
+            (Some((_, name)), _) => Behind::Input(name.spelling()),
             (None, Some(Word::Give { slot, .. })) => {
                 Behind::Function(operand_number(code, usize::from(slot)))
             }
@@ -133,12 +136,12 @@ pub(crate) fn instruction_on<'q>(text: &'q [u8], line: usize) -> Spot<'q> {
 }
 
 /// The kind of the block of which a word gives an input, and the name of that.
-pub(crate) fn input_of(code: &Code, word: usize) -> Option<(BlockKind, &'static [u8])> {
+pub(crate) fn input_of(code: &Code, word: usize) -> Option<(BlockKind, PortName)> {
     let Some(Word::Pass { port, block, .. }) = code.get(word) else {
         return None;
     };
     let kind = code.kinds().get(usize::from(block))?;
-    Some((*kind, kind.ports().get(usize::from(port))?.name.spelling()))
+    Some((*kind, kind.ports().get(usize::from(port))?.name))
 }
 
 /// Which operand of a call goes to the input in a slot, from 1 on.

@@ -1,5 +1,7 @@
 //! What is said of what stands against a file, and how it is printed.
 
+ghost use Rattle.std.specs.Prelude.{◌≡◌, Some};
+
 use explaincures::{FaultAnswer, write_answer, write_found, write_line};
 use page::Page;
 use std::alloc::Global;
@@ -8,16 +10,18 @@ use std::io::Write;
 
 /// What is said of what stands against a file.
 #[derive(Drop)]
-pub(crate) struct Told {
+pub struct Explanation {
     /// The first line: where it stands, and what it is.
-    pub head: Page,
+    pub(crate) head: Page,
+    /// The line of the file, counted from 1.
     pub line: usize,
-    /// The column that is marked, where there is one.
+    /// The column that is marked, counted from 1, where there is one.
     pub mark: Option<usize>,
     /// Whether it is said what was found there.
-    pub is_found: bool,
+    pub(crate) is_found: bool,
     pub answer: FaultAnswer,
-    pub behind: Page,
+    /// What else stands against the file, and what leads there.
+    pub(crate) behind: Page,
 }
 
 /// What stands against a file, with its number.
@@ -31,7 +35,7 @@ pub(crate) enum Title<'a> {
     Refused(&'a str, u8, usize),
 }
 
-impl Told {
+impl Explanation {
     /// What is said of a fault at a place, and behind it.
     pub(crate) fn of(
         alloc: Global,
@@ -40,10 +44,14 @@ impl Told {
         title: Title,
         answer: FaultAnswer,
         behind: Page,
-    ) -> Told {
+    ) -> Explanation
+        ensures line { result.line ≡ place.0 }
+        ensures mark { result.mark ≡ Some place.1 }
+        ensures answer { result.answer ≡ answer }
+    {
         let mut head = Page::new(alloc);
         print_head(&mut head, path, place, title, &answer.what);
-        Told {
+        Explanation {
             head,
             line: place.0,
             mark: Some(place.1),
@@ -54,8 +62,12 @@ impl Told {
     }
 
     /// Writes it, of a file of these bytes.
-    pub(crate) fn write_to<W: Write>(self, out: &mut W, bytes: &[u8]) -> io::Result<()> {
-        let Told {
+    ///
+    /// # Errors
+    ///
+    /// The writer's, or that the allocator is out of memory.
+    pub fn write_to<W: Write>(self, alloc: Global, out: &mut W, bytes: &[u8]) -> io::Result<()> {
+        let Explanation {
             head,
             line,
             mark,
@@ -68,7 +80,7 @@ impl Told {
         if let (Some(col), true) = (mark, is_found) {
             write_found(out, bytes, line, col)?;
         }
-        write_answer(out, &answer, line)?;
+        write_answer(alloc, out, bytes, &answer, line)?;
         behind.write_to(out)
     }
 }

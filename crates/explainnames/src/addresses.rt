@@ -2,10 +2,10 @@
 //! the address, `{1}` the bus and `{2}` a number.
 
 use crate::answers::MOST_TOLD;
-use crate::said::{Change, Said, Slot, advice};
+use crate::said::{Change, Row, Said, Slot, advice};
 use crate::standing::FaultPlace;
 use crate::tokens::what_at;
-use explaincures::{Advice, AskedText};
+use explaincures::AskedText;
 use ilsource::DirectAddress;
 use iltokens::{AddressKind, What};
 
@@ -39,68 +39,69 @@ pub(crate) fn said_of_address(fault: &FaultPlace) -> Said {
 
 /// What is said of a bus that is not there.
 fn no_bus(asked: &AskedText) -> Said {
-    let (facts, cure) = match asked.binding.buses() {
-        _ if !asked.is_bound => (
-            "without --bind there is one bus, which is bus 0\n",
-            "give the binding with --bind FILE, or write bus 0",
-        ),
-        1 => ("the binding has one bus, which is bus 0\n", OTHER_BUS),
-        _ => ("the binding has {b} buses, 0 to {z}\n", OTHER_BUS),
+    if !asked.is_bound {
+        let row = advice!("there is no bus {1}";
+            "give the binding with --bind FILE, or write bus 0";
+            "{0}0.{2}");
+        return Said::of(row).with_facts("without --bind there is one bus, which is bus 0\n", 0);
+    }
+    let row = advice!("there is no bus {1}";
+        "write a bus of the binding, or let its line `buses` have one more";
+        "{0}0.{2}");
+    let facts = match asked.binding.buses() {
+        1 => "the binding has one bus, which is bus 0\n",
+        _ => "the binding has {b} buses, 0 to {z}\n",
     };
-    let (what, line) = ("there is no bus {1}", "{0}0.{2}");
-    Said::of(Advice { what, cure, line }).with_facts(facts, 0)
+    Said::of(row).with_facts(facts, 0)
 }
-
-/// What helps where the binding does not have a bus.
-const OTHER_BUS: &str = "write a bus of the binding, or let its line `buses` have one more";
 
 /// What is said of a source that is not there.
 fn no_source(asked: &AskedText) -> Said {
-    let (facts, cure) = match asked.binding.sources().len() {
-        _ if !asked.is_bound => (
-            "without --bind there is no source of events\n",
-            "give the binding with --bind FILE; it needs a line for this source",
-        ),
-        0 => ("the binding has no source of events\n", OTHER_SOURCE),
-        count if count > MOST_TOLD => ("the binding has the sources {e} and more\n", OTHER_SOURCE),
-        _ => ("the binding has the sources {e}\n", OTHER_SOURCE),
+    if !asked.is_bound {
+        let row = advice!("there is no source {1}.{2}";
+            "give the binding with --bind FILE; it needs a line for this source";
+            "source {1}.{2} device-instance 5 2");
+        return Said::of(row).with_facts("without --bind there is no source of events\n", 0);
+    }
+    let row = advice!("there is no source {1}.{2}";
+        "write the place of a source of the binding, or give it a line for this one";
+        "source {1}.{2} device-instance 5 2");
+    let facts = match asked.binding.sources().len() {
+        0 => "the binding has no source of events\n",
+        count if count > MOST_TOLD => "the binding has the sources {e} and more\n",
+        _ => "the binding has the sources {e}\n",
     };
-    let what = "there is no source {1}.{2}";
-    let line = "source {1}.{2} device-instance 5 2";
-    Said::of(Advice { what, cure, line }).with_facts(facts, 0)
+    Said::of(row).with_facts(facts, 0)
 }
-
-/// What helps where the binding does not have a source.
-const OTHER_SOURCE: &str =
-    "write the place of a source of the binding, or give it a line for this one";
 
 /// The word with which an address of a kind begins, the greatest number behind its dot, and what is
 /// said of a greater one.
-fn of_kind(kind: AddressKind) -> (&'static str, u64, Advice) {
-    let (word, most, cure, line) = match kind {
+fn of_kind(kind: AddressKind) -> (&'static str, u64, Row) {
+    match kind {
         AddressKind::OutputByte => (
             "%QB",
             80,
-            "levels are 0 to 63 of short addresses, 64 to 79 of the groups 0 to 15, and\n\
-                80 of all gear",
-            "%QB{1}.9",
+            advice!("the number behind the dot of {0} is at most {2}";
+                "levels are 0 to 63 of short addresses, 64 to 79 of the groups 0 to 15, and\n\
+                    80 of all gear";
+                "%QB{1}.9"),
         ),
         AddressKind::InputWord => (
             "%IW",
             255,
-            "answers are 0 to 63 of gear and 64 to 127 of devices, information 128 to\n\
-                191 and counts 192 to 255 of the sources 0 to 63",
-            "%IW{1}.128",
+            advice!("the number behind the dot of {0} is at most {2}";
+                "answers are 0 to 63 of gear and 64 to 127 of devices, information 128 to\n\
+                    191 and counts 192 to 255 of the sources 0 to 63";
+                "%IW{1}.128"),
         ),
         AddressKind::InputBit => (
             "%IX",
             63,
-            "triggers are 0 to 63, as the sources of the binding",
-            "%IX{1}.63",
+            advice!("the number behind the dot of {0} is at most {2}";
+                "triggers are 0 to 63, as the sources of the binding";
+                "%IX{1}.63"),
         ),
-    };
-    let what = "the number behind the dot of {0} is at most {2}";
-    (word, most, Advice { what, cure, line })
+    }
 }
 
 /// What is said of a store to an input of the buses with a name and an address.

@@ -1,11 +1,14 @@
 //! What is said of a fault of names, as text: slots are filled, and changes are tried.
 
+ghost use Rattle.std.specs.Prelude.{IfOk, IfSome, IsTrue};
+ghost use Rattle.explaincures.specs.Trying.{IsCure, NamesOn, ShowsCure};
+
 use crate::said::{Change, Said, Slot};
 use crate::standing::FaultPlace;
 use crate::tokens::{Role, next_same, token_at};
 use explaincures::{
-    Advice, Edit, EditOutcome, Example, FaultAnswer, is_near, line_number, line_of, near_word,
-    shown_text,
+    Advice, Edit, EditOutcome, Example, FaultAnswer, Side, is_near, line_number, line_of,
+    near_word, shown_text,
 };
 use iltokens::What;
 use std::alloc::AllocError;
@@ -14,17 +17,24 @@ use std::alloc::AllocError;
 pub(crate) const MOST_TOLD: usize = 8;
 
 impl FaultPlace<'_, '_> {
-    /// What is said as an answer, with the first change that helps, if one does.
-    pub(crate) fn answer(&self, said: &Said) -> Result<FaultAnswer, AllocError> {
-        let Advice { what, cure, line } = said.row;
+    /// What is said as an answer to a fault on a line, with the first change that helps, if one does.
+    pub(crate) fn answer(&self, said: &Said, line: usize) -> Result<FaultAnswer, AllocError>
+        ensures { let asked = self.now.asked.now in
+            IfOk result (ShowsCure asked.binding.now asked.text.now line NamesOn) }
+    {
+        let Advice {
+            what,
+            cure,
+            line: other,
+        } = said.row;
         let answer = FaultAnswer {
             what: self.filled(said, what)?,
             facts: self.filled(said, said.facts)?,
             cure: self.filled(said, cure)?,
-            example: Example::Other(self.filled(said, line)?),
+            example: Example::Other(self.filled(said, other)?),
         };
-        match self.cure(said)? {
-            Some(edit) => answer.with_tried(self.alloc, self.spot.text, &edit),
+        match self.cure(said, line)? {
+            Some(edit) => Ok(answer.with_change(edit)),
             None => Ok(answer),
         }
     }
@@ -91,23 +101,32 @@ impl FaultPlace<'_, '_> {
         }
     }
 
-    /// Adds what stands there in place of a slot.
+    /// Adds what stands there in place of a slot: a number, and then bytes.
     fn push(&self, text: &mut String, slot: Slot) -> Result<(), AllocError> {
-        let (alloc, spot) = (self.alloc, &self.spot);
-        let added = match slot {
-            Slot::Nothing => return Ok(()),
-            Slot::Word(word) => return text.push_str(word),
-            Slot::Bytes(bytes) => shown_text(alloc, bytes)?,
-            Slot::Number(number) => format!(in alloc; "{number}")?,
-            Slot::Limit(number) => format!(in alloc; "{number}")?,
-            Slot::Part(from, to) => shown_text(alloc, spot.part(from, to))?,
-            Slot::Source(bus, number) => format!(in alloc; "{bus}.{number}")?,
-            Slot::Line(line) => {
-                text.push_str(&format!(in alloc; "{line:>6} | ")?)?;
-                shown_text(alloc, line_of(spot.text, line as usize))?
-            }
-        };
-        text.push_str(&added)
+        text.push_str(&self.number_text(slot)?)?;
+        text.push_str(&shown_text(self.alloc, self.bytes_of(slot))?)
+    }
+
+    /// The number of a slot; nothing where it has none.
+    fn number_text(&self, slot: Slot) -> Result<String, AllocError> {
+        match slot {
+            Slot::Number(number) => format!(in self.alloc; "{number}"),
+            Slot::Limit(number) => format!(in self.alloc; "{number}"),
+            Slot::Source(bus, number) => format!(in self.alloc; "{bus}.{number}"),
+            Slot::Line(line) => format!(in self.alloc; "{line:>6} | "),
+            _ => Ok(String::new(self.alloc)),
+        }
+    }
+
+    /// The bytes of a slot; none where it is a number.
+    fn bytes_of(&self, slot: Slot) -> &[u8] {
+        match slot {
+            Slot::Word(word) => word.as_bytes(),
+            Slot::Bytes(bytes) => bytes,
+            Slot::Part(from, to) => self.spot.part(from, to),
+            Slot::Line(line) => line_of(self.spot.text, line as usize),
+            _ => &[],
+        }
     }
 
     /// The source of this number, with what is added to its own.
@@ -118,17 +137,21 @@ impl FaultPlace<'_, '_> {
     }
 
     /// The first change that helps, if one does.
-    fn cure(&self, said: &Said) -> Result<Option<Edit>, AllocError> {
+    fn cure(&self, said: &Said, line: usize) -> Result<Option<Edit>, AllocError>
+        ensures { let asked = self.now.asked.now in
+            IfOk result (λ found. IfSome found
+            (IsCure asked.binding.now asked.text.now line NamesOn)) }
+    {
         let with = match said.change {
             Change::Nothing => return Ok(None),
-            Change::Put(from, to, with) => return self.helping(said, (from, to), with),
+            Change::Put(from, to, with) => return self.helping(said, line, (from, to), with),
             Change::Near => "{1}",
             Change::Source(_) => "{0}{1}",
         };
         let [first, ..] = said.slots;
         for one in &self.meant(said.change)? {
             let tried = said.with_slots([first, *one, Slot::Nothing]);
-            let edit = self.helping(&tried, (self.spot.at, self.spot.found_to()), with)?;
+            let edit = self.helping(&tried, line, (self.spot.at, self.spot.found_to()), with)?;
             if edit.is_some() {
                 return Ok(edit);
             }
@@ -141,17 +164,21 @@ impl FaultPlace<'_, '_> {
     fn helping(
         &self,
         said: &Said,
-        (from, to): (usize, usize),
+        line: usize,
+        place: (usize, usize),
         with: &str,
-    ) -> Result<Option<Edit>, AllocError> {
+    ) -> Result<Option<Edit>, AllocError>
+        ensures { let asked = self.now.asked.now in
+            IfOk result (λ found. IfSome found
+            (IsCure asked.binding.now asked.text.now line NamesOn)) }
+    {
         let with = self.filled(said, with)?;
-        let edit = Edit::new(self.alloc, from, to, with.as_bytes())?;
-        let is_there = match edit.outcome(self.alloc, self.asked)? {
-            EditOutcome::Text => true,
-            EditOutcome::Name { is_later, .. } => !is_later,
-            _ => false,
-        };
-        Ok(if is_there { None } else { Some(edit) })
+        let edit = Edit::new(self.alloc, place.0, place.1, with.as_bytes())?;
+        let outcome = edit.outcome(self.alloc, self.asked, line)?;
+        if !is_cure(outcome) {
+            return Ok(None);
+        }
+        Ok(Some(edit))
     }
 
     /// The first sources of the binding, with what is added to their numbers; or the reserved word
@@ -173,7 +200,7 @@ impl FaultPlace<'_, '_> {
         let mut at: usize = 0;
         for _ in 0..self.spot.text.len() {
             let Some(found) = token_at(self.spot.text, at) else {
-                return Ok(all);
+                break;
             };
             at = found.to;
             let name = self.spot.part(found.from, found.to);
@@ -196,4 +223,14 @@ impl FaultPlace<'_, '_> {
         }
         false
     }
+}
+
+/// Whether the names of a text with a change that was tried have no fault up to the change.
+fn is_cure(outcome: EditOutcome) -> bool
+    ensures { IsTrue result → NamesOn outcome }
+{
+    matches!(
+        outcome,
+        EditOutcome::Accepted | EditOutcome::Name(Side::Behind) | EditOutcome::Code { .. }
+    )
 }

@@ -1,16 +1,15 @@
 //! What is said of bad declarations.
 
-use crate::said::{Said, Slot, advice};
+use crate::said::{Row, Said, Slot, advice};
 use crate::standing::FaultPlace;
 use crate::tokens::type_behind;
-use explaincures::Advice;
 use ilscope::{Found, NameCause};
 use ilsource::{Constant, Declared, Specification};
 use iltokens::{AddressKind, Keyword};
 use std::alloc::AllocError;
 
 /// What is said of a bad declaration of which nothing else is known.
-const BAD_DECLARATION: Advice = advice!("a bad declaration";
+const BAD_DECLARATION: Row = advice!("a bad declaration";
     "keep the limits within those of the type, the lower one first, and the\n\
         first value within them; a task has either SINGLE or INTERVAL, and a\n\
         priority of 0 to 65535";
@@ -52,7 +51,7 @@ pub(crate) fn said_of_declaration(place: &FaultPlace) -> Result<Said, AllocError
 }
 
 /// What is said of a task.
-fn of_task(place: &FaultPlace) -> Advice {
+fn of_task(place: &FaultPlace) -> Row {
     let number = place.scope.task_number(place.name()).unwrap_or(0);
     let Some(task) = place.task(number) else {
         return BAD_DECLARATION;

@@ -1,20 +1,25 @@
 //! What is said of a fault of names.
 
+ghost use Rattle.std.specs.Prelude.{IfOk};
+ghost use Rattle.explaincures.specs.Trying.{NamesOn, ShowsCure};
+
 use crate::addresses::{said_of_address, said_of_input};
 use crate::declarations::said_of_declaration;
-use crate::said::{Change, Said, Slot, advice};
+use crate::said::{Change, Row, Said, Slot, advice};
 use crate::standing::FaultPlace;
 use crate::tokens::{Role, next_same, token_at, type_behind};
 use crate::unknown_names::said_of_unknown;
-use explaincures::{Advice, AskedText, FaultAnswer, Surroundings};
+use explaincures::{AskedText, FaultAnswer, Surroundings};
 use ilscope::{NameCause, Scope};
-use ilsource::{Name, Operand, Purpose, Source, Symbol};
+use ilsource::{Name, Operand, Purpose, Source, Symbol, Use};
 use iltokens::Keyword;
 use iluses::{stored_globals, uses_of};
 use limits::{MOST_CALLS, MOST_FUNCTIONS, MOST_INPUTS};
 use std::alloc::{AllocError, Global};
 
-/// What is said of a cause at a place of a text with this source program.
+/// What is said of a cause at a place of a text with this source program, which stands on a line,
+/// counted from 1. A change that is shown was tried: with it the text is accepted, or its names have
+/// no fault up to the change and that line.
 ///
 /// # Errors
 ///
@@ -23,12 +28,16 @@ pub fn answer_name(
     alloc: Global,
     asked: &AskedText,
     source: &Source,
+    line: usize,
     at: usize,
     cause: NameCause,
-) -> Result<FaultAnswer, AllocError> {
+) -> Result<FaultAnswer, AllocError>
+    ensures { IfOk result
+        (ShowsCure asked.now.binding.now asked.now.text.now line NamesOn) }
+{
     let scope = Scope::of(alloc, source, asked.binding)?;
     let place = FaultPlace::of(alloc, asked, &scope, at)?;
-    place.answer(&said_of(&place, cause)?)
+    place.answer(&said_of(&place, cause)?, line)
 }
 
 /// What is said of a cause at a place.
@@ -93,7 +102,7 @@ fn unknown_label(place: &FaultPlace) -> Said {
 
 /// What a row says of a name or an address, with the line in which it has a role before: first in
 /// what is open there, or else anywhere.
-fn said_before(place: &FaultPlace, row: Advice, facts: &'static str, role: Role) -> Said {
+fn said_before(place: &FaultPlace, row: Row, facts: &'static str, role: Role) -> Said {
     let said = Said::of(row);
     for start in [place.around.from, 0] {
         if let Some(found) = next_same(&place.spot, start, role) {
@@ -106,7 +115,7 @@ fn said_before(place: &FaultPlace, row: Advice, facts: &'static str, role: Role)
 }
 
 /// What is said of a name or an address that is given twice.
-fn given_twice(place: &FaultPlace) -> Advice {
+fn given_twice(place: &FaultPlace) -> Row {
     let unit = place.around.unit_word();
     let is_shared = unit == Some(Keyword::Type)
         || unit == Some(Keyword::Program) && place.is_behind(Keyword::Program);
@@ -222,7 +231,7 @@ fn without_task(place: &FaultPlace) -> Said {
 }
 
 /// What is said of too much.
-fn too_many(place: &FaultPlace) -> Result<Advice, AllocError> {
+fn too_many(place: &FaultPlace) -> Result<Row, AllocError> {
     let is_function = place.is_behind(Keyword::Function);
     let number = place.scope.function_number(place.name()).unwrap_or(0);
     Ok(if place.is_behind(Keyword::Task) {
@@ -270,15 +279,21 @@ fn is_input_too_many(place: &FaultPlace) -> bool {
 fn depth_of(place: &FaultPlace, number: usize) -> Result<usize, AllocError> {
     let mut depths: Vec<usize> = Vec::new(place.alloc);
     for function in place.scope.functions() {
-        let mut depth: usize = 1;
-        for used in &uses_of(place.alloc, function.function().lines())? {
-            if let Operand::Name(Symbol::Function(called)) = used.operand {
-                let below = place.scope.function_number(called).unwrap_or(usize::MAX);
-                let its = depths.get(below).copied().unwrap_or(0);
-                depth = depth.max(its.saturating_add(1));
-            }
-        }
-        depths.push(depth)?;
+        let uses = uses_of(place.alloc, function.function().lines())?;
+        depths.push(depth_above(place, &uses, &depths))?;
     }
     Ok(depths.get(number).copied().unwrap_or(0))
+}
+
+/// How deep a function with these uses is, if the functions above it have these depths.
+fn depth_above(place: &FaultPlace, uses: &[Use<Symbol>], depths: &[usize]) -> usize {
+    let mut depth: usize = 1;
+    for used in uses {
+        if let Operand::Name(Symbol::Function(called)) = used.operand {
+            let below = place.scope.function_number(called).unwrap_or(usize::MAX);
+            let its = depths.get(below).copied().unwrap_or(0);
+            depth = depth.max(its.saturating_add(1));
+        }
+    }
+    depth
 }

@@ -1,22 +1,19 @@
 //! Names that other languages have, and what to write in their place.
 
-use crate::said::advice;
-use explaincures::Advice;
+use crate::said::{Row, parted};
 
-/// Names, those that count only where an instruction stands, and what is said of them. Before some
-/// names stands, with a colon, what to write in their place.
-type Habit = (&'static str, &'static str, Advice);
-
-/// Rows of habits.
+/// Rows of habits, each as one text with `|` between its parts: names, those that count only where
+/// an instruction stands, and what is said of them. Before some names stands, with a colon, what to
+/// write in their place.
 macro_rules! habits {
     ($($names:literal, $instructions:literal =>
         $what:literal; $cure:literal; $line:literal;)+) => {
-        &[$(($names, $instructions, advice!($what; $cure; $line))),+]
+        &[$(concat!($names, "|", $instructions, "|", $what, "|", $cure, "|", $line)),+]
     };
 }
 
 /// Function blocks and types that other languages have.
-const TYPES: &[Habit] = habits! {
+const TYPES: &[Row] = habits! {
     "tof", "" => "there is no TOF, a delay at switching off";
         "start a TON with the opposite of the input, and switch off at its Q";
         "LD button\nS light\nLDN button\nST rest.IN\nCAL rest(PT := T#3m)\nLD rest.Q\nR light";
@@ -61,7 +58,7 @@ const TYPES: &[Habit] = habits! {
 };
 
 /// Statements and functions that other languages have.
-const STATEMENTS: &[Habit] = habits! {
+const STATEMENTS: &[Row] = habits! {
     "if,else,end_if,elsif,case,end_case", "" => "a statement of Structured Text";
         "compare first, and then jump past what is not to be done: JMPC jumps where\n\
             the result is TRUE, JMPCN where it is FALSE";
@@ -91,7 +88,7 @@ const STATEMENTS: &[Habit] = habits! {
 
 /// Instructions by the names that they have elsewhere, as in Siemens' lists. `set.` is SET with
 /// nothing behind it.
-const INSTRUCTIONS: &[Habit] = habits! {
+const INSTRUCTIONS: &[Row] = habits! {
     "", "JMP:goto,jump;RET:return;LD:load;ST:store;S:set;R:reset" =>
         "no instruction of this language";
         "write the instruction's word";
@@ -116,7 +113,8 @@ const INSTRUCTIONS: &[Habit] = habits! {
     "", "sn,rn" => "S and R have no form with N";
         "they act where the result is TRUE: write NOT on a line of its own before them";
         "LD button\nNOT\nS light";
-    "", "cmp,cp,jz,jnz,je,jne,jg,jl,jge,jle,jmpz,jmpnz,beq,bne,bz,bnz" => "a comparison as machines have it";
+    "", "cmp,cp,jz,jnz,je,jne,jg,jl,jge,jle,jmpz,jmpnz,beq,bne,bz,bnz" =>
+        "a comparison as machines have it";
         "EQ, NE, GT, GE, LE and LT compare, and leave TRUE or FALSE, which JMPC and\n\
             JMPCN look at";
         "LD level\nGT 5\nJMPC out";
@@ -136,7 +134,7 @@ pub(crate) fn name_habit(
     found: &[u8],
     is_instruction: bool,
     is_alone: bool,
-) -> Option<(&'static str, Advice)> {
+) -> Option<(&'static str, Row)> {
     let is_set = is_alone && found.eq_ignore_ascii_case(b"set");
     let found = if is_set { b"set.".as_slice() } else { found };
     habit_among(TYPES, found, is_instruction)
@@ -145,18 +143,16 @@ pub(crate) fn name_habit(
 }
 
 /// The same of the first of some that has a name.
-fn habit_among(
-    habits: &[Habit],
-    found: &[u8],
-    is_instruction: bool,
-) -> Option<(&'static str, Advice)> {
-    for (names, instructions, row) in habits {
-        let word = match word_among(*names, found) {
-            None if is_instruction => word_among(*instructions, found),
+fn habit_among(habits: &[Row], found: &[u8], is_instruction: bool) -> Option<(&'static str, Row)> {
+    for habit in habits {
+        let (names, rest) = parted(*habit);
+        let (instructions, row) = parted(rest);
+        let word = match word_among(names, found) {
+            None if is_instruction => word_among(instructions, found),
             word => word,
         };
         if let Some(word) = word {
-            return Some((word, *row));
+            return Some((word, row));
         }
     }
     None

@@ -60,21 +60,22 @@ impl OtherFaults {
             place: None,
             call: None,
         };
-        let mut found = Found { at, cause };
-        told.add(&FaultPlace::of(alloc, asked, &scope, at)?, found);
+        let first = Found { at, cause };
+        told.add(&FaultPlace::of(alloc, asked, &scope, at)?, first);
+        let mut next = next_fault(alloc, &scope, Some(first))?;
         // How many faults are looked at.
         let most = (MOST_READ / asked.text.len().max(1)).max(MOST_NAMED);
         for _ in 0..most {
-            let Some(next) = next_fault(alloc, &scope, Some(found))? else {
-                return Ok(all);
+            let Some(found) = next else {
+                break;
             };
-            found = next;
             let place = FaultPlace::of(alloc, asked, &scope, found.at)?;
             if told.add(&place, found) {
                 all.add(&place, found)?;
             }
+            next = next_fault(alloc, &scope, Some(found))?;
         }
-        all.is_cut = next_fault(alloc, &scope, Some(found))?.is_some();
+        all.is_cut = next.is_some();
         Ok(all)
     }
 

@@ -3,14 +3,13 @@
 use explaincures::Advice;
 use ilsource::Name;
 
-/// A row of what is said: what is wrong, what helps, and lines of another text.
+/// A row of what is said, as one text ([`Advice::of`]).
+pub(crate) type Row = &'static str;
+
+/// A row of these parts.
 macro_rules! advice {
     ($what:literal; $cure:literal; $line:literal) => {
-        Advice {
-            what: $what,
-            cure: $cure,
-            line: $line,
-        }
+        concat!($what, "|", $cure, "|", $line)
     };
 }
 
@@ -68,9 +67,9 @@ impl Slot {
 
 impl Said {
     /// What a row says, and nothing else.
-    pub(crate) fn of(row: Advice) -> Said {
+    pub(crate) fn of(row: Row) -> Said {
         Said {
-            row,
+            row: Advice::of(row),
             facts: "",
             slots: [Slot::Nothing; 3],
             at: 0,
@@ -103,4 +102,9 @@ impl Said {
             ..self
         }
     }
+}
+
+/// What stands before the first `|` of a row, and what stands behind it.
+pub(crate) fn parted(row: Row) -> (Row, Row) {
+    row.split_once('|').unwrap_or((row, ""))
 }

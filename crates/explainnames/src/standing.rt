@@ -1,5 +1,7 @@
 //! What stands at a place of a text.
 
+ghost use Rattle.std.specs.Prelude.{◌≡◌, IfOk};
+
 use crate::tokens::what_at;
 use explaincures::{AskedText, Spot, Surroundings};
 use ilblocks::BlockKind;
@@ -31,7 +33,9 @@ impl<'a, 's> FaultPlace<'a, 's> {
         asked: &'a AskedText<'a>,
         scope: &'a Scope<'s>,
         at: usize,
-    ) -> Result<FaultPlace<'a, 's>, AllocError> {
+    ) -> Result<FaultPlace<'a, 's>, AllocError>
+        ensures { IfOk result (λ place. place.asked.now ≡ asked.now) }
+    {
         let used = used_at(alloc, lines_at(scope.source(), at), at)?;
         Ok(FaultPlace {
             alloc,
@@ -53,14 +57,22 @@ impl<'a, 's> FaultPlace<'a, 's> {
 
     /// For what a line uses the word at the place, if it does.
     pub(crate) fn purpose(&self) -> Option<Purpose> {
-        Some(self.used?.purpose)
+        match &self.used {
+            Some(used) => Some(used.purpose),
+            None => None,
+        }
     }
 
     /// What a line names by the word at the place.
     pub(crate) fn symbol(&self) -> Option<Symbol> {
-        match self.used?.operand {
-            Operand::Name(symbol) => Some(symbol),
-            Operand::Constant(_) => None,
+        match &self.used {
+            Some(
+                Use {
+                    operand: Operand::Name(symbol),
+                    ..
+                },
+            ) => Some(*symbol),
+            _ => None,
         }
     }
 

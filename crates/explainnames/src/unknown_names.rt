@@ -2,14 +2,15 @@
 //! where they stand, as ports, blocks, global variables and types.
 
 use crate::name_habits::{is_among, name_habit};
-use crate::said::{Change, Said, Slot, advice};
+use crate::said::{Change, Row, Said, Slot, advice};
 use crate::standing::{FaultPlace, lines_at};
 use crate::tokens::{Token, token_at, type_behind};
-use explaincures::{Advice, Spot, content_len};
+use explaincures::{Spot, content_len, part};
 use ilsource::{Declared, Name, Purpose, Specification};
 use iltokens::Keyword;
 
-/// What is said of a name that is not declared.
+/// What is said of a name that is not declared. Where nothing else is known of it, another one may
+/// be near.
 pub(crate) fn said_of_unknown(place: &FaultPlace) -> Said {
     let spot = &place.spot;
     let is_alone = content_len(spot.rest()) == spot.token().len();
@@ -19,25 +20,30 @@ pub(crate) fn said_of_unknown(place: &FaultPlace) -> Said {
         return habitual(place, word, row);
     }
     let said = Said::of(unknown(place)).with_change(Change::Near);
-    if place.used.is_none() {
-        return said;
+    match place.used {
+        Some(_) => said_in_line(place, is_alone).unwrap_or(said),
+        None => said,
     }
+}
+
+/// What is said of a name in a line of instructions, where more is known of it.
+fn said_in_line(place: &FaultPlace, is_alone: bool) -> Option<Said> {
     no_port(place)
         .or(other_kind(place))
         .or(of_function(place))
         .or(no_external(place))
-        .or(other_form(place))
+        .or(of_conversion(place))
+        .or(of_time(place))
         .or(blank_missing(place, is_alone))
         .or(of_result(place))
-        .unwrap_or(said)
 }
 
 /// What is said of a name that is not declared, where nothing else is known of it: another one may
 /// be near.
-fn unknown(place: &FaultPlace) -> Advice {
+fn unknown(place: &FaultPlace) -> Row {
     let (from, to) = place.around.before;
     match (place.purpose(), place.around.block_word()) {
-        (None, Some(_)) if place.spot.part(from, to) == b":".as_slice() => {
+        (None, Some(_)) if place.spot.part(from, to).eq_ignore_ascii_case(b":") => {
             advice!("a type that is not declared";
                 "correct the name, or declare the type above its use, in TYPE";
                 "TYPE Level : USINT (0..254); END_TYPE")
@@ -59,7 +65,7 @@ fn unknown(place: &FaultPlace) -> Advice {
                     function calls itself";
                 "FUNCTION half : INT (0..127)")
         }
-        (Some(_), _) if is_number_of_block(place) => advice!("a name that is not declared";
+        (Some(_), _) if is_number_of_block(&place.spot) => advice!("a name that is not declared";
             "correct or declare the name, or write a number: ADR is 0 to 63 for a short\n\
                 address, 64 to 79 for the groups 0 to 15, and 80 for all gear; CMD counts the\n\
                 commands of the block from 0";
@@ -82,56 +88,67 @@ fn unknown(place: &FaultPlace) -> Advice {
 }
 
 /// Whether the address or the command of a block that sends is given by what was found.
-fn is_number_of_block(place: &FaultPlace) -> bool {
-    let front = place.spot.front().trim_ascii_end();
+fn is_number_of_block(spot: &Spot) -> bool {
+    let front = spot.front().trim_ascii_end();
     let named = match front.strip_suffix(b":=".as_slice()) {
         Some(named) => named.trim_ascii_end(),
         None => return false,
     };
-    matches!(
-        named,
-        [.., b'A' | b'a', b'D' | b'd', b'R' | b'r'] | [.., b'C' | b'c', b'M' | b'm', b'D' | b'd']
-    )
+    let start = named.len().saturating_sub(3);
+    is_among("ADR,CMD", part(named, start, named.len()))
 }
 
 /// What is said of a name that other languages have, for which a word stands, if one does. Where no
 /// result stands before an instruction that has another word here, one of logic loads; where that
 /// is not plain, no line is tried.
-fn habitual(place: &FaultPlace, word: &'static str, row: Advice) -> Said {
-    if matches!(word, "S" | "R") && is_of_number(place) {
-        return Said::of(advice!("an instruction that has another word here";
-            "{0} acts on truth values alone, and a number stands behind it: load a\n\
-                number, and store it with ST";
-            "LD 0\nST lamp"))
-        .with_slots([Slot::Word(word); 3]);
+fn habitual(place: &FaultPlace, word: &'static str, row: Row) -> Said {
+    if is_among("S,R", word.as_bytes()) && is_of_number(place) {
+        return Said::of(OF_NUMBER).with_slots([Slot::Word(word); 3]);
     }
-    let before = word_before(place);
-    let load = match word {
-        "AND" | "OR" | "XOR" => "LD",
-        "ANDN" | "ORN" | "XORN" => "LDN",
-        _ => "",
-    };
-    let is_loaded = is_first(before) && !load.is_empty();
-    let is_plain = match word {
-        "" => false,
-        "LD" | "LDN" => is_first(before),
-        _ => load.is_empty() || is_first(before) || is_logic(before),
-    };
-    // A cure that names the word is that of an instruction, or a type, with another word here.
-    let is_named = row.cure.contains("{0}");
-    let said = if is_named && is_loaded {
-        Said::of(advice!("an instruction that has another word here";
-            "write {0}, since no result stands before it; else {1}";
-            "LD button\nANDN off\nST light"))
-        .with_slots([Slot::Word(load), Slot::Word(word), Slot::Nothing])
+    let (load, before) = (load_of(word), word_before(place));
+    // A row that names the word is that of an instruction, or a type, with another word here.
+    let is_named = row.contains("{0}");
+    let said = if is_named && !load.is_empty() && is_among(NO_RESULT, before) {
+        Said::of(LOADED).with_slots([Slot::Word(load), Slot::Word(word), Slot::Nothing])
     } else {
         Said::of(row).with_slots([Slot::Word(word); 3])
     };
-    if is_plain || !is_named && !word.is_empty() {
+    if is_plain(word, load, before) || !is_named && !word.is_empty() {
         said.with_change(Change::Put(place.spot.at, place.spot.found_to(), "{0}"))
     } else {
         said
     }
+}
+
+/// What is said of a word for S or R before a number.
+const OF_NUMBER: Row = advice!("an instruction that has another word here";
+    "{0} acts on truth values alone, and a number stands behind it: load a\n\
+        number, and store it with ST";
+    "LD 0\nST lamp");
+
+/// What is said of a word of logic where no result stands before it.
+const LOADED: Row = advice!("an instruction that has another word here";
+    "write {0}, since no result stands before it; else {1}";
+    "LD button\nANDN off\nST light");
+
+/// The word that loads in place of a word of logic; empty for another word.
+fn load_of(word: &str) -> &'static str {
+    if is_among("AND,OR,XOR", word.as_bytes()) {
+        "LD"
+    } else if is_among("ANDN,ORN,XORN", word.as_bytes()) {
+        "LDN"
+    } else {
+        ""
+    }
+}
+
+/// Whether a word plainly stands for what was found, behind a line that begins with `before`.
+fn is_plain(word: &str, load: &str, before: &[u8]) -> bool {
+    if word.is_empty() {
+        return false;
+    }
+    let is_free = load.is_empty() || is_among(TRUTHS, before);
+    is_among(NO_RESULT, before) || is_free && !is_among("LD,LDN", word.as_bytes())
 }
 
 /// Whether a number of the program stands behind what was found.
@@ -167,18 +184,11 @@ fn word_before<'a>(place: &FaultPlace<'a, '_>) -> &'a [u8] {
     }
 }
 
-/// Whether an instruction behind a line that begins so has no result that it goes on with.
-fn is_first(before: &[u8]) -> bool {
-    is_among(
-        "END_VAR,ST,STN,S,R,JMP,JMPC,JMPCN,CAL,CALC,CALCN,RET,RETC,RETCN",
-        before,
-    )
-}
+/// With what a line begins behind which an instruction has no result that it goes on with.
+const NO_RESULT: &str = "END_VAR,ST,STN,S,R,JMP,JMPC,JMPCN,CAL,CALC,CALCN,RET,RETC,RETCN";
 
-/// Whether a line that begins so leaves a truth value that logic goes on with.
-fn is_logic(before: &[u8]) -> bool {
-    is_among("LD,LDN,AND,ANDN,OR,ORN,XOR,XORN,NOT", before)
-}
+/// With what a line begins that leaves a truth value that logic goes on with.
+const TRUTHS: &str = "LD,LDN,AND,ANDN,OR,ORN,XOR,XORN,NOT";
 
 /// What is said of a name that is declared as something else.
 fn other_kind(place: &FaultPlace) -> Option<Said> {
@@ -207,44 +217,51 @@ fn other_kind(place: &FaultPlace) -> Option<Said> {
     Some(Said::of(row).put(spot.at, spot.at, word, Slot::Nothing))
 }
 
-/// What is said of a time without its sign, of a timer that is numbered, and of a conversion of
-/// truth values.
-fn other_form(place: &FaultPlace) -> Option<Said> {
-    let spot = &place.spot;
-    let (from, to) = (spot.at, spot.found_to());
-    let front = spot.part(from, from.saturating_add(8));
-    let end = spot.part(to.saturating_sub(8), to);
-    if front.eq_ignore_ascii_case(b"BOOL_TO_") || end.eq_ignore_ascii_case(b"_TO_BOOL") {
-        return Some(Said::of(advice!("there is no conversion from or to BOOL";
-            "a jump chooses a number by a truth value; a comparison, as NE 0, gives a\n\
-                truth value for a number";
-            "LD is_on\nJMPC bright\nLD 0\nJMP set\nbright: LD 254\nset: ST lamp")));
-    }
-    let [b'T' | b't', b'0'..=b'9', rest @ ..] = spot.token() else {
+/// What is said of a conversion from or to truth values.
+fn of_conversion(place: &FaultPlace) -> Option<Said> {
+    let (from, to) = (place.spot.at, place.spot.found_to());
+    let front = place.spot.part(from, from.saturating_add(8));
+    let end = place.spot.part(to.saturating_sub(8), to);
+    if !front.eq_ignore_ascii_case(b"BOOL_TO_") && !end.eq_ignore_ascii_case(b"_TO_BOOL") {
         return None;
-    };
-    for byte in rest {
-        if !matches!(
-            *byte,
-            b'0'..=b'9' | b'_' | b'D' | b'd' | b'H' | b'h' | b'M' | b'm' | b'S' | b's'
-        ) {
-            return None;
+    }
+    Some(Said::of(advice!("there is no conversion from or to BOOL";
+        "a jump chooses a number by a truth value; a comparison, as NE 0, gives a\n\
+            truth value for a number";
+        "LD is_on\nJMPC bright\nLD 0\nJMP set\nbright: LD 254\nset: ST lamp")))
+}
+
+/// What is said of a time without its sign, and of a timer that is numbered.
+fn of_time(place: &FaultPlace) -> Option<Said> {
+    let (from, to) = (place.spot.at, place.spot.found_to());
+    match place.spot.token() {
+        word if !is_time(word) => None,
+        [.., b'0'..=b'9'] => Some(Said::of(NUMBERED).with_change(Change::Near)),
+        _ => {
+            let row = advice!("a time without its #"; "a time begins with T#"; "T#100ms");
+            let time = Slot::Part(from.saturating_add(1), to);
+            Some(Said::of(row).put(from, to, "T#{0}", time))
         }
     }
-    Some(if matches!(rest, [] | [.., b'0'..=b'9']) {
-        Said::of(advice!("a timer as other languages have it";
-            "a timer is an instance of TON with a name, which CAL calls; FALSE at its IN\n\
-                resets it";
-            "VAR rest : TON; END_VAR\nCAL rest(IN := pressed, PT := T#3m)\nLD rest.Q"))
-        .with_change(Change::Near)
-    } else {
-        Said::of(advice!("a time without its #"; "a time begins with T#"; "T#100ms")).put(
-            from,
-            to,
-            "T#{0}",
-            Slot::Part(from.saturating_add(1), to),
-        )
-    })
+}
+
+/// What is said of a timer that is numbered.
+const NUMBERED: Row = advice!("a timer as other languages have it";
+    "a timer is an instance of TON with a name, which CAL calls; FALSE at its IN\n\
+        resets it";
+    "VAR rest : TON; END_VAR\nCAL rest(IN := pressed, PT := T#3m)\nLD rest.Q");
+
+/// Whether a word is a T, a digit, and then digits and signs of times alone.
+fn is_time(word: &[u8]) -> bool {
+    let [b'T' | b't', b'0'..=b'9', rest @ ..] = word else {
+        return false;
+    };
+    for byte in rest {
+        if !byte.is_ascii_digit() && !b"_DHMS".contains(&byte.to_ascii_uppercase()) {
+            return false;
+        }
+    }
+    true
 }
 
 /// What is said of an instruction with its operand right behind it, a number or a name of the
@@ -254,16 +271,10 @@ fn blank_missing(place: &FaultPlace, is_alone: bool) -> Option<Said> {
     if !is_alone || spot.first_word() != spot.token() {
         return None;
     }
-    let Name { from, to } = place.name();
     let words = "LDN,LD,STN,ST,ANDN,AND,ORN,OR,XORN,XOR,ADD,SUB,MUL,DIV,MOD,GT,GE,EQ,NE,LE,LT";
     for word in words.split(',') {
-        let behind = from.saturating_add(word.len());
-        let operand = Name { from: behind, to };
-        let is_word = spot
-            .part(from, behind)
-            .eq_ignore_ascii_case(word.as_bytes());
-        let is_number = matches!(spot.part(behind, to), [b'0'..=b'9', ..]);
-        if is_word && (is_number || place.declared_as(operand).is_some()) {
+        let behind = spot.at.saturating_add(word.len());
+        if is_joined(place, word, behind) {
             let row = advice!("a blank is missing behind {0}";
                 "an instruction and its operand have a blank between them";
                 "LD lamp");
@@ -271,6 +282,20 @@ fn blank_missing(place: &FaultPlace, is_alone: bool) -> Option<Said> {
         }
     }
     None
+}
+
+/// Whether what was found begins with a word, behind which an operand stands.
+fn is_joined(place: &FaultPlace, word: &str, behind: usize) -> bool {
+    let spot = &place.spot;
+    if !is_among(word, spot.part(spot.at, behind)) {
+        return false;
+    }
+    let operand = Name {
+        from: behind,
+        to: spot.found_to(),
+    };
+    let is_number = matches!(spot.part(behind, operand.to), [b'0'..=b'9', ..]);
+    is_number || place.declared_as(operand).is_some()
 }
 
 /// What is said of a function's result by a name that other languages have for it.

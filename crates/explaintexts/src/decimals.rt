@@ -1,11 +1,11 @@
 //! Numbers with a fraction or an exponent, in whole numbers.
 
-use crate::bytes::{count_of_digits, place_of_any};
 use crate::habit_rows::FRACTION;
-use crate::said::{Place, Said, advice};
-use explaincures::{Advice, Spot, content_len, part};
+use crate::said::{Row, Said, advice};
+use explaincures::{Spot, content_len, part};
+use explainpatterns::{Place, count_of_digits, place_of_any};
 
-const WHOLE: Advice = advice!("a whole number with a dot or an exponent";
+const WHOLE: Row = advice!("a whole number with a dot or an exponent";
     "write it in digits alone: there are no fractions and no exponents";
     "LD 1000");
 

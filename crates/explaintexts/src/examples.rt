@@ -1,13 +1,8 @@
 //! What stands at a place where nothing is wrong: how it is written, and lines as they read.
 
 use explaincures::{Spot, Surroundings, is_one_of, part};
+use explainpatterns::{CALLS, JUMPS};
 use iltokens::{Keyword, Lexed, What, token};
-
-/// Words that begin a call of a block.
-const CALLS: &[&str] = &["CAL", "CALC", "CALCN"];
-
-/// Words that begin a jump.
-pub(crate) const JUMPS: &[&str] = &["JMP", "JMPC", "JMPCN"];
 
 /// A task and an instance of a program.
 const BOTH: &str =
@@ -138,10 +133,4 @@ fn has_word(text: &[u8], word: Keyword) -> bool {
         }
     }
     false
-}
-
-/// Whether the inputs of a call of a block stand there.
-pub(crate) fn is_in_call(spot: &Spot, around: &Surroundings) -> bool {
-    let is_call = |open: usize| is_one_of(Spot::of(spot.text, open).first_word(), CALLS);
-    around.is_in_body() && around.parenthesis.is_some_and(is_call)
 }

@@ -1,10 +1,14 @@
 //! What is said in words: slots are filled, and changes are tried.
 
-use crate::said::{Change, Said, Standing, Trial};
+ghost use Rattle.std.specs.Prelude.{IfOk, IfSome, IsTrue};
+ghost use Rattle.explaincures.specs.Trying.{IsCure, ReadsOn, ShowsCure};
+
+use crate::said::{Change, Said, Trial};
 use explaincures::{
-    AskedText, Edit, EditOutcome, Example, FaultAnswer, Spot, in_place_of_sign, left_out, part,
-    shown_text,
+    AskedText, Edit, EditOutcome, Example, FaultAnswer, Side, Spot, in_place_of_sign, left_out,
+    part, shown_text,
 };
+use explainpatterns::Standing;
 use iltokens::Keyword;
 use std::alloc::{AllocError, Global};
 
@@ -13,7 +17,11 @@ pub(crate) fn first_answer(
     alloc: Global,
     standing: &Standing,
     candidates: &[Option<Said>],
-) -> Result<Option<FaultAnswer>, AllocError> {
+) -> Result<Option<FaultAnswer>, AllocError>
+    ensures { let asked = standing.now.asked.now in
+        IfOk result (λ found. IfSome found
+        (ShowsCure asked.binding.now asked.text.now standing.now.line ReadsOn)) }
+{
     for candidate in candidates {
         if let Some(said) = candidate {
             let answer = said.answer(alloc, standing)?;
@@ -32,11 +40,15 @@ impl Said {
         &self,
         alloc: Global,
         standing: &Standing,
-    ) -> Result<Option<FaultAnswer>, AllocError> {
+    ) -> Result<Option<FaultAnswer>, AllocError>
+        ensures { let asked = standing.now.asked.now in
+            IfOk result (λ found. IfSome found
+            (ShowsCure asked.binding.now asked.text.now standing.now.line ReadsOn)) }
+    {
         match self.cure(alloc, standing)? {
             Some(edit) => {
                 let answer = self.plain(alloc, standing)?;
-                Ok(Some(answer.with_tried(alloc, standing.spot.text, &edit)?))
+                Ok(Some(answer.with_change(edit)))
             }
             None if self.row.line.is_empty() => Ok(None),
             None => Ok(Some(self.plain(alloc, standing)?)),
@@ -48,7 +60,10 @@ impl Said {
         &self,
         alloc: Global,
         standing: &Standing,
-    ) -> Result<FaultAnswer, AllocError> {
+    ) -> Result<FaultAnswer, AllocError>
+        ensures { let asked = standing.now.asked.now in
+            IfOk result (ShowsCure asked.binding.now asked.text.now standing.now.line ReadsOn) }
+    {
         let text = standing.spot.text;
         Ok(FaultAnswer {
             what: shown_text(alloc, &self.fill(alloc, text, self.row.what, 0)?)?,
@@ -64,22 +79,26 @@ impl Said {
         &self,
         alloc: Global,
         standing: &Standing,
-    ) -> Result<Option<Edit>, AllocError> {
+    ) -> Result<Option<Edit>, AllocError>
+        ensures { let asked = standing.now.asked.now in
+            IfOk result (λ found. IfSome found
+            (IsCure asked.binding.now asked.text.now standing.now.line ReadsOn)) }
+    {
         let Some(edit) = self.edit(alloc, &standing.spot)? else {
             return Ok(None);
         };
-        let is_whole = self.trial == Trial::Text;
-        if !is_whole && !self.is_read(alloc, standing, &edit)? {
+        if self.trial != Trial::Text && !self.is_read(alloc, standing, &edit)? {
             return Ok(None);
         }
-        match edit.outcome(alloc, standing.asked)? {
-            EditOutcome::Text if is_whole => Ok(None),
-            EditOutcome::Text if !edit.with.is_empty() && is_misnamed(alloc, standing, &edit)? => {
-                Ok(None)
-            }
-            EditOutcome::Name { is_there: true, .. } if !is_whole => Ok(None),
-            _ => Ok(Some(edit)),
+        let outcome = edit.outcome(alloc, standing.asked, standing.line)?;
+        let is_cut = matches!(outcome, EditOutcome::Text(_) | EditOutcome::Ended);
+        if !is_cure(outcome, self.trial) {
+            return Ok(None);
         }
+        if is_cut && !edit.with.is_empty() && is_misnamed(alloc, standing, &edit)? {
+            return Ok(None);
+        }
+        Ok(Some(edit))
     }
 
     /// Whether the lines read with a change.
@@ -159,6 +178,20 @@ impl Said {
     }
 }
 
+/// Whether what stands against a text with a change, as far as it was tried, is no more what stood
+/// there.
+fn is_cure(outcome: EditOutcome, trial: Trial) -> bool
+    ensures { IsTrue result → ReadsOn outcome }
+{
+    let is_whole = trial == Trial::Text;
+    match outcome {
+        EditOutcome::Ended | EditOutcome::Text(Side::Behind) => !is_whole,
+        EditOutcome::Text(_) => false,
+        EditOutcome::Name(side) => is_whole || !matches!(side, Side::There),
+        EditOutcome::Accepted | EditOutcome::Code { .. } => true,
+    }
+}
+
 /// Whether names are at fault on the lines of a change, where the text has another fault behind it:
 /// the program or the function that is open is read as if it ended there.
 fn is_misnamed(alloc: Global, standing: &Standing, edit: &Edit) -> Result<bool, AllocError> {
@@ -166,6 +199,7 @@ fn is_misnamed(alloc: Global, standing: &Standing, edit: &Edit) -> Result<bool, 
         asked,
         spot,
         around,
+        ..
     } = standing;
     let end = match around.unit_word() {
         Some(Keyword::Program) if around.is_in_body() => "\nEND_PROGRAM\n",
@@ -181,8 +215,8 @@ fn is_misnamed(alloc: Global, standing: &Standing, edit: &Edit) -> Result<bool, 
         binding: asked.binding,
         is_bound: asked.is_bound,
     };
-    let outcome = edit.outcome(alloc, &cut)?;
-    Ok(matches!(outcome, EditOutcome::Name { is_there: true, .. }))
+    let outcome = edit.outcome(alloc, &cut, standing.line)?;
+    Ok(matches!(outcome, EditOutcome::Name(Side::There)))
 }
 
 /// Adds some bytes the given number of times.

@@ -1,51 +1,50 @@
 //! What people write who come from other languages: what is said of it, and how it is changed.
 
-use crate::habit::{Fix, Habit, Region, habits};
+use crate::habit::{Habit, habits};
 use crate::near_rows::{near_declarations, near_instructions, siemens_rows, word_rows};
-use crate::said::advice;
-use explaincures::Advice;
+use crate::said::{Row, advice};
 
-pub(crate) const BASED: Advice = advice!("a number of another base as other languages have it";
+pub(crate) const BASED: Row = advice!("a number of another base as other languages have it";
     "write 16# before hexadecimal digits, 8# before octal and 2# before binary ones";
     "LD 16#C8");
 
-pub(crate) const DOTTED: Advice = advice!("a time with a fraction";
+pub(crate) const DOTTED: Row = advice!("a time with a fraction";
     "write whole numbers with the units d, h, m, s and ms, in this order";
     "T#1s500ms");
 
-pub(crate) const FRACTION: Advice = advice!("a number with a fraction";
+pub(crate) const FRACTION: Row = advice!("a number with a fraction";
     "there are whole numbers alone: a multiplication and then a division stand\n\
         for a fraction";
     "MUL 35\nDIV 10");
 
-pub(crate) const GROUPED: Advice = advice!("a number with a dot or a comma in it";
+pub(crate) const GROUPED: Row = advice!("a number with a dot or a comma in it";
     "digits stand together, or with _ between them: a thousand is 1000 or 1_000,\n\
         and one is 1";
     "LD 1_000");
 
-pub(crate) const LOGIC_SIGN: Advice = advice!("a sign that is not an operator";
+pub(crate) const LOGIC_SIGN: Row = advice!("a sign that is not an operator";
     "operators are words, each on a line of its own: EQ, NE, GT, GE, LE and LT\n\
         compare, ADD, SUB, MUL, DIV and MOD calculate";
     "GT 100");
 
-pub(crate) const NESTED_COMMENT: Advice = advice!("a comment in a comment";
+pub(crate) const NESTED_COMMENT: Row = advice!("a comment in a comment";
     "a comment ends at the first *) behind its (*: leave the inner one out";
     "(* the stairs *)");
 
-const NAMED: Advice = advice!("an address where a name is asked for";
+const NAMED: Row = advice!("an address where a name is asked for";
     "give the address a name in VAR_GLOBAL, and write that name";
     "VAR_GLOBAL lamp AT %QB0.5 : USINT (0..254); END_VAR");
 
-pub(crate) const PERCENT: Advice = advice!("a percent sign";
+pub(crate) const PERCENT: Row = advice!("a percent sign";
     "a share of a value is a multiplication, and then a division; a level is a\n\
         number of 0 to 254";
     "MUL 50\nDIV 100");
 
-pub(crate) const TRUTH_SIGN: Advice = advice!("a sign that is not an operator";
+pub(crate) const TRUTH_SIGN: Row = advice!("a sign that is not an operator";
     "operators are words: AND, OR, XOR and NOT combine truth values";
     "OR button");
 
-const UNIT: Advice = advice!("a time without T# before it";
+const UNIT: Row = advice!("a time without T# before it";
     "a time begins with T#";
     "T#100ms");
 
@@ -56,29 +55,29 @@ const QUOTES: &[Habit] = habits! {
         "PROGRAM stairs") =>
         Anywhere "@ {}" ["\r"] Nothing;
     BASED =>
-        Anywhere "<< {other} @ [ {} ] ~{hex}" ["$", "&h"] Put("16#");
+        Anywhere "<< {other} @ [ {} ] ~{hex}" ["$ &h"] Put("16#");
     advice!("a time with a sign";
         "a time has no sign: it says how long something lasts, from T#0s on";
         "T#5s") =>
-        Anywhere "_@ -t#" Nothing, Anywhere "# {} ~{signed}" ["t#", "time#"] Nothing;
+        Anywhere "_@ -t#" Nothing, Anywhere "# {} ~{signed}" ["t# time#"] Nothing;
     advice!("a time with a blank in it"; "a time has no blanks"; "T#1s500ms") =>
         Anywhere "< [ {time} @ {digit} ]" Put("{0}{1}"),
-        Anywhere "< {} ~@ {} [ _{value} ]" ["t", "time", "#"] Put("{2}");
+        Anywhere "< {} ~@ {} [ _{value} ]" ["t time #"] Put("{2}");
     advice!("a rung of a ladder diagram";
         "LD loads the first contact, AND takes the next one in its row, OR that of a\n\
             branch, with an N where it is closed at rest; ST is the coil";
         "LD button\nANDN off\nST light") =>
-        Anywhere "@ {}" ["--|", "--[", "--(", "|--", "[--", "|-|", "-|", "-["] Nothing;
+        Anywhere "@ {}" ["--| --[ --( |-- [-- |-| -| -["] Nothing;
     advice!("a comment as other languages have it";
         "a comment begins with (* and ends with *)";
         "(* the stairs *)") =>
         Anywhere "@ [ {remark} ]" Put("(* {0} *)"),
         Anywhere "@ (plain) [ {braced} ]" Put("(* {0} *)"),
-        Anywhere "@ [ {} {rest} ]" ["//", "--"] Put("(* {1} *)"),
+        Anywhere "@ [ {} {rest} ]" ["// --"] Put("(* {1} *)"),
         Anywhere "_@ [ {} _{rest} ]" ["#"] Put("(* {1} *)"),
         Anywhere "_@ [ {} (sole) {rest} ]" ["'"] Put("(* {1} *)"),
         Anywhere "^ @ [ {} {rest} ]" ["#"] Put("(* {1} *)"),
-        Anywhere "@ {}" ["//", "/*", "--"] Nothing, Anywhere "@ (plain) {}" ["{"] Nothing;
+        Anywhere "@ {}" ["// /* --"] Nothing, Anywhere "@ (plain) {}" ["{"] Nothing;
     advice!("# before a name"; "write the name alone"; "LD level") =>
         Anywhere "_@ [ {} ] ~{name}" ["#"] Put("");
     NESTED_COMMENT =>
@@ -98,7 +97,7 @@ const QUOTES: &[Habit] = habits! {
     advice!("a text in quotes";
         "there are truth values, whole numbers and times alone: write a number";
         "LD 5") =>
-        Anywhere "@ {}" ["'", "\""] Nothing;
+        Anywhere "@ {}" ["' \""] Nothing;
 };
 
 /// Statements of other languages.
@@ -108,20 +107,20 @@ const STATEMENTS: &[Habit] = habits! {
             the result is TRUE, JMPCN where it is FALSE";
         "LD lamp\nEQ 0\nJMPCN below") =>
         Anywhere "@ then" Nothing,
-        Anywhere "^ {}" ["if", "elsif", "end_if", "case", "end_case"] Nothing;
+        Anywhere "^ {}" ["if elsif end_if case end_case"] Nothing;
     advice!("a loop";
         "jumps lead forward alone: what is to be done again is done in the next scan";
         "LD count\nADD 1\nST count") =>
-        Anywhere "^ {}" ["for", "end_for", "while", "end_while", "repeat", "end_repeat", "until"]
+        Anywhere "^ {}" ["for end_for while end_while repeat end_repeat until"]
         Nothing;
     advice!("a value behind S or R";
         "they take the name alone: where the current result is TRUE, S stores TRUE and\n\
             R stores FALSE";
         "LD button\nS lamp") =>
-        Body "^ s {value} [ @ {} true ;? $ ]" [":=", "="] Put(""),
-        Body "^ r {value} [ @ {} false ;? $ ]" [":=", "="] Put(""),
-        Body "^ s {value} @ {}" [":=", "=", "true", "false"] Nothing,
-        Body "^ r {value} @ {}" [":=", "=", "true", "false"] Nothing;
+        Body "^ s {value} [ @ {} true ;? $ ]" [":= ="] Put(""),
+        Body "^ r {value} [ @ {} false ;? $ ]" [":= ="] Put(""),
+        Body "^ s {value} @ {}" [":= = true false"] Nothing,
+        Body "^ r {value} @ {}" [":= = true false"] Nothing;
     advice!("an assignment of Structured Text";
         "load the value, and store it: each instruction has a line of its own";
         "LD lux\nLT 30\nAND door\nST light") =>
@@ -155,12 +154,12 @@ const DECLARATIONS: &[Habit] = habits! {
     advice!("VAR apart from its word";
         "write both as one word, with _ between them";
         "VAR_EXTERNAL lamp : USINT (0..254); END_VAR") =>
-        Variables "% var [ _ ] {} @ {name}" ["external", "input", "global"] Put("_"),
-        Anywhere "@ [ var _ ] {}" ["external", "input", "global"] Put("VAR_");
+        Variables "% var [ _ ] {} @ {name}" ["external input global"] Put("_"),
+        Anywhere "@ [ var _ ] {}" ["external input global"] Put("VAR_");
     advice!("variables behind the first instruction";
         "declare all of them above it, behind the line of PROGRAM or FUNCTION";
         "PROGRAM hall\nVAR count : UINT; END_VAR\nLD count") =>
-        Body "@ {}" ["var", "var_external"] Nothing;
+        Body "@ {}" ["var var_external"] Nothing;
     advice!("an address for several names";
         "an address belongs to one name: give each name a declaration of its own";
         "lamp AT %QB0.5 : USINT (0..254); lamp2 AT %QB0.6 : USINT (0..254);") =>
@@ -212,11 +211,11 @@ const LINES: &[Habit] = habits! {
         "a port stands behind the name of its instance and a dot";
         "LD rest.Q") =>
         Body "^ @ . ~{name}" Loaded, Body "<< ) @ . ~{name}" Loaded,
-        Anywhere "_@ {}" [".q", ".et", ".cv"] Nothing;
+        Anywhere "_@ {}" [".q .et .cv"] Nothing;
     advice!("a port behind CAL";
         "CAL takes the name of an instance, and its inputs in parentheses; LD loads a port";
         "CAL edge(CLK := button)\nLD edge.Q") =>
-        Body "^ {} {name} @ ." ["cal", "calc", "calcn"] Nothing;
+        Body "^ {} {name} @ ." ["cal calc calcn"] Nothing;
     advice!("parentheses behind a port"; "a port is no call: leave them out"; "LD rest.Q") =>
         Body "<< {ported} @ [ () ]" Put("");
     advice!("two dots before a port"; "a port stands behind one dot"; "LD rest.Q") =>
@@ -235,16 +234,15 @@ const LINES: &[Habit] = habits! {
     advice!("a block where an instance of it is asked for";
         "declare an instance of the block in VAR, and write its name";
         "VAR rest : TON; END_VAR\nCAL rest(IN := pressed, PT := T#3m)") =>
-        Body "@ {}" ["ton", "ctu", "r_trig"] Nothing;
+        Body "@ {}" ["ton ctu r_trig"] Nothing;
     advice!("a parenthesis as Siemens' lists have it";
         "write AND(, ANDN(, OR(, ORN( or XOR( with the first operand behind it";
         "LD button\nAND( light\nOR other\n)") =>
-        Anywhere "^ {} @ (" ["u", "un", "a", "an", "o", "x", "xn"] Nothing;
+        Anywhere "^ {} @ (" ["u un a an o x xn"] Nothing;
     advice!("END apart from its word";
         "write both as one word, with _ between them";
         "END_PROGRAM") =>
-        Anywhere "<< end [ @ ] {}" ["program", "function", "var", "type", "resource",
-            "configuration"] Put("_");
+        Anywhere "<< end [ @ ] {}" ["program function var type resource configuration"] Put("_");
 };
 
 /// Calls, parentheses and expressions.
@@ -263,8 +261,8 @@ const CALLS: &[Habit] = habits! {
         "their operands stand behind the word, without a parenthesis; what is computed\n\
             has to be stored before";
         "LIMIT 0, 200") =>
-        Anywhere "< {} [ @ {inner} ]" ["limit", "min", "max"] Put(" {1}"),
-        Anywhere "<< {} @ (" ["limit", "min", "max"] Nothing;
+        Anywhere "< {} [ @ {inner} ]" ["limit min max"] Put(" {1}"),
+        Anywhere "<< {} @ (" ["limit min max"] Nothing;
     advice!("parentheses around an operand";
         "write the operand alone: a parenthesis stands behind an operator of two values";
         "LD button") =>
@@ -277,8 +275,7 @@ const CALLS: &[Habit] = habits! {
         "an input takes a variable, a port or a value: compute before the call, and\n\
             store to the input";
         "LD pressed\nAND door\nST rest.IN\nCAL rest(PT := T#3m)") =>
-        Call "@ {}" ["and", "or", "xor", "not", "add", "sub", "mul", "div", "mod", "&", "=", "<", ">",
-        "*", "/", "+", "-"] Nothing;
+        Call "@ {}" ["and or xor not add sub mul div mod & = < > * / + -"] Nothing;
     advice!("there are no enumerations";
         "give each state a number, and say in a comment what it means";
         "state : USINT (0..2);  (* off, low, high *)") =>
@@ -336,12 +333,12 @@ const OPERANDS: &[Habit] = habits! {
         "a return stands alone on its line; a function gives what was stored to its own\n\
             name";
         "ST half\nRET") =>
-        Body "< {} @ {operand}" ["ret", "retc", "retcn"] Nothing;
+        Body "< {} @ {operand}" ["ret retc retcn"] Nothing;
     advice!("a function that shares variables";
         "a function sees its inputs and its own variables alone: the call hands in what\n\
             it needs";
         "VAR_INPUT level, most : USINT (0..254); END_VAR") =>
-        Function "@ {}" ["var_external", "var_global"] Nothing;
+        Function "@ {}" ["var_external var_global"] Nothing;
 };
 
 /// Signs that stand for a comparison or a calculation, numbers and times.
@@ -352,35 +349,35 @@ const NUMBERS: &[Habit] = habits! {
     BASED =>
         Anywhere "# [ {} ]" ["0x"] Put("16#"), Anywhere "# [ {} ]" ["0b"] Put("2#");
     DOTTED =>
-        Anywhere "# {} ~{whole} [ ~. ~{1} ~s ]" ["t#", "time#"] Put("s{2}00ms"),
-        Anywhere "# {} ~{whole} [ ~. ~{2} ~s ]" ["t#", "time#"] Put("s{2}0ms"),
-        Anywhere "# {} ~{whole} [ ~. ~{3} ~s ]" ["t#", "time#"] Put("s{2}ms"),
-        Anywhere "# (dotted) {}" ["t#", "time#"] Nothing,
-        Anywhere "# {} ~{value} ~, ~{digit}" ["t#", "time#"] Nothing;
+        Anywhere "# {} ~{whole} [ ~. ~{1} ~s ]" ["t# time#"] Put("s{2}00ms"),
+        Anywhere "# {} ~{whole} [ ~. ~{2} ~s ]" ["t# time#"] Put("s{2}0ms"),
+        Anywhere "# {} ~{whole} [ ~. ~{3} ~s ]" ["t# time#"] Put("s{2}ms"),
+        Anywhere "# (dotted) {}" ["t# time#"] Nothing,
+        Anywhere "# {} ~{value} ~, ~{digit}" ["t# time#"] Nothing;
     advice!("a time with no unit, or with another one";
         "behind each number stands one of the units d, h, m, s and ms, in this order";
         "T#1m30s") =>
-        Anywhere "# (unitless) {}" ["t#", "time#"] Nothing,
-        Anywhere "# {digits} ~{}" ["min", "sec"] Nothing;
+        Anywhere "# (unitless) {}" ["t# time#"] Nothing,
+        Anywhere "# {digits} ~{}" ["min sec"] Nothing;
     advice!("a number with a type before it";
         "write the number alone: it takes the type of what it goes to";
         "LD 5") =>
-        Anywhere "# [ {} ]" ["l#", "b#", "w#", "dw#", "int#", "usint#", "udint#", "uint#", "sint#",
-        "dint#", "byte#", "word#"] Put("");
+        Anywhere "# [ {} ]"
+            ["l# b# w# dw# int# usint# udint# uint# sint# dint# byte# word#"] Put("");
     advice!("a truth value with a type before it"; "write TRUE or FALSE alone"; "LD TRUE") =>
-        Anywhere "# [ {} ]" ["bool#1", "bool#true"] Put("TRUE"),
-        Anywhere "# [ {} ]" ["bool#0", "bool#false"] Put("FALSE"), Anywhere "# {}" ["bool#"] Nothing;
+        Anywhere "# [ {} ]" ["bool#1 bool#true"] Put("TRUE"),
+        Anywhere "# [ {} ]" ["bool#0 bool#false"] Put("FALSE"), Anywhere "# {}" ["bool#"] Nothing;
     FRACTION =>
-        Anywhere "# {}" ["real#", "lreal#"] Nothing;
+        Anywhere "# {}" ["real# lreal#"] Nothing;
     PERCENT =>
         Anywhere "@ {} _" ["%"] Nothing, Anywhere "@ {} $" ["%"] Nothing;
     UNIT =>
-        Anywhere "< [ {number} @ {} ] (closed)" ["ms", "s", "m", "h", "d"] Put("T#{0}{1}"),
-        Anywhere "< [ {number} @ {} ] (closed)" ["min", "mins", "minute", "minutes"] Put("T#{0}m"),
-        Anywhere "< [ {number} @ {} ] (closed)" ["sec", "secs", "second", "seconds"] Put("T#{0}s"),
-        Anywhere "< [ {number} @ {} ] (closed)" ["hour", "hours"] Put("T#{0}h"),
-        Anywhere "# [ ] {digits} ~{}" ["ms", "s", "m", "h", "d"] Put("T#"),
-        Anywhere "# [ {} ]" ["s5time#", "s5t#"] Put("T#");
+        Anywhere "< [ {number} @ {} ] (closed)" ["ms s m h d"] Put("T#{0}{1}"),
+        Anywhere "< [ {number} @ {} ] (closed)" ["min mins minute minutes"] Put("T#{0}m"),
+        Anywhere "< [ {number} @ {} ] (closed)" ["sec secs second seconds"] Put("T#{0}s"),
+        Anywhere "< [ {number} @ {} ] (closed)" ["hour hours"] Put("T#{0}h"),
+        Anywhere "# [ ] {digits} ~{}" ["ms s m h d"] Put("T#"),
+        Anywhere "# [ {} ]" ["s5time# s5t#"] Put("T#");
     advice!("a value where a name is asked for";
         "what stores takes the name of a variable: the value is loaded on the line\n\
             before";
@@ -405,24 +402,24 @@ const ADDRESSES: &[Habit] = habits! {
         "leave it out: each variable keeps its value from scan to scan, and over a\n\
             restart where `dalictl live` has --keep FILE";
         "VAR count : UINT; END_VAR") =>
-        Variables "<< (first) [ {} * ] @" ["retain", "non_retain", "persistent"] Put("");
+        Variables "<< (first) [ {} * ] @" ["retain non_retain persistent"] Put("");
     advice!("there is no CONSTANT";
         "leave it out: a variable that nothing stores to keeps its first value";
         "VAR most : USINT := 200; END_VAR") =>
-        Variables "<< (first) [ {} * ] @" ["constant", "const"] Put("");
+        Variables "<< (first) [ {} * ] @" ["constant const"] Put("");
     advice!("a function block of your own";
         "write a program that has an instance for each, or a FUNCTION, which keeps\n\
             nothing";
         "PROGRAM corridor") =>
-        Anywhere "@ {}" ["function_block", "end_function_block"] Nothing;
+        Anywhere "@ {}" ["function_block end_function_block"] Nothing;
     advice!("a block of variables that this language does not have";
         "a function gives its result by its own name; a program shares variables of\n\
             VAR_GLOBAL, each named in VAR_EXTERNAL";
         "VAR_EXTERNAL lamp : USINT (0..254); END_VAR") =>
-        Anywhere "@ {}" ["var_output", "var_in_out"] Nothing,
-        Anywhere "^ {}" ["var_output", "var_in_out"] Nothing, Anywhere "^ [ var_temp ]" Put("VAR"),
-        Anywhere "& {}" ["var_output", "var_in_out"] Nothing,
-        Variables "% var {} @ {name}" ["output", "in_out"] Nothing;
+        Anywhere "@ {}" ["var_output var_in_out"] Nothing,
+        Anywhere "^ {}" ["var_output var_in_out"] Nothing, Anywhere "^ [ var_temp ]" Put("VAR"),
+        Anywhere "& {}" ["var_output var_in_out"] Nothing,
+        Variables "% var {} @ {name}" ["output in_out"] Nothing;
     advice!("there is no VAR_TEMP";
         "write VAR; its variables keep their values from scan to scan, so store to them\n\
             before you load them";
@@ -479,8 +476,8 @@ fn address_rows() -> &'static [Habit] {
     ADDRESSES
 }
 
-/// Each table of habits, in the order in which they are asked. Each stands in a function of its own:
-/// what one function names is checked together, at the cost of its square.
+/// Each table of habits, in the order in which they are asked. Each stands in a function of its own,
+/// since what one function names is checked together, at the cost of its square.
 pub(crate) fn table(number: usize) -> &'static [Habit] {
     match number {
         0 => near_declarations(),

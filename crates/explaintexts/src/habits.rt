@@ -1,11 +1,13 @@
 //! What people write who come from other languages: which row is like what stands at a place.
 
-use crate::examples::is_in_call;
-use crate::habit::{Fix, Habit, Region};
+ghost use Rattle.std.specs.Prelude.{IfOk, IfSome};
+ghost use Rattle.explaincures.specs.Trying.{ReadsOn, ShowsCure};
+
+use crate::habit::{Fix, Form, Habit, Region};
 use crate::habit_rows::table;
-use crate::likeness::Likeness;
-use crate::said::{Change, Said, Standing};
+use crate::said::{Change, Said};
 use explaincures::{FaultAnswer, Surroundings, is_one_of};
+use explainpatterns::{Likeness, Standing};
 use iltokens::Keyword;
 use std::alloc::{AllocError, Global};
 
@@ -15,7 +17,11 @@ pub(crate) fn habit_answer(
     standing: &Standing,
     first: usize,
     last: usize,
-) -> Result<Option<FaultAnswer>, AllocError> {
+) -> Result<Option<FaultAnswer>, AllocError>
+    ensures { let asked = standing.now.asked.now in
+        IfOk result (λ found. IfSome found
+        (ShowsCure asked.binding.now asked.text.now standing.now.line ReadsOn)) }
+{
     for number in first..last {
         for habit in table(number) {
             if let Some(said) = habit.said(standing) {
@@ -32,27 +38,32 @@ pub(crate) fn habit_answer(
 impl Habit {
     /// What is said of it, where the line of a place is like it.
     fn said(&self, standing: &Standing) -> Option<Said> {
-        for (region, pattern, words, fix) in self.written {
-            if is_in(*region, standing) {
-                if let Some(like) = Likeness::of(standing, pattern, words) {
-                    return Some(changed(standing, like.said(self.row), *fix, like));
-                }
+        for text in self.forms.split('\x1e') {
+            let said = self.said_by(standing, text);
+            if said.is_some() {
+                return said;
             }
         }
         None
     }
-}
 
-/// The same with the change that is meant.
-fn changed(standing: &Standing, said: Said, fix: Fix, like: Likeness) -> Said {
-    match fix {
-        Fix::Nothing => said,
-        Fix::LeaveOut => Said {
-            change: Change::LeaveOut,
-            ..said
-        },
-        Fix::Put(with) => said.put(like.put, with),
-        Fix::Loaded => loaded(said, standing),
+    /// The same of one of its forms, with the change that is meant.
+    fn said_by(&self, standing: &Standing, text: &'static str) -> Option<Said> {
+        let form = Form::of(text)?;
+        if !is_in(form.region, standing) {
+            return None;
+        }
+        let like = Likeness::of(standing, form.pattern, form.words)?;
+        let said = Said::like(self.row, like);
+        Some(match form.fix {
+            Fix::Nothing => said,
+            Fix::LeaveOut => Said {
+                change: Change::LeaveOut,
+                ..said
+            },
+            Fix::Put => said.put(like.put, form.with),
+            Fix::Loaded => loaded(said, standing),
+        })
     }
 }
 
@@ -78,15 +89,15 @@ fn loaded(said: Said, standing: &Standing) -> Said {
 
 /// Whether a place stands in a region.
 fn is_in(region: Region, standing: &Standing) -> bool {
-    let Standing { spot, around, .. } = standing;
+    let around = &standing.around;
     let is_in_body = around.is_in_body();
     let is_block = around.block.is_some();
     match region {
         Region::Anywhere => true,
         Region::Body => is_in_body,
-        Region::Line => is_in_body && !is_in_call(spot, around),
-        Region::Call => is_in_call(spot, around),
-        Region::Inside => is_in_body && around.open > 0 && !is_in_call(spot, around),
+        Region::Line => is_in_body && !standing.is_in_call(),
+        Region::Call => standing.is_in_call(),
+        Region::Inside => is_in_body && around.open > 0 && !standing.is_in_call(),
         Region::Level => is_in_body && around.open == 0,
         Region::Variables => is_block,
         Region::Declared => is_block || around.unit_word() == Some(Keyword::Type),

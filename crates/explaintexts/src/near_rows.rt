@@ -1,22 +1,21 @@
 //! What is nearly right: a sign too many, apart or in another place, a time or an address in two
 //! words, or an expression where one operand stands; and what Siemens' lists have.
 
-use crate::habit::{Fix, Habit, Region, habits};
+use crate::habit::{Habit, habits};
 use crate::habit_rows::{LOGIC_SIGN, NESTED_COMMENT, TRUTH_SIGN};
 use crate::said::advice;
-use explaincures::Advice;
 
 /// What is nearly right in comments, times, declarations and addresses.
 const DECLARED: &[Habit] = habits! {
     NESTED_COMMENT => Anywhere "^ {opens} {opens} {closes} *) {closes}" Nothing;
     advice!("a unit that times do not have"; "the units are d, h, m, s and ms"; "T#1m30s") =>
-        Anywhere "< {time} [ ~@ {} ]" ["in", "ins", "inute", "inutes", "ec", "ecs", "econd",
-            "econds", "our", "ours", "r", "rs", "ay", "ays"] Put("");
+        Anywhere "< {time} [ ~@ {} ]"
+            ["in ins inute inutes ec ecs econd econds our ours r rs ay ays"] Put("");
     advice!("a time with its units in another order";
         "the units stand in this order, each once at most: d, h, m, s and ms";
         "T#2s500ms") => Anywhere "< {time} ~@ {digit}" Nothing;
     advice!("a time without its #"; "a time begins with T#"; "") =>
-        Anywhere "< {} ~@ [ = ] ~{digit}" ["t", "time"] Put("#");
+        Anywhere "< {} ~@ [ = ] ~{digit}" ["t time"] Put("#");
     advice!("a comma with no name behind it";
         "a comma stands between two names";
         "lamp, lamp2 : USINT (0..254);") => Declared "<< [ , ] @ :" Put("");
@@ -25,13 +24,13 @@ const DECLARED: &[Habit] = habits! {
         "lamp : USINT (0..254);") => Declared "<< .. @ [ . ]" Put("");
     advice!("a range behind a type that has none";
         "BOOL has TRUE and FALSE, and TIME has all times; types of whole numbers have ranges";
-        "lamp : USINT (0..254);") => Declared "<< {} [ @ {range} ]" ["bool", "time"] Put("");
+        "lamp : USINT (0..254);") => Declared "<< {} [ @ {range} ]" ["bool time"] Put("");
     advice!("an address that is not one word";
         "bus and number stand behind %QB, %IW or %IX without a blank, with a dot between them";
         "lamp AT %QB0.5 : USINT (0..254);") =>
-        Anywhere "@ {} [ _ ] {digit}" ["%qb", "%iw", "%ix"] Put(""),
-        Anywhere "@ {} ~{digits} [ : ] ~{digit}" ["%qb", "%iw", "%ix"] Put("."),
-        Anywhere "@ {} ~{digits} [ , ] ~{digit}" ["%qb", "%iw", "%ix"] Put(".");
+        Anywhere "@ {} [ _ ] {digit}" ["%qb %iw %ix"] Put(""),
+        Anywhere "@ {} ~{digits} [ : ] ~{digit}" ["%qb %iw %ix"] Put("."),
+        Anywhere "@ {} ~{digits} [ , ] ~{digit}" ["%qb %iw %ix"] Put(".");
     advice!("a declaration outside its block";
         "types stand between TYPE and END_TYPE, variables between VAR and END_VAR of a\n\
             program";
@@ -53,26 +52,26 @@ const INSTRUCTIONS: &[Habit] = habits! {
     advice!("a name with a - in it"; "a name has letters, digits and _"; "") =>
         Body "< {name} [ ~@ - ]" Put("_");
     advice!("a unit behind a number"; "a number has no unit"; "LT 30") =>
-        Body "< {number} @ {}" ["lx", "lux", "w", "kw", "v", "a", "k", "c"] Nothing;
+        Body "< {number} @ {}" ["lx lux w kw v a k c"] Nothing;
     advice!("an address where a name is asked for";
         "give the address a name in VAR_GLOBAL, and write that name; what other lists keep\n\
             in a flag is a variable of VAR here";
         "VAR_GLOBAL lamp AT %QB0.5 : USINT (0..254); END_VAR") =>
-        Body "^ {word} {} @ {dotted}" ["e", "a", "i", "q", "m", "t", "z"] Nothing;
+        Body "^ {word} {} @ {dotted}" ["e a i q m t z"] Nothing;
     advice!("a sign apart from its number"; "it stands right before the digits"; "ADD -5") =>
         Body "^ {with} @ [ - _ ] {word}" Put("-");
     advice!("a comparison by a word and a sign";
         "GE is greater or equal, and LE is less or equal";
         "GE 30") =>
-        Body "^ [ gt ~@ {} ] {word}" ["==", "="] Put("GE"),
-        Body "^ [ lt ~@ {} ] {word}" ["==", "="] Put("LE"),
-        Body "^ {} @ = {word}" ["gt", "lt"] Nothing;
+        Body "^ [ gt ~@ {} ] {word}" ["== ="] Put("GE"),
+        Body "^ [ lt ~@ {} ] {word}" ["== ="] Put("LE"),
+        Body "^ {} @ = {word}" ["gt lt"] Nothing;
     advice!("a sign between an instruction and its operand";
         "the operand stands behind the instruction's word";
-        "LD 150") => Body "^ {with} [ @ {} * ] {word}" [":=", "==", "=", ":"] Put(" ");
+        "LD 150") => Body "^ {with} [ @ {} * ] {word}" [":= == = :"] Put(" ");
     advice!("there is no MOVE"; "load the value, and store it"; "LD 150\nST lamp") =>
-        Body "^ [ {} {number} @ {name} ;? $ ]" ["mov", "move"] Put("LD {1}\n{i}ST {2}"),
-        Body "^ {} {number} @ {name}" ["mov", "move"] Nothing;
+        Body "^ [ {} {number} @ {name} ;? $ ]" ["mov move"] Put("LD {1}\n{i}ST {2}"),
+        Body "^ {} {number} @ {name}" ["mov move"] Nothing;
     advice!("a title as Siemens' lists have it";
         "there are no networks: write a comment";
         "(* the stairs *)") => Body "^ [ title @ = {rest} ]" Put("(* {0} *)");
@@ -94,8 +93,8 @@ const INSTRUCTIONS: &[Habit] = habits! {
         "each operator has a line of its own";
         "LD lux\nLT 30") =>
         Body "^ [ ld (? {value} {operator} {value} )? ;? $ ]" Put("LD {0}\n{i}{w} {2}"),
-        Body "^ [ {} ( {value} {sign} {value} ) $ ]" ["and", "andn", "or", "orn", "xor", "xorn",
-            "add", "sub", "mul", "div", "mod", "gt", "ge", "eq", "ne", "le", "lt"]
+        Body "^ [ {} ( {value} {sign} {value} ) $ ]"
+            ["and andn or orn xor xorn add sub mul div mod gt ge eq ne le lt"]
             Put("{0}( {1}\n{i}{w} {3}\n{i})");
 };
 
@@ -118,7 +117,7 @@ const WORDS: &[Habit] = habits! {
             Put("LDN {4}\n{i}ST {0}.{2}\n{i}CAL {0}({1}, "),
         Call "^ [ cal {name} ( {front} , {name} := @ {not} {value} ]"
             Put("LDN {4}\n{i}ST {0}.{2}\n{i}CAL {0}({1}"),
-        Anywhere "< {} [ @ {not} * ] {value}" ["ld", "st", "and", "or", "xor", "jmpc", "calc"]
+        Anywhere "< {} [ @ {not} * ] {value}" ["ld st and or xor jmpc calc"]
             Put("N "),
         Anywhere "< ( * [ @ {not} {value} $ ]" Put("{1}\nNOT"),
         Anywhere "< {word} @ {not} {word}" Nothing;
@@ -141,14 +140,15 @@ const SIEMENS: &[Habit] = habits! {
         "write its word, with the second value as its operand: ADD, SUB, MUL, DIV, EQ,\n\
             NE, GT, GE, LT or LE";
         "LD level\nADD change") =>
-        Body "^ @ {}" ["+i", "+d", "+r", "-i", "-d", "-r", "*i", "*d", "*r", "/i", "/d", "/r", "==i",
-        "==d", "<>i", "<>d", ">=i", ">=d", "<=i", "<=d", ">i", ">d", "<i", "<d"] Nothing;
+        Body "^ @ {}"
+            ["+i +d +r -i -d -r *i *d *r /i /d /r ==i ==d <>i <>d >=i >=d <=i <=d >i >d <i <d"]
+            Nothing;
     advice!("= as an instruction"; "write ST"; "ST lamp") =>
         Body "^ @ [ = ] _ (apart)" Put("ST");
     advice!("ON as an instruction"; "write ORN"; "ORN button") =>
         Body "^ @ on" Nothing;
     TRUTH_SIGN =>
-        Body "^ @ [ {} ]" ["||", "|"] Put("OR");
+        Body "^ @ [ {} ]" ["|| |"] Put("OR");
     advice!("a minus before a name";
         "SUB takes away what ADD would add; MUL -1 turns the sign of the current result";
         "LD level\nMUL -1") =>
@@ -157,15 +157,15 @@ const SIEMENS: &[Habit] = habits! {
         "a declaration has names of letters, digits and _, a colon, a type, and behind :=\n\
             one number or truth value if need be: nothing is computed there";
         "lamp, lamp2 : USINT (0..254) := 100;") =>
-        Declared "@ {}" ["=", "<", ">", "*", "/"] Nothing, Declared "@ {} (apart)" ["+", "-"] Nothing;
+        Declared "@ {}" ["= < > * /"] Nothing, Declared "@ {} (apart)" ["+ -"] Nothing;
     LOGIC_SIGN =>
-        Anywhere "@ {}" ["=", "<", ">", "*", "/"] Nothing, Body "@ {}" ["+", "-", "!="] Nothing;
+        Anywhere "@ {}" ["= < > * /"] Nothing, Body "@ {}" ["+ - !="] Nothing;
     TRUTH_SIGN =>
         Body "@ |" Nothing;
     advice!("{0} before a name";
         "a declaration begins with the name; a colon and a type stand behind it, and :=\n\
             before a first value";
-        "mode : USINT := 0;") => Variables "< {} @ {name}" ["let", "const"] Nothing;
+        "mode : USINT := 0;") => Variables "< {} @ {name}" ["let const"] Nothing;
     advice!("two names, or one with a blank in it";
         "a name has no blank: write {0}_{1}; or write a comma between two names";
         "hall_lamp : USINT (0..254);") => Variables "< {first} @ {name}" Nothing;

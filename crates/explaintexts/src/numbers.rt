@@ -1,21 +1,21 @@
 //! What is said of what was meant as a number and is none: it has a fraction, a digit that its base
 //! does not have, or letters.
 
-use crate::bytes::{digits_len, place_of_any, place_of_pair};
 use crate::decimals::Decimal;
 use crate::habit_rows::{BASED, DOTTED, FRACTION, GROUPED, PERCENT};
-use crate::said::{Place, Said, Standing, advice};
+use crate::said::{Row, Said, advice};
 use explaincures::{Advice, Spot, content_len, part};
+use explainpatterns::{Place, Standing, digits_len, place_of_any, place_of_pair};
 
-const NO_TIME: Advice = advice!("a number with a fraction where a time is asked for";
+const NO_TIME: Row = advice!("a number with a fraction where a time is asked for";
     "a time begins with T#, and has whole numbers with the units d, h, m, s and ms,\n\
         in this order";
     "CAL rest(PT := T#1s500ms)");
 
 /// What is said where that helps.
-const TIMED: Advice = advice!("a time without T# before it"; "a time begins with T#"; "");
+const TIMED: Row = advice!("a time without T# before it"; "a time begins with T#"; "");
 
-const LETTERS: Advice = advice!("a number with letters in it";
+const LETTERS: Row = advice!("a number with letters in it";
     "a number has the digits 0 to 9, and hexadecimal ones behind 16#; a name begins\n\
         with a letter";
     "LD 16#C8");
@@ -75,7 +75,7 @@ fn is_input_of_time(bytes: &[u8]) -> bool {
 }
 
 /// What is said of a number with other characters than digits.
-fn of_letters(number: &[u8]) -> Advice {
+fn of_letters(number: &[u8]) -> Row {
     let has_dot = number.contains(&b'.');
     match number {
         [.., b'%'] => PERCENT,
@@ -115,7 +115,7 @@ fn based(spot: &Spot, place: Place, base: usize) -> Option<Said> {
     };
     let cure = "behind {n}# stand the digits {w}";
     let row = Advice { what, cure, line };
-    let said = Said::of(row, (bad, bad.saturating_add(1))).with_words((digits, ""));
+    let said = Said::told(row, (bad, bad.saturating_add(1))).with_words((digits, ""));
     Some(said.with_numbers((u64::from(number), 0)))
 }
 

@@ -2,38 +2,37 @@
 //! that could stand there is put in place of what was found or before it, the line is broken, or a
 //! sign is left out.
 
-use crate::bytes::is_digits;
-use crate::said::{Change, Place, Said, Standing, Trial, advice};
+use crate::said::{Change, Row, Said, Trial, advice};
 use explaincures::{
     Advice, Group, OpenConstruct, Possible, Spot, content_len, is_one_of, line_number, near_word,
     part, sign_name,
 };
+use explainpatterns::{Place, Standing, is_digits};
 use iltokens::keyword_of;
 
 /// Words that begin a block of variables.
 const BLOCKS: &[&str] = &["VAR", "VAR_INPUT", "VAR_EXTERNAL", "VAR_GLOBAL"];
 
-pub(crate) const ASKED: Advice = advice!("{0} where {w} is asked for"; "write {w}"; "");
+pub(crate) const ASKED: Row = advice!("{0} where {w} is asked for"; "write {w}"; "");
 
-const NEAR: Advice = advice!("{0} is no word of the language";
+const NEAR: Row = advice!("{0} is no word of the language";
     "the word that is near to it is {w}";
     "");
 
-pub(crate) const RESERVED: Advice = advice!("{0} is a word of the language, and no name";
+pub(crate) const RESERVED: Row = advice!("{0} is a word of the language, and no name";
     "choose another name, here and wherever it is meant";
     "");
 
-const TIMED: Advice = advice!("a number where a time is asked for";
+const TIMED: Row = advice!("a number where a time is asked for";
     "write T# before it, and its unit behind it: d, h, m, s or ms";
     "");
 
-/// The changes that are tried at a place, of which the first that helps is shown.
-pub(crate) fn proposals(standing: &Standing, possible: &Possible) -> [Option<Said>; 25] {
+/// The words that are tried at a place: an end, one that is near to what stands there, or one that
+/// is asked for.
+pub(crate) fn words(standing: &Standing, possible: &Possible) -> [Option<Said>; 6] {
     let spot = &standing.spot;
     let found = (spot.at, spot.found_to());
     let last = standing.around.before;
-    let is_timed = is_timed(spot, possible).then_some("");
-    let is_renamed = is_renamed(spot, possible).then_some("");
     [
         put(NEAR, last, meant_end(standing, possible), "{w}"),
         end(standing, possible),
@@ -41,9 +40,33 @@ pub(crate) fn proposals(standing: &Standing, possible: &Possible) -> [Option<Sai
         ended(put(ASKED, found, other_end(standing, possible), "{w}")),
         put(NEAR, found, near_word(spot.token()), "{w}"),
         put(NEAR, last, near_word(spot.part(last.0, last.1)), "{w}"),
-        put(TIMED, found, is_timed, "T#{0}ms"),
+    ]
+}
+
+/// Another form of the word that was found: a time, the one word that could stand there, or a name.
+pub(crate) fn forms(standing: &Standing, possible: &Possible) -> [Option<Said>; 3] {
+    let spot = &standing.spot;
+    let found = (spot.at, spot.found_to());
+    [
+        put(
+            TIMED,
+            found,
+            is_timed(spot, possible).then_some(""),
+            "T#{0}ms",
+        ),
         ended(put(ASKED, found, only(spot, possible), "{w}")),
-        put(RESERVED, found, is_renamed, "{0}_1"),
+        put(
+            RESERVED,
+            found,
+            is_renamed(spot, possible).then_some(""),
+            "{0}_1",
+        ),
+    ]
+}
+
+/// A sign more before the place.
+pub(crate) fn signs_before(standing: &Standing, possible: &Possible) -> [Option<Said>; 7] {
+    [
         before(standing, possible, ";"),
         before(standing, possible, ":"),
         before(standing, possible, ","),
@@ -51,9 +74,22 @@ pub(crate) fn proposals(standing: &Standing, possible: &Possible) -> [Option<Sai
         before(standing, possible, ".."),
         before(standing, possible, "("),
         before(standing, possible, ")"),
+    ]
+}
+
+/// The line broken, and the line without what was found.
+pub(crate) fn parted(standing: &Standing, possible: &Possible) -> [Option<Said>; 3] {
+    [
         broken(standing, possible),
         inner(standing, possible),
-        without(spot, possible),
+        without(&standing.spot, possible),
+    ]
+}
+
+/// Another sign in place of what was found; or that it ends nothing.
+pub(crate) fn signs_instead(standing: &Standing, possible: &Possible) -> [Option<Said>; 6] {
+    let spot = &standing.spot;
+    [
         instead(spot, possible, ":"),
         instead(spot, possible, ";"),
         instead(spot, possible, ","),
@@ -95,7 +131,7 @@ fn ends(word: &[u8], open: Option<OpenConstruct>) -> bool {
 }
 
 /// A text in place of a part, where there is a word for it.
-fn put(row: Advice, place: Place, word: Option<&'static str>, with: &'static str) -> Option<Said> {
+fn put(row: Row, place: Place, word: Option<&'static str>, with: &'static str) -> Option<Said> {
     let said = Said::of(row, place).with_words((word?, ""));
     Some(said.put(place, with))
 }
@@ -105,21 +141,17 @@ fn end(standing: &Standing, possible: &Possible) -> Option<Said> {
     let spot = &standing.spot;
     let opened = standing.around.innermost()?;
     let (begin, word) = opened.words();
-    let what = match opened.name {
-        Some(_) => "{w} of {0} (line {n}) is missing",
-        None => "{w} of the {v} in line {n} is missing",
-    };
-    let row = Advice {
-        what,
-        cure: "write {w} before what follows",
-        line: "",
+    let row = match opened.name {
+        Some(_) => advice!("{w} of {0} (line {n}) is missing"; "write {w} before what follows"; ""),
+        None => advice!("{w} of the {v} in line {n} is missing";
+            "write {w} before what follows";
+            ""),
     };
     let is_end = spot.at >= spot.text.len();
-    let with = match spot.front() {
-        _ if !is_end => "{w}\n",
-        [] => "{w}",
-        _ => "\n{w}",
-    };
+    let is_meant = is_end || keyword_of(spot.token()).is_some();
+    if !is_meant || !possible.has_word(word) {
+        return None;
+    }
     let from = if spot.is_first() {
         spot.line_from
     } else {
@@ -127,10 +159,21 @@ fn end(standing: &Standing, possible: &Possible) -> Option<Said> {
     };
     let line = line_number(spot.text, opened.at) as u64;
     let said = Said::of(row, opened.name.unwrap_or((0, 0))).with_words((word, begin));
-    let is_meant = is_end || keyword_of(spot.token()).is_some();
-    (is_meant && possible.has_word(word)).then_some(
-        said.with_numbers((line, 0)).put((from, from), with),
+    Some(
+        said.with_numbers((line, 0))
+            .put((from, from), end_text(spot, is_end)),
     )
+}
+
+/// How the end of what is open is written at a place, which may be the text's end.
+fn end_text(spot: &Spot, is_end: bool) -> &'static str {
+    if !is_end {
+        "{w}\n"
+    } else if spot.front().is_empty() {
+        "{w}"
+    } else {
+        "\n{w}"
+    }
 }
 
 /// Instructions that stand outside parentheses alone.
@@ -219,7 +262,7 @@ fn broken(standing: &Standing, possible: &Possible) -> Option<Said> {
     let is_begun = (keyword_of(spot.token()).is_some() || is_end) && !is_stored;
     let is_apart = possible.is_line_end && around.is_in_body() && !spot.is_first();
     let from = spot.line_from.saturating_add(content_len(spot.front()));
-    let said = Said::of(row, (spot.at, spot.found_to())).put((from, spot.at), "\n");
+    let said = Said::told(row, (spot.at, spot.found_to())).put((from, spot.at), "\n");
     (is_begun && is_apart).then_some(said)
 }
 

@@ -1,38 +1,19 @@
 //! What is said of a fault, as small values: rows of texts, words, and places of the asked text.
 
-use explaincures::{Advice, AskedText, Spot, Surroundings};
+use explaincures::Advice;
+use explainpatterns::{Likeness, Place};
 
-/// A row of what is said: what is wrong, what helps, and lines of another text.
+/// A row of what is said, as one text ([`Advice::of`]).
+pub(crate) type Row = &'static str;
+
+/// A row of these parts: what is wrong, what helps, and lines of another text.
 macro_rules! advice {
     ($what:literal; $cure:literal; $line:literal) => {
-        Advice {
-            what: $what,
-            cure: $cure,
-            line: $line,
-        }
+        concat!($what, "|", $cure, "|", $line)
     };
 }
 
 pub(crate) use advice;
-
-/// A place that is asked about, with all that is known of it.
-#[derive(Clone, Copy)]
-pub(crate) struct Standing<'a> {
-    pub asked: &'a AskedText<'a>,
-    pub spot: Spot<'a>,
-    pub around: Surroundings,
-}
-
-impl<'a> Standing<'a> {
-    /// What stands just before the place.
-    pub(crate) fn before(&self) -> &'a [u8] {
-        let (from, to) = self.around.before;
-        self.spot.part(from, to)
-    }
-}
-
-/// Where a part of the asked text begins and ends.
-pub(crate) type Place = (usize, usize);
 
 /// What may be said of a fault: a row, and what stands for the slots of its texts and of a change.
 /// Where the row has no lines of another text, it is said only with a change that helps.
@@ -77,7 +58,12 @@ pub(crate) enum Trial {
 
 impl Said {
     /// What a row says of a part.
-    pub(crate) fn of(row: Advice, part: Place) -> Said {
+    pub(crate) fn of(row: Row, part: Place) -> Said {
+        Said::told(Advice::of(row), part)
+    }
+
+    /// What is said of a part.
+    pub(crate) fn told(row: Advice, part: Place) -> Said {
         Said {
             row,
             parts: [part; 6],
@@ -85,6 +71,16 @@ impl Said {
             numbers: (0, 0),
             change: Change::Nothing,
             trial: Trial::Line,
+        }
+    }
+
+    /// What a row says of a line that is like a pattern: `{0}` and so on are its slots, `{w}` the
+    /// word of its operator.
+    pub(crate) fn like(row: Row, like: Likeness) -> Said {
+        Said {
+            parts: like.parts,
+            words: (like.word, ""),
+            ..Said::of(row, like.put)
         }
     }
 

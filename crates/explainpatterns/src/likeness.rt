@@ -9,24 +9,28 @@
 //! between which a change puts its text; `*`, blanks if any; `_`, a blank or more; `$`, the end
 //! of the line. `_` right before an item asks for a blank before it, and `~` for none.
 
-use crate::said::{Change, Place, Said, Standing, Trial};
-use crate::slots::{holds, operator_of, place_within, slot_end, word_end, words_end};
-use explaincures::{Advice, Spot, near_word};
+use crate::conditions::holds;
+use crate::slots::{place_within, slot_end, word_end, word_meant, words_end};
+use crate::standing::{Place, Standing};
+use explaincures::Spot;
 
 /// How far a line is like a pattern, and what stands in its slots.
 #[derive(Clone, Copy)]
-pub(crate) struct Likeness {
+pub struct Likeness {
     to: usize,
     count: usize,
-    parts: [Place; 6],
+    /// What stands in the slots.
+    pub parts: [Place; 6],
     /// What a change replaces.
     pub put: Place,
-    word: &'static str,
+    /// The word of the operator in a slot for one, or that which is near to what stands there.
+    pub word: &'static str,
 }
 
 impl Likeness {
-    /// How the line of a place is like a pattern with these words, if it is.
-    pub(crate) fn of(standing: &Standing, pattern: &str, words: &[&str]) -> Option<Likeness> {
+    /// How the line of a place is like a pattern with these words, which have blanks between them, if
+    /// it is.
+    pub fn of(standing: &Standing, pattern: &str, words: &str) -> Option<Likeness> {
         let spot = &standing.spot;
         let mut like = Likeness {
             to: spot.at,
@@ -43,20 +47,8 @@ impl Likeness {
         Some(like)
     }
 
-    /// What a row says of it: `{0}` and so on are its slots, `{w}` the word of its operator.
-    pub(crate) fn said(&self, row: Advice) -> Said {
-        Said {
-            row,
-            parts: self.parts,
-            words: (self.word, ""),
-            numbers: (0, 0),
-            change: Change::Nothing,
-            trial: Trial::Line,
-        }
-    }
-
     /// Reads one item of the pattern.
-    fn take(&mut self, standing: &Standing, item: &[u8], words: &[&str]) -> bool {
+    fn take(&mut self, standing: &Standing, item: &[u8], words: &str) -> bool {
         let spot = &standing.spot;
         let (to, (next, _)) = (self.to, spot.trimmed(self.to, spot.line_to));
         match item {
@@ -116,28 +108,33 @@ impl Likeness {
     }
 
     /// Reads a slot, a word or a sign.
-    fn read(&mut self, standing: &Standing, item: &[u8], words: &[&str], from: usize) -> bool {
+    fn read(&mut self, standing: &Standing, item: &[u8], words: &str, from: usize) -> bool {
         let here = Spot::of(standing.spot.text, from);
-        let end = match item {
-            b"{}" => words_end(standing, &here, words),
-            [b'{', slot @ .., b'}'] => slot_end(standing, &here, slot),
-            [word @ .., b'?'] => word_end(standing, &here, word).or(Some(self.to)),
-            word => word_end(standing, &here, word),
-        };
-        let Some(to) = end else {
+        let Some(to) = self.end_of(standing, &here, item, words) else {
             return false;
         };
-        self.word = match item {
-            b"{operator}" | b"{sign}" => operator_of(&here).1,
-            b"{near}" => near_word(here.token()).unwrap_or(""),
-            _ => self.word,
-        };
         if let [b'{', slot @ .., b'}'] = item {
-            if let Some(part) = self.parts.get_mut(self.count) {
-                *part = place_within(&here, slot, to);
-            }
-            self.count = self.count.saturating_add(1);
+            self.keep(&here, slot, to);
         }
         self.mark(self.put, to)
+    }
+
+    /// Where a slot, a word or a sign ends that begins at a place, if it stands there.
+    fn end_of(&self, standing: &Standing, here: &Spot, item: &[u8], words: &str) -> Option<usize> {
+        match item {
+            b"{}" => words_end(standing, here, words),
+            [b'{', slot @ .., b'}'] => slot_end(standing, here, slot),
+            [word @ .., b'?'] => word_end(standing, here, word).or(Some(self.to)),
+            word => word_end(standing, here, word),
+        }
+    }
+
+    /// Keeps what stands in a slot.
+    fn keep(&mut self, here: &Spot, slot: &[u8], to: usize) {
+        self.word = word_meant(here, slot).unwrap_or(self.word);
+        if let Some(part) = self.parts.get_mut(self.count) {
+            *part = place_within(here, slot, to);
+        }
+        self.count = self.count.saturating_add(1);
     }
 }

@@ -1,0 +1,40 @@
+//! A place that is asked about.
+
+use explaincures::{AskedText, Spot, Surroundings, is_one_of};
+
+/// Words that begin a call of a block.
+pub const CALLS: &[&str] = &["CAL", "CALC", "CALCN"];
+
+/// Words that begin a jump.
+pub const JUMPS: &[&str] = &["JMP", "JMPC", "JMPCN"];
+
+/// Where a part of the asked text begins and ends.
+pub type Place = (usize, usize);
+
+/// A place that is asked about, with all that is known of it.
+#[derive(Clone, Copy)]
+pub struct Standing<'a> {
+    pub asked: &'a AskedText<'a>,
+    /// Its line, counted from 1.
+    pub line: usize,
+    pub spot: Spot<'a>,
+    pub around: Surroundings,
+}
+
+impl<'a> Standing<'a> {
+    /// What stands just before the place.
+    pub fn before(&self) -> &'a [u8] {
+        let (from, to) = self.around.before;
+        self.spot.part(from, to)
+    }
+
+    /// Whether the inputs of a call of a block stand there.
+    pub fn is_in_call(&self) -> bool {
+        match self.around.parenthesis {
+            Some(open) if self.around.is_in_body() => {
+                is_one_of(Spot::of(self.spot.text, open).first_word(), CALLS)
+            }
+            _ => false,
+        }
+    }
+}

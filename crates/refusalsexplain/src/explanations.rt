@@ -1,0 +1,49 @@
+//! Explanations why a text is not loaded.
+
+ghost use Rattle.std.specs.Prelude.{◌≡◌, ◌≤◌, ◌+◌, ℕ, IfOk, Some};
+ghost use Rattle.ilsource.specs.Places.{line_at};
+ghost use Rattle.iltext.specs.Parsing.{IsTextFault};
+ghost use Rattle.iltext.specs.declared.fault.TextCause.{TextCause};
+ghost use Rattle.iltext.specs.declared.fault.TextFault.TheVariants as text_faults;
+ghost use Rattle.plantload.specs.declared.fault.LoadFault.TheVariants as faults;
+ghost use Rattle.explaincures.specs.Trying.{changed, lines_of};
+ghost use Rattle.explaincures.specs.declared.answers.Example.TheVariants.{Changed};
+ghost use Rattle.explaincures.specs.declared.edits.Edit.{Edit};
+
+use explaining::{AskedText, Explanation, explanation_of};
+use iltext::TextCause;
+use plantload::NotLoaded;
+use std::alloc::{AllocError, Global};
+
+/// `another_place_is_explained`: the explanation stood at the first place of the text, or at the
+/// next one of the line.
+pub fn explanation_stands_at_the_fault(
+    alloc: Global,
+    asked: &AskedText,
+    stop: &NotLoaded,
+    cause: TextCause,
+) -> Result<(usize, Option<usize>), AllocError>
+    requires { stop.now.fault ≡ faults.Text (text_faults.At 3 5 cause) }
+    ensures line { IfOk result (λ place. place.0 ≡ 3) }
+    ensures col { IfOk result (λ place. place.1 ≡ Some 5) }
+{
+    let told = explanation_of(alloc, asked, stop)?;
+    Ok((told.line, told.mark))
+}
+
+/// `change_is_shown_untried`: a change was shown though the text with it has a fault on a line of
+/// the change or before it.
+pub fn shown_change_was_tried(
+    alloc: Global,
+    asked: &AskedText,
+    stop: &NotLoaded,
+    cause: TextCause,
+) -> Result<Explanation, AllocError>
+    requires { stop.now.fault ≡ faults.Text (text_faults.At 3 5 cause) }
+    ensures { IfOk result (λ told. (edit : Edit) (line col : ℕ) (why : TextCause)
+        → told.answer.example ≡ Changed edit
+        → IsTextFault (changed edit asked.now.text.now) (text_faults.At line col why)
+        → line_at asked.now.text.now edit.from + lines_of edit ≤ line) }
+{
+    explanation_of(alloc, asked, stop)
+}
