@@ -1,14 +1,13 @@
 //! Changes of a text that are tried, and what a change may take away.
 
-ghost use Rattle.std.specs.Prelude.{◌≡◌, ◌≢◌, ◌≤◌, ◌+◌, ◌∷◌, [], ℕ, IfOk, None};
-ghost use Rattle.ilsource.specs.Places.{line_at};
+ghost use Rattle.std.specs.Prelude.{◌≡◌, ◌≢◌, ◌+◌, ◌∷◌, [], IfOk, None};
 ghost use Rattle.iltext.specs.declared.fault.TextFault.TheVariants as text_faults;
 ghost use Rattle.ilcompile.specs.Loaded.{Loaded};
 ghost use Rattle.plantload.specs.Loading.{IsLoadFault, IsSetup};
 ghost use Rattle.plantload.specs.declared.fault.LoadFault.TheVariants as faults;
-ghost use Rattle.explaincures.specs.Trying.{changed, lines_of};
+ghost use Rattle.explaincures.specs.Trying.{changed, last_line};
 ghost use Rattle.explaincures.specs.declared.edits.EditOutcome.TheVariants.{Accepted, Text};
-ghost use Rattle.explaincures.specs.declared.edits.Side.TheVariants.{Behind};
+ghost use Rattle.explaincures.specs.declared.edits.Side.TheVariants.{There};
 
 use explaincures::{AskedText, Edit, EditOutcome, Spot, left_out};
 use iltext::TextCause;
@@ -21,12 +20,13 @@ pub fn refused_change_is_not_accepted(
     alloc: Global,
     asked: &AskedText,
     edit: &Edit,
+    line: usize,
     fault: LoadFault,
 ) -> Result<EditOutcome, AllocError>
     requires { IsLoadFault asked.now.binding.now (changed edit.now asked.now.text.now) fault }
     ensures { IfOk result (λ outcome. outcome ≢ Accepted) }
 {
-    edit.outcome(alloc, asked)
+    edit.outcome(alloc, asked, line)
 }
 
 /// `accepted_change_is_refused`: a change was said to be refused though nothing stands against the
@@ -35,36 +35,35 @@ pub fn accepted_change_is_accepted(
     alloc: Global,
     asked: &AskedText,
     edit: &Edit,
+    line: usize,
 ) -> Result<EditOutcome, AllocError>
     requires { (setup : Loaded)
         × IsSetup asked.now.binding.now (changed edit.now asked.now.text.now) setup }
     ensures { IfOk result (λ outcome. outcome ≡ Accepted) }
 {
-    edit.outcome(alloc, asked)
+    edit.outcome(alloc, asked, line)
 }
 
-/// `fault_there_is_said_to_be_behind` and the other way round: the last line of a change was taken
-/// for the first one behind it.
-pub fn fault_behind_a_change_is_behind_it(
+/// `next_line_is_one_of_the_change`: a fault on the first line behind a change, and behind the line
+/// that it is to cure, was said to stand there.
+pub fn fault_behind_a_change_is_not_there(
     alloc: Global,
     asked: &AskedText,
     edit: &Edit,
+    line: usize,
     cause: TextCause,
 ) -> Result<EditOutcome, AllocError>
     requires { let text = asked.now.text.now in
-        let line = line_at text edit.now.from + lines_of edit.now in
-        IsLoadFault asked.now.binding.now (changed edit.now text)
-            (faults.Text (text_faults.At line 1 cause)) }
-    ensures { IfOk result (λ outcome. outcome ≡ Text Behind) }
+        let bytes = changed edit.now text in
+        IsLoadFault asked.now.binding.now bytes
+        (faults.Text (text_faults.At (last_line edit.now text bytes line + 1) 1 cause)) }
+    ensures { IfOk result (λ outcome. outcome ≢ Text There) }
 {
-    edit.outcome(alloc, asked)
+    edit.outcome(alloc, asked, line)
 }
 
 /// `letter_is_left_out`: what was left out had a meaning.
-pub fn letter_is_not_left_out(
-    alloc: Global,
-    spot: &Spot,
-) -> Result<Option<Edit>, AllocError>
+pub fn letter_is_not_left_out(alloc: Global, spot: &Spot) -> Result<Option<Edit>, AllocError>
     requires text { spot.now.text.now ≡ 78 ∷ [] }
     requires at { spot.now.at ≡ 0 }
     ensures { IfOk result (λ found. found ≡ None) }

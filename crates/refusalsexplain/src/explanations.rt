@@ -1,12 +1,12 @@
 //! Explanations why a text is not loaded.
 
-ghost use Rattle.std.specs.Prelude.{◌≡◌, ◌≤◌, ◌+◌, ℕ, IfOk, Some};
+ghost use Rattle.std.specs.Prelude.{◌≡◌, ◌<◌, ◌⊎◌, ℕ, IfOk, Some, length};
 ghost use Rattle.ilsource.specs.Places.{line_at};
-ghost use Rattle.iltext.specs.Parsing.{IsTextFault};
 ghost use Rattle.iltext.specs.declared.fault.TextCause.{TextCause};
 ghost use Rattle.iltext.specs.declared.fault.TextFault.TheVariants as text_faults;
+ghost use Rattle.plantload.specs.Loading.{IsLoadFault};
 ghost use Rattle.plantload.specs.declared.fault.LoadFault.TheVariants as faults;
-ghost use Rattle.explaincures.specs.Trying.{changed, lines_of};
+ghost use Rattle.explaincures.specs.Trying.{changed, last_line};
 ghost use Rattle.explaincures.specs.declared.answers.Example.TheVariants.{Changed};
 ghost use Rattle.explaincures.specs.declared.edits.Edit.{Edit};
 
@@ -31,8 +31,8 @@ pub fn explanation_stands_at_the_fault(
     Ok((told.line, told.mark))
 }
 
-/// `change_is_shown_untried`: a change was shown though the text with it has a fault on a line of
-/// the change or before it.
+/// `change_is_shown_untried`: a change was shown though the text with it is refused up to the line
+/// of the fault, and does not end there.
 pub fn shown_change_was_tried(
     alloc: Global,
     asked: &AskedText,
@@ -40,10 +40,13 @@ pub fn shown_change_was_tried(
     cause: TextCause,
 ) -> Result<Explanation, AllocError>
     requires { stop.now.fault ≡ faults.Text (text_faults.At 3 5 cause) }
-    ensures { IfOk result (λ told. (edit : Edit) (line col : ℕ) (why : TextCause)
+    ensures { let text = asked.now.text.now in
+        IfOk result (λ told. (edit : Edit) (line col : ℕ) (why : TextCause)
         → told.answer.example ≡ Changed edit
-        → IsTextFault (changed edit asked.now.text.now) (text_faults.At line col why)
-        → line_at asked.now.text.now edit.from + lines_of edit ≤ line) }
+        → IsLoadFault asked.now.binding.now (changed edit text)
+        (faults.Text (text_faults.At line col why))
+        → (last_line edit text (changed edit text) 3 < line)
+        ⊎ (line ≡ line_at (changed edit text) (length (changed edit text)))) }
 {
     explanation_of(alloc, asked, stop)
 }
