@@ -17,7 +17,8 @@ use std::alloc::AllocError;
 pub(crate) const MOST_TOLD: usize = 8;
 
 impl FaultPlace<'_, '_> {
-    /// What is said as an answer to a fault on a line, with the first change that helps, if one does.
+    /// What is said as an answer to a fault on a line, with the first change that helps, if one
+    /// does.
     pub(crate) fn answer(&self, said: &Said, line: usize) -> Result<FaultAnswer, AllocError>
         ensures { let asked = self.now.asked.now in
             IfOk result (ShowsCure asked.binding.now asked.text.now line NamesOn) }

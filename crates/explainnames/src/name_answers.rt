@@ -18,8 +18,8 @@ use limits::{MOST_CALLS, MOST_FUNCTIONS, MOST_INPUTS};
 use std::alloc::{AllocError, Global};
 
 /// What is said of a cause at a place of a text with this source program, which stands on a line,
-/// counted from 1. A change that is shown was tried: with it the text is accepted, or its names have
-/// no fault up to the change and that line.
+/// counted from 1. A change that is shown was tried: with it the text is accepted, or its names
+/// have no fault up to the change and that line.
 ///
 /// # Errors
 ///

@@ -28,8 +28,8 @@ pub struct Likeness {
 }
 
 impl Likeness {
-    /// How the line of a place is like a pattern with these words, which have blanks between them, if
-    /// it is.
+    /// How the line of a place is like a pattern with these words, which have blanks between them,
+    /// if it is.
     pub fn of(standing: &Standing, pattern: &str, words: &str) -> Option<Likeness> {
         let spot = &standing.spot;
         let mut like = Likeness {

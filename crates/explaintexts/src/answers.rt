@@ -20,8 +20,9 @@ use iltext::TextCause;
 use iltokens::{Keyword, keyword_of};
 use std::alloc::{AllocError, Global};
 
-/// What is said of a cause at a place of a text, which stands on a line, counted from 1. A change that
-/// is shown was tried: with it the text is accepted, or reads on behind the change and that line.
+/// What is said of a cause at a place of a text, which stands on a line, counted from 1. A change
+/// that is shown was tried: with it the text is accepted, or reads on behind the change and that
+/// line.
 ///
 /// # Errors
 ///
@@ -78,8 +79,8 @@ fn habitual(
 /// How many stages there are at which something is said of what people write.
 const STAGES: u8 = 4;
 
-/// What is said at a stage: of what is nearly right, of `=` and of a program without a name, of what
-/// other languages have, and of numbers where no range is meant.
+/// What is said at a stage: of what is nearly right, of `=` and of a program without a name, of
+/// what other languages have, and of numbers where no range is meant.
 fn habitual_at(
     alloc: Global,
     standing: &Standing,

@@ -476,8 +476,8 @@ fn address_rows() -> &'static [Habit] {
     ADDRESSES
 }
 
-/// Each table of habits, in the order in which they are asked. Each stands in a function of its own,
-/// since what one function names is checked together, at the cost of its square.
+/// Each table of habits, in the order in which they are asked. Each stands in a function of its
+/// own, since what one function names is checked together, at the cost of its square.
 pub(crate) fn table(number: usize) -> &'static [Habit] {
     match number {
         0 => near_declarations(),

@@ -1,6 +1,7 @@
-//! Wrong bodies that the contracts of the crates that explain rule out. Each function here calls the
-//! real one at an input where a wrong body answers otherwise, and is proved from that one's contract
-//! alone. So it stays proved only while the contract refuses the wrong body, which its comment names.
+//! Wrong bodies that the contracts of the crates that explain rule out. Each function here calls
+//! the real one at an input where a wrong body answers otherwise, and is proved from that one's
+//! contract alone. So it stays proved only while the contract refuses the wrong body, which its
+//! comment names.
 //!
 //! What crosses the boundary: nothing that a program calls. The functions are the statements, and
 //! each can be read by itself: the first to read is [`shown_change_was_tried`].
