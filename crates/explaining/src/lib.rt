@@ -4,10 +4,10 @@
 //!
 //! What crosses the boundary: the bytes of a file with its fault ([`AskedText`] for a text, and
 //! what `plantload::load_with_source` says of it), and an [`Explanation`], or lines on a writer. An
-//! explanation stands at the place that the loader gives (`StandsAt`), and a change of the text that
-//! it shows was tried: with it the text is accepted, or its fault is gone (`ShowsCure`). What is
-//! printed is fixed by worked rows (crates/rows); of the rest of the code it is proved that it is
-//! safe and ends.
+//! explanation stands at the place that the loader gives (`StandsAt`), and a change of the text
+//! that it shows was tried: with it the text is accepted, or its fault is gone (`ShowsCure`). What
+//! is printed is fixed by worked rows (crates/rows); of the rest of the code it is proved that it
+//! is safe and ends.
 //!
 //! ```text
 //! let Err(stop) = load_with_source(alloc, &text, &binding) else { .. };

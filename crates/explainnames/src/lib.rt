@@ -2,9 +2,9 @@
 //! which faults a text has besides the least.
 //!
 //! What crosses the boundary: [`answer_name`], of a cause at a place, of which a change that it
-//! shows was tried (`ShowsCure`), and [`OtherFaults`]. Names that other languages have stand in short
-//! tables (src/name_habits.rt). What is printed is fixed by worked rows (crates/rows); of the rest
-//! of the code it is proved that it is safe and ends.
+//! shows was tried (`ShowsCure`), and [`OtherFaults`]. Names that other languages have stand in
+//! short tables (src/name_habits.rt). What is printed is fixed by worked rows (crates/rows); of the
+//! rest of the code it is proved that it is safe and ends.
 //!
 //! ```text
 //! let answer = answer_name(alloc, &asked, &source, line, at, NameCause::Unknown)?;

@@ -3,8 +3,8 @@
 //! What crosses the boundary: a [`Standing`], a place of a text that is asked about; and a
 //! [`Likeness`], where its line is like a pattern, with what stands in the slots
 //! (src/likeness.rt says how patterns are written). Which patterns there are, and what is said of
-//! each, stands in the crate above. Of the code it is proved that it is safe and ends; what it finds
-//! is fixed by worked rows (crates/rows).
+//! each, stands in the crate above. Of the code it is proved that it is safe and ends; what it
+//! finds is fixed by worked rows (crates/rows).
 //!
 //! ```text
 //! let like = Likeness::of(&standing, "^ ld @ {function} ~(", "")?;
