@@ -1,5 +1,5 @@
 -- What an explanation speaks of.
-use Rattle.std.specs.Prelude.{◌≡◌, ⊥, Some}
+use Rattle.std.specs.Prelude.{◌≡◌, Some}
 use Rattle.iltext.specs.declared.fault.TextFault.TheVariants as text_faults
 use Rattle.ildeclared.specs.declared.fault.NameFault.TheVariants as name_faults
 use Rattle.plantload.specs.declared.fault.LoadFault.{LoadFault}
