@@ -15,6 +15,6 @@ returns c =
     let fault = faults.Text (text_faults.At (last_line edit text (changed edit text) c.args.line + 1) 1 c.args.cause) in
     if_ok (IsTried wiring text c.args.line edit) (λ outcome. outcome ≢ Text There) c.outcome.result c.outcome.ensures
     (λ outcome tried same.
-      let there = subst (λ (o : EditOutcome). TellsFault edit text (changed edit text) c.args.line fault o) same
-        (told_of wiring text c.args.line edit outcome fault c.requires tried) in
-      omega (arith, there.1))
+    let there = subst (λ (o : EditOutcome). TellsFault edit text (changed edit text) c.args.line fault o) same
+    (told_of wiring text c.args.line edit outcome fault c.requires tried) in
+    omega (arith, there.1))

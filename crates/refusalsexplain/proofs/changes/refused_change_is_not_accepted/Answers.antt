@@ -11,5 +11,5 @@ returns c =
     let wiring = c.args.asked.now.binding.now in let text = c.args.asked.now.text.now in let edit = c.args.edit.now in
     if_ok (IsTried wiring text c.args.line edit) (λ outcome. outcome ≢ Accepted) c.outcome.result c.outcome.ensures
     (λ outcome tried same. not_accepted edit text (changed edit text) c.args.line c.args.fault
-      (subst (λ (o : EditOutcome). TellsFault edit text (changed edit text) c.args.line c.args.fault o) same
-        (told_of wiring text c.args.line edit outcome c.args.fault c.requires tried)))
+    (subst (λ (o : EditOutcome). TellsFault edit text (changed edit text) c.args.line c.args.fault o) same
+    (told_of wiring text c.args.line edit outcome c.args.fault c.requires tried)))
