@@ -1,5 +1,7 @@
 //! Notes, as small values.
 
+ghost use Rattle.std.specs.Prelude.{◌≡◌, IsSomeAnd};
+
 use crate::kinds::{Kind, Rule};
 use ilblocks::BlockKind;
 use ilcode::Word;
@@ -57,17 +59,23 @@ pub(crate) struct Note {
 }
 
 /// A note that names so much.
-pub(crate) fn note_at(kind: Kind, place: NotePlace, first: Found, second: Found) -> Option<Note> {
+pub(crate) fn note_at(kind: Kind, place: NotePlace, first: Found, second: Found) -> Option<Note>
+    ensures { IsSomeAnd result (λ note. note.kind ≡ kind) }
+{
     note_of(kind, place, [first, second, Found::Nothing, Found::Nothing])
 }
 
 /// A note that names all this.
-pub(crate) fn note_of(kind: Kind, place: NotePlace, found: [Found; 4]) -> Option<Note> {
+pub(crate) fn note_of(kind: Kind, place: NotePlace, found: [Found; 4]) -> Option<Note>
+    ensures { IsSomeAnd result (λ note. note.kind ≡ kind) }
+{
     Some(Note { kind, place, found })
 }
 
 /// A note on a name, and what else it names.
-pub(crate) fn note_on(kind: Kind, name: Name, second: Found) -> Option<Note> {
+pub(crate) fn note_on(kind: Kind, name: Name, second: Found) -> Option<Note>
+    ensures { IsSomeAnd result (λ note. note.kind ≡ kind) }
+{
     note_at(kind, NotePlace::Name(name), Found::Name(name), second)
 }
 

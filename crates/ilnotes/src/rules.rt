@@ -45,7 +45,7 @@ pub(crate) fn add_all_notes(notes: &mut Notes, house: &House) -> Added {
     add_program_notes(notes, house.source);
     add_comment_notes(notes, house);
     add_idle_notes(notes, house);
-    add_source_notes(notes, plan)?;
+    add_source_notes(notes, plan);
     add_covered_levels(notes, house);
     add_load_notes(notes, &house.tasks, plan.buses())
 }

@@ -1,12 +1,14 @@
 //! Notes on what no task has: programs, tasks without one, and sources of the binding.
 
+ghost use Rattle.std.specs.Prelude.{◌≡◌, MatchOption};
+ghost use Rattle.ilfacts.specs.Planned.{UsesSource};
+ghost use Rattle.ilnotes.specs.declared.kinds.Kind.TheVariants.{UnusedSource};
+
 use crate::kinds::{Kind, Rule};
-use crate::note::{Added, Found, Note, NotePlace, Notes, note_at, note_of, note_on};
-use ilfacts::House;
-use illisting::{is_marked, mark};
-use ilplan::{Location, Plan};
+use crate::note::{Found, Note, NotePlace, Notes, note_at, note_of, note_on};
+use ilfacts::{House, uses_source};
+use ilplan::Plan;
 use ilsource::{Declared, Element, InstanceDeclaration, Name, Program, Source};
-use std::alloc::{AllocError, Global};
 use wordlines::BoundSource;
 
 /// Adds a note for each program that no task runs and for each task in which no program runs, where
@@ -118,23 +120,34 @@ pub(crate) fn add_idle_notes(notes: &mut Notes, house: &House) {
 
 /// Adds a note for each source of the binding that the text does not use, and for each that is
 /// bound at two places.
-pub(crate) fn add_source_notes(notes: &mut Notes, plan: &Plan) -> Added {
-    let used = sources_of(notes.alloc, plan)?;
+pub(crate) fn add_source_notes(notes: &mut Notes, plan: &Plan) {
     for (place, bound) in plan.sources().iter().enumerate() {
-        let this = found_of(bound);
-        if !is_marked(&used, number_of(bound.bus, bound.number)) {
-            let note = note_at(Kind::UnusedSource, NotePlace::Whole, this, Found::Nothing);
-            notes.add(Rule::UnusedSources, note);
-        }
+        notes.add(Rule::UnusedSources, note_on_source(plan, bound));
         let key = key_of(bound);
         let mut before = plan.sources().iter().take(place);
         if let Some(first) = before.find(|other| key_of(other) == key) {
-            let first = found_of(first);
+            let (first, this) = (found_of(first), found_of(bound));
             let note = note_at(Kind::DoubleSource, NotePlace::Whole, first, this);
             notes.add(Rule::DoubleSources, note);
         }
     }
-    Ok(())
+}
+
+/// The note on a source that the text does not use.
+fn note_on_source(plan: &Plan, bound: &BoundSource) -> Option<Note>
+    ensures { MatchOption result (UsesSource plan.now bound.now.bus bound.now.number)
+        (λ note. (note.kind ≡ UnusedSource)
+        × ¬ UsesSource plan.now bound.now.bus bound.now.number) }
+{
+    if uses_source(plan, bound.bus, bound.number) {
+        return None;
+    }
+    note_at(
+        Kind::UnusedSource,
+        NotePlace::Whole,
+        found_of(bound),
+        Found::Nothing,
+    )
 }
 
 /// A source, as notes name it.
@@ -149,27 +162,4 @@ fn found_of(bound: &BoundSource) -> Found {
 fn key_of(bound: &BoundSource) -> u32 {
     let source = bound.source;
     u32::from_le_bytes([bound.bus, source.scheme.number(), source.a, source.b])
-}
-
-/// The number of a source among those of all buses.
-fn number_of(bus: u8, source: u8) -> usize {
-    usize::from(bus)
-        .saturating_mul(usize::from(limits::MOST_SOURCES))
-        .saturating_add(usize::from(source))
-}
-
-/// For each source of each bus whether a global variable has an address of it.
-fn sources_of(alloc: Global, plan: &Plan) -> Result<Vec<bool>, AllocError> {
-    let mut used = vec![in alloc; false; number_of(limits::MOST_BUSES, 0)]?;
-    for number in 0..plan.globals() {
-        match plan.global(number).location {
-            Some(
-                Location::Trigger { bus, source }
-                | Location::Information { bus, source }
-                | Location::Count { bus, source },
-            ) => mark(&mut used, number_of(bus, source)),
-            _ => {}
-        }
-    }
-    Ok(used)
 }

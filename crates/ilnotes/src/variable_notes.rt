@@ -2,13 +2,18 @@
 //! likely meant as levels. What is used is kept under the place of its name, so that the instances
 //! of a program are one.
 
+ghost use Rattle.std.specs.Prelude.{◌⊎◌, IfOk, MatchOption};
+ghost use Rattle.ilfacts.specs.Planned.{IsRead, IsStored, StartsTask};
+ghost use Rattle.ilnotes.specs.Said.{IsTrueOf};
+
 use crate::kinds::{Kind, Rule};
 use crate::note::{Added, Found, Note, NotePlace, Notes, note_at, note_of, note_on};
-use ilfacts::{GlobalSlot, House, TaskFacts, Usage};
+use ilfacts::{GlobalSlot, House, TaskFacts, Usage, is_read, is_stored, starts_task};
 use illisting::name_in;
-use ilplan::{Global, Location, SlotOwner, UserFunction};
+use ilplan::{Global, Location, Plan, SlotOwner, UserFunction};
 use ilsource::Name;
 use iltypes::{IlType, Range, Value};
+use std::alloc::{AllocError, Global as GlobalAllocator};
 
 /// How a variable is used by the words of all tasks, reached or not.
 #[derive(Clone, Copy)]
@@ -55,14 +60,8 @@ pub(crate) fn add_variable_notes(notes: &mut Notes, house: &House) -> Added {
     }
     for number in 0..house.plan.globals() {
         let global = house.plan.global(number);
-        let starts = house
-            .tasks
-            .iter()
-            .any(|facts| facts.trigger == Some(number));
-        notes.add(
-            Rule::Variables,
-            note_on_global(house, &uses, global, starts),
-        );
+        let note = note_on_global(notes.alloc, house, &uses, number, global)?;
+        notes.add(Rule::Variables, note);
     }
     for (number, function) in house.plan.functions().iter().enumerate() {
         if house
@@ -124,32 +123,68 @@ fn use_of(uses: &Uses, name: Name) -> Use {
     uses.get(name.from).copied().unwrap_or(UNUSED)
 }
 
-/// The note on a global variable that starts a task or not, where there is one. One without an
-/// address that has the numbers of a level, and that a task stores and no other task names, is
-/// likely meant as a level.
-fn note_on_global(house: &House, uses: &Uses, global: &Global, starts: bool) -> Option<Note> {
+/// The note on a global variable, where there is one. One without an address that has the numbers of
+/// a level, and that a task stores and no other task names, is likely meant as a level.
+fn note_on_global(
+    alloc: GlobalAllocator,
+    house: &House,
+    uses: &Uses,
+    number: usize,
+    global: &Global,
+) -> Result<Option<Note>, AllocError> {
     let Global { name, initial, .. } = *global;
     let used = use_of(uses, name);
     match global.location {
         None if used.is_stored && used.times == 1 && global.value_type == LEVELS => {
-            note_on(Kind::LevelWithoutAddress, name, Found::Nothing)
+            Ok(note_on(Kind::LevelWithoutAddress, name, Found::Nothing))
         }
-        None => note_on_use(uses, name, initial),
-        Some(Location::Level { .. }) if !used.is_stored => {
-            let (kind, line) = match same_stored(house, uses, name) {
-                Some(other) => (Kind::OtherIsStored, house.lines.at(other).line),
-                None => (Kind::LevelNeverStored, 0),
-            };
-            let (initial, line) = (Found::Value(initial), Found::Count(line));
-            let found = [Found::Name(name), initial, line, Found::Nothing];
-            note_of(kind, NotePlace::Name(name), found)
-        }
-        Some(Location::Level { .. }) => None,
-        Some(_) if used.is_read => None,
-        Some(Location::Trigger { .. }) if starts => None,
-        Some(Location::Trigger { .. }) => note_on(Kind::UnusedTrigger, name, Found::Nothing),
-        Some(_) => note_on(Kind::NeverRead, name, Found::Nothing),
+        None => Ok(note_on_use(uses, name, initial)),
+        Some(Location::Level { .. }) => Ok(note_on_level(house, uses, number, global)),
+        Some(_) if used.is_read => Ok(None),
+        Some(location) => note_on_input(alloc, house.plan, number, name, location),
     }
+}
+
+/// The note on a level that no task stores.
+fn note_on_level(house: &House, uses: &Uses, number: usize, level: &Global) -> Option<Note>
+    ensures { MatchOption result (IsStored house.now.plan.now number)
+        (λ note. IsTrueOf house.now.plan.now number note.kind) }
+{
+    let Global { name, initial, .. } = *level;
+    if is_stored(house.plan, number) {
+        return None;
+    }
+    let (kind, line) = match same_stored(house, uses, name) {
+        Some(other) => (Kind::OtherIsStored, house.lines.at(other).line),
+        None => (Kind::LevelNeverStored, 0),
+    };
+    let (initial, line) = (Found::Value(initial), Found::Count(line));
+    let found = [Found::Name(name), initial, line, Found::Nothing];
+    note_of(kind, NotePlace::Name(name), found)
+}
+
+/// The note on an input that no task reads; on a trigger where it starts none either.
+fn note_on_input(
+    alloc: GlobalAllocator,
+    plan: &Plan,
+    number: usize,
+    name: Name,
+    location: Location,
+) -> Result<Option<Note>, AllocError>
+    ensures { IfOk result (λ found. MatchOption found
+        (IsRead plan.now number ⊎ StartsTask plan.now number)
+        (λ note. IsTrueOf plan.now number note.kind)) }
+{
+    if is_read(alloc, plan, number)? {
+        return Ok(None);
+    }
+    if !matches!(location, Location::Trigger { .. }) {
+        return Ok(note_on(Kind::NeverRead, name, Found::Nothing));
+    }
+    if starts_task(plan, number) {
+        return Ok(None);
+    }
+    Ok(note_on(Kind::UnusedTrigger, name, Found::Nothing))
 }
 
 /// The variable of this name that a program has of its own and stores.
