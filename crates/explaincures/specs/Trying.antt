@@ -1,5 +1,6 @@
 -- What is known of a change that was tried, and when a fault is gone with it.
-use Rattle.std.specs.Prelude.{◌≡◌, ◌<◌, ◌≤◌, ◌-◌, ◌⊎◌, max, ⊤, ℕ, List, Result, Ok, Err, ◌++◌, drop, take, length}
+use Rattle.std.specs.Prelude.{◌≡◌, ◌<◌, ◌≤◌, ◌-◌, ◌==◌, ◌||◌, ◌⊎◌, ◌↔◌, max, not, ⊤, ℕ, Bool, IsTrue}
+use Rattle.std.specs.Prelude.{List, Result, Ok, Err, ◌++◌, count_by, drop, take, length}
 use Rattle.wordlines.specs.Wirings.{Wiring}
 use Rattle.ilsource.specs.Places.{line_at, col_at}
 use Rattle.iltext.specs.declared.fault.TextFault.TheVariants as text_faults
@@ -47,10 +48,23 @@ IsOnSide edit text bytes asked line There =
 IsOnSide edit text bytes asked line Behind =
     (line_at text edit.from ≤ line) × (last_line edit text bytes asked < line)
 
--- what is said of a fault of the changed text: of which pass it is, and where it stands
+-- a line and a column are those of the end of some bytes
+abbrev pub IsEnd : List ℕ → ℕ → ℕ → Type 0
+IsEnd bytes line col = (line ≡ line_at bytes (length bytes)) × (col ≡ col_at bytes (length bytes))
+
+-- neither a blank (32, 9) nor of the end of a line (10, 13)
+abbrev pub is_solid : ℕ → Bool
+is_solid byte = not ((byte == 32) || (byte == 9) || (byte == 10) || (byte == 13))
+
+-- how much stands in some bytes, blanks aside
+abbrev pub content_of : List ℕ → ℕ
+content_of bytes = count_by is_solid bytes
+
+-- what is said of a fault of the changed text: of which pass it is, and where it stands; at its end, whether more
+-- stands in it than in the text
 abbrev pub TellsFault : Edit → List ℕ → List ℕ → ℕ → LoadFault → EditOutcome → Type 0
-TellsFault edit text bytes asked (faults.Text (text_faults.At line col cause)) Ended =
-    (line ≡ line_at bytes (length bytes)) × (col ≡ col_at bytes (length bytes))
+TellsFault edit text bytes asked (faults.Text (text_faults.At line col cause)) (Ended has_more) =
+    IsEnd bytes line col × (IsTrue has_more ↔ (content_of text < content_of bytes))
 TellsFault edit text bytes asked (faults.Text (text_faults.At line col cause)) (Text side) =
     IsOnSide edit text bytes asked line side
 TellsFault edit text bytes asked (faults.Name (name_faults.At line col cause)) (Name side) =
@@ -70,17 +84,19 @@ pub record IsTried (wiring : Wiring) (text : List ℕ) (asked : ℕ) (edit : Edi
   pub loaded : IsLoaded wiring (changed edit text) answer
   pub told : Tells edit text (changed edit text) asked answer outcome
 
--- the text is accepted, or reads up to its end, or its first fault stands behind the change and the line that it is
--- to cure, or it is one of a later pass
-abbrev pub ReadsOn : EditOutcome → Type 0
-ReadsOn (Text side) = side ≡ Behind
-ReadsOn _ = ⊤
+-- where the first fault of a text stood at this line and column: the text is accepted, or reads up to its end, with more
+-- in it where that fault stood at its end too; or its first fault stands behind the change and the line; or it is one of
+-- a later pass
+abbrev pub ReadsOn : List ℕ → ℕ → ℕ → EditOutcome → Type 0
+ReadsOn text line col (Text side) = side ≡ Behind
+ReadsOn text line col (Ended has_more) = IsEnd text line col → IsTrue has_more
+ReadsOn text line col _ = ⊤
 
 -- the text is accepted, or the least fault of its names stands behind the change and the line that it is to cure,
 -- or a task is refused
 abbrev pub NamesOn : EditOutcome → Type 0
 NamesOn (Text side) = ⊥
-NamesOn Ended = ⊥
+NamesOn (Ended has_more) = ⊥
 NamesOn (Name side) = side ≡ Behind
 NamesOn _ = ⊤
 
@@ -91,11 +107,11 @@ RunsOn task word (Code other place) = (task < other) ⊎ ((task ≡ other) × (w
 RunsOn task word _ = ⊥
 
 -- a fault of the text is gone
-abbrev pub IsGone : LoadFault → EditOutcome → Type 0
-IsGone (faults.Text fault) outcome = ReadsOn outcome
-IsGone (faults.Name fault) outcome = NamesOn outcome
-IsGone (faults.Code refused) outcome = RunsOn refused.task refused.refusal.word outcome
-IsGone faults.Memory outcome = ⊥
+abbrev pub IsGone : List ℕ → LoadFault → EditOutcome → Type 0
+IsGone text (faults.Text (text_faults.At line col cause)) outcome = ReadsOn text line col outcome
+IsGone text (faults.Name fault) outcome = NamesOn outcome
+IsGone text (faults.Code refused) outcome = RunsOn refused.task refused.refusal.word outcome
+IsGone text _ outcome = ⊥
 
 -- a change of the text that is shown is one of these
 abbrev pub IsShown : (Edit → Type 0) → Example → Type 0

@@ -32,8 +32,8 @@ pub struct Advice {
 }
 
 impl Advice {
-    /// What a row says: a text with `|` between what is wrong, what helps, and the line. A table of
-    /// such texts is proved in a third of the steps that take three texts a row.
+    /// What a row says: a text with `|` between what is wrong, what helps, and the line. One text a
+    /// row has fewer steps to prove than three.
     pub fn of(row: &'static str) -> Advice {
         let (what, rest) = row.split_once('|').unwrap_or((row, ""));
         let (cure, line) = rest.split_once('|').unwrap_or((rest, ""));

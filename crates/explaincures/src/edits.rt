@@ -1,9 +1,8 @@
 //! Changes of a text that may cure it, and trying them.
 
-ghost use Rattle.std.specs.Prelude.{◌≡◌, IfOk, IsTrue, length};
-ghost use Rattle.ilsource.specs.Places.{line_at, col_at};
+ghost use Rattle.std.specs.Prelude.{◌≡◌, ◌<◌, ◌↔◌, IfOk, IsTrue};
 ghost use Rattle.explaincures.specs.LeavingOut.{IsEdit};
-ghost use Rattle.explaincures.specs.Trying.{IsOnSide, IsTried, changed_part, lines_of};
+ghost use Rattle.explaincures.specs.Trying.{IsEnd, IsOnSide, IsTried, changed_part, content_of, lines_of};
 
 use crate::answers::AskedText;
 use crate::marking::{line_number, shown_text};
@@ -111,7 +110,9 @@ impl Edit {
                 ),
             ) => {
                 if is_end(&bytes, found, col) {
-                    return Ok(EditOutcome::Ended);
+                    return Ok(EditOutcome::Ended {
+                        has_more: has_more(text, &bytes),
+                    });
                 }
                 Ok(EditOutcome::Text(self.side_of(text, &bytes, line, found)))
             }
@@ -149,10 +150,26 @@ fn lines_of(bytes: &[u8]) -> usize
     LineColumn::of(bytes, bytes.len()).line
 }
 
+/// Whether more stands in a changed text than in the text, blanks aside.
+fn has_more(text: &[u8], bytes: &[u8]) -> bool
+    ensures { IsTrue result ↔ (content_of text.now < content_of bytes.now) }
+{
+    content_of(text) < content_of(bytes)
+}
+
+/// How much stands in some bytes, blanks aside.
+fn content_of(bytes: &[u8]) -> usize
+    ensures { result ≡ content_of bytes.now }
+{
+    bytes
+        .iter()
+        .filter(|byte| !matches!(**byte, b' ' | b'\t' | b'\n' | b'\r'))
+        .count()
+}
+
 /// Whether a line and a column are those of a text's end.
-fn is_end(bytes: &[u8], line: usize, col: usize) -> bool
-    ensures { IsTrue result → (line ≡ line_at bytes.now (length bytes.now))
-        × (col ≡ col_at bytes.now (length bytes.now)) }
+pub fn is_end(bytes: &[u8], line: usize, col: usize) -> bool
+    ensures { IsTrue result ↔ IsEnd bytes.now line col }
 {
     let end = LineColumn::of(bytes, bytes.len());
     end.line == line && end.col == col
@@ -189,8 +206,8 @@ pub enum Side {
 #[derive(Clone, Copy)]
 pub enum EditOutcome {
     Accepted,
-    /// The text ends too early.
-    Ended,
+    /// The text ends too early; whether more stands in it than before, blanks aside.
+    Ended { has_more: bool },
     /// A fault of the text before its end.
     Text(Side),
     /// A fault of names.

@@ -27,7 +27,7 @@ mod surroundings;
 mod words;
 
 pub use answers::{Advice, AskedText, Example, FaultAnswer, write_answer};
-pub use edits::{Edit, EditOutcome, Side, TriedLines};
+pub use edits::{Edit, EditOutcome, Side, TriedLines, is_end};
 pub use leaving_out::{in_place_of_sign, left_out};
 pub use marking::{
     first_column, line_number, line_of, shown_text, write_found, write_line, write_place,

@@ -49,7 +49,7 @@ pub(crate) fn is_cure(refused: &Refused, change: Change, edit: &Edit, outcome: E
             is_behind(refused, word.saturating_sub(more))
         }
         EditOutcome::Code { task, .. } => task > refused.names.task,
-        EditOutcome::Ended | EditOutcome::Text(_) | EditOutcome::Name(_) => false,
+        EditOutcome::Ended { .. } | EditOutcome::Text(_) | EditOutcome::Name(_) => false,
     }
 }
 

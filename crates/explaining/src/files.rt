@@ -34,7 +34,7 @@ pub fn explanation_of(
 ) -> Result<Explanation, AllocError>
     ensures place { IfOk result (StandsAt stop.now.fault) }
     ensures cure { IfOk result (λ told. ShowsCure asked.now.binding.now asked.now.text.now told.line
-        (IsGone stop.now.fault) told.answer) }
+        (IsGone asked.now.text.now stop.now.fault) told.answer) }
 {
     match (&stop.fault, &stop.source) {
         (LoadFault::Text(TextFault::At { line, col, cause }), _) => {
@@ -62,10 +62,10 @@ fn told_text(
     ensures line { IfOk result (λ told. told.line ≡ place.0) }
     ensures mark { IfOk result (λ told. told.mark ≡ Some place.1) }
     ensures cure { IfOk result (λ told.
-        ShowsCure asked.now.binding.now asked.now.text.now place.0 ReadsOn told.answer) }
+        ShowsCure asked.now.binding.now asked.now.text.now place.0
+        (ReadsOn asked.now.text.now place.0 place.1) told.answer) }
 {
-    let at = place_of(asked.text, place.0, place.1);
-    let answer = answer_text(alloc, asked, place.0, at, cause)?;
+    let answer = answer_text(alloc, asked, place.0, place.1, cause)?;
     let mut further = Further::of(alloc, asked);
     if let Example::Changed(edit) = &answer.example {
         further.add_behind(&edit.lines(alloc, asked.text)?)?;

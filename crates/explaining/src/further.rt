@@ -104,7 +104,7 @@ impl<'a> Further<'a> {
         cause: TextCause,
     ) -> Result<Option<TriedLines>, AllocError> {
         let at = place_of(text.text, line, col);
-        let FaultAnswer { what, example, .. } = answer_text(self.alloc, text, line, at, cause)?;
+        let FaultAnswer { what, example, .. } = answer_text(self.alloc, text, line, col, cause)?;
         let tried = match example {
             Example::Changed(edit) => Some(edit.lines(self.alloc, text.text)?),
             _ => None,

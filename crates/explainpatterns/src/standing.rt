@@ -1,6 +1,9 @@
 //! A place that is asked about.
 
-use explaincures::{AskedText, Spot, Surroundings, is_one_of};
+ghost use Rattle.std.specs.Prelude.{◌↔◌, IsTrue};
+ghost use Rattle.explaincures.specs.Trying.{IsEnd};
+
+use explaincures::{AskedText, Spot, Surroundings, is_end, is_one_of};
 
 /// Words that begin a call of a block.
 pub const CALLS: &[&str] = &["CAL", "CALC", "CALCN"];
@@ -15,8 +18,9 @@ pub type Place = (usize, usize);
 #[derive(Clone, Copy)]
 pub struct Standing<'a> {
     pub asked: &'a AskedText<'a>,
-    /// Its line, counted from 1.
+    /// Its line and column, counted from 1.
     pub line: usize,
+    pub col: usize,
     pub spot: Spot<'a>,
     pub around: Surroundings,
 }
@@ -26,6 +30,13 @@ impl<'a> Standing<'a> {
     pub fn before(&self) -> &'a [u8] {
         let (from, to) = self.around.before;
         self.spot.part(from, to)
+    }
+
+    /// Whether the text ends there.
+    pub fn is_at_end(&self) -> bool
+        ensures { IsTrue result ↔ IsEnd self.now.asked.now.text.now self.now.line self.now.col }
+    {
+        is_end(self.asked.text, self.line, self.col)
     }
 
     /// Whether the inputs of a call of a block stand there.

@@ -2,6 +2,7 @@
 
 ghost use Rattle.std.specs.Prelude.{IfOk, IfSome};
 ghost use Rattle.explaincures.specs.Trying.{ReadsOn, ShowsCure};
+ghost use Rattle.explaintexts.specs.Readings.{ShowsReading};
 
 use crate::examples::example_of;
 use crate::filling::{first_answer, given_len};
@@ -13,16 +14,15 @@ use crate::proposals::{
 use crate::said::{Change, Row, Said, Trial, advice};
 use explaincures::{
     Advice, AskedText, FaultAnswer, Group, Possible, Spot, Surroundings, is_one_of, left_out,
-    list_words,
+    list_words, place_of,
 };
 use explainpatterns::{Standing, place_of_pair};
 use iltext::TextCause;
 use iltokens::{Keyword, keyword_of};
 use std::alloc::{AllocError, Global};
 
-/// What is said of a cause at a place of a text, which stands on a line, counted from 1. A change
-/// that is shown was tried: with it the text is accepted, or reads on behind the change and that
-/// line.
+/// What is said of a cause at a line and a column of a text, both counted from 1. A change that is
+/// shown was tried: with it the text is accepted, or reads on behind the change and that line.
 ///
 /// # Errors
 ///
@@ -31,15 +31,17 @@ pub fn answer_text(
     alloc: Global,
     asked: &AskedText,
     line: usize,
-    at: usize,
+    col: usize,
     cause: TextCause,
 ) -> Result<FaultAnswer, AllocError>
-    ensures { IfOk result
-        (ShowsCure asked.now.binding.now asked.now.text.now line ReadsOn) }
+    ensures { IfOk result (ShowsCure asked.now.binding.now asked.now.text.now line
+        (ReadsOn asked.now.text.now line col)) }
 {
+    let at = place_of(asked.text, line, col);
     let standing = Standing {
         asked,
         line,
+        col,
         spot: Spot::of(asked.text, at),
         around: Surroundings::of(asked.text, at),
     };
@@ -63,9 +65,7 @@ fn habitual(
     standing: &Standing,
     last: Option<Said>,
 ) -> Result<Option<FaultAnswer>, AllocError>
-    ensures { let asked = standing.now.asked.now in
-        IfOk result (λ found. IfSome found
-        (ShowsCure asked.binding.now asked.text.now standing.now.line ReadsOn)) }
+    ensures { IfOk result (λ found. IfSome found (ShowsReading standing.now)) }
 {
     for stage in 0..STAGES {
         let answer = habitual_at(alloc, standing, last, stage)?;
@@ -87,9 +87,7 @@ fn habitual_at(
     last: Option<Said>,
     stage: u8,
 ) -> Result<Option<FaultAnswer>, AllocError>
-    ensures { let asked = standing.now.asked.now in
-        IfOk result (λ found. IfSome found
-        (ShowsCure asked.binding.now asked.text.now standing.now.line ReadsOn)) }
+    ensures { IfOk result (λ found. IfSome found (ShowsReading standing.now)) }
 {
     match stage {
         0 => habit_answer(alloc, standing, 0, 2),
@@ -276,8 +274,7 @@ fn byte_at(spot: &Spot, number: usize) -> u8 {
 
 /// What is said where something cannot stand: what could, and a change of the line that is tried.
 fn unexpected(alloc: Global, standing: &Standing) -> Result<FaultAnswer, AllocError>
-    ensures { let asked = standing.now.asked.now in
-        IfOk result (ShowsCure asked.binding.now asked.text.now standing.now.line ReadsOn) }
+    ensures { IfOk result (ShowsReading standing.now) }
 {
     match Possible::at(
         alloc,
@@ -296,8 +293,7 @@ fn expected(
     standing: &Standing,
     possible: &Possible,
 ) -> Result<FaultAnswer, AllocError>
-    ensures { let asked = standing.now.asked.now in
-        IfOk result (ShowsCure asked.binding.now asked.text.now standing.now.line ReadsOn) }
+    ensures { IfOk result (ShowsReading standing.now) }
 {
     let facts = told_of(alloc, standing, possible)?;
     let answer = match proposed(alloc, standing, possible)? {
@@ -324,9 +320,7 @@ fn proposed(
     standing: &Standing,
     possible: &Possible,
 ) -> Result<Option<FaultAnswer>, AllocError>
-    ensures { let asked = standing.now.asked.now in
-        IfOk result (λ found. IfSome found
-        (ShowsCure asked.binding.now asked.text.now standing.now.line ReadsOn)) }
+    ensures { IfOk result (λ found. IfSome found (ShowsReading standing.now)) }
 {
     for group in 0..GROUPS {
         let answer = proposed_of(alloc, standing, possible, group)?;
@@ -347,9 +341,7 @@ fn proposed_of(
     possible: &Possible,
     group: u8,
 ) -> Result<Option<FaultAnswer>, AllocError>
-    ensures { let asked = standing.now.asked.now in
-        IfOk result (λ found. IfSome found
-        (ShowsCure asked.binding.now asked.text.now standing.now.line ReadsOn)) }
+    ensures { IfOk result (λ found. IfSome found (ShowsReading standing.now)) }
 {
     match group {
         0 => first_answer(alloc, standing, &words(standing, possible)),

@@ -1,7 +1,8 @@
 //! What is said in words: slots are filled, and changes are tried.
 
 ghost use Rattle.std.specs.Prelude.{IfOk, IfSome, IsTrue};
-ghost use Rattle.explaincures.specs.Trying.{IsCure, ReadsOn, ShowsCure};
+ghost use Rattle.explaincures.specs.Trying.{ReadsOn};
+ghost use Rattle.explaintexts.specs.Readings.{CuresReading, ShowsReading};
 
 use crate::said::{Change, Said, Trial};
 use explaincures::{
@@ -18,9 +19,7 @@ pub(crate) fn first_answer(
     standing: &Standing,
     candidates: &[Option<Said>],
 ) -> Result<Option<FaultAnswer>, AllocError>
-    ensures { let asked = standing.now.asked.now in
-        IfOk result (λ found. IfSome found
-        (ShowsCure asked.binding.now asked.text.now standing.now.line ReadsOn)) }
+    ensures { IfOk result (λ found. IfSome found (ShowsReading standing.now)) }
 {
     for candidate in candidates {
         if let Some(said) = candidate {
@@ -41,9 +40,7 @@ impl Said {
         alloc: Global,
         standing: &Standing,
     ) -> Result<Option<FaultAnswer>, AllocError>
-        ensures { let asked = standing.now.asked.now in
-            IfOk result (λ found. IfSome found
-            (ShowsCure asked.binding.now asked.text.now standing.now.line ReadsOn)) }
+        ensures { IfOk result (λ found. IfSome found (ShowsReading standing.now)) }
     {
         match self.cure(alloc, standing)? {
             Some(edit) => {
@@ -61,8 +58,7 @@ impl Said {
         alloc: Global,
         standing: &Standing,
     ) -> Result<FaultAnswer, AllocError>
-        ensures { let asked = standing.now.asked.now in
-            IfOk result (ShowsCure asked.binding.now asked.text.now standing.now.line ReadsOn) }
+        ensures { IfOk result (ShowsReading standing.now) }
     {
         let text = standing.spot.text;
         Ok(FaultAnswer {
@@ -80,9 +76,7 @@ impl Said {
         alloc: Global,
         standing: &Standing,
     ) -> Result<Option<Edit>, AllocError>
-        ensures { let asked = standing.now.asked.now in
-            IfOk result (λ found. IfSome found
-            (IsCure asked.binding.now asked.text.now standing.now.line ReadsOn)) }
+        ensures { IfOk result (λ found. IfSome found (CuresReading standing.now)) }
     {
         let Some(edit) = self.edit(alloc, &standing.spot)? else {
             return Ok(None);
@@ -91,8 +85,8 @@ impl Said {
             return Ok(None);
         }
         let outcome = edit.outcome(alloc, standing.asked, standing.line)?;
-        let is_cut = matches!(outcome, EditOutcome::Text(_) | EditOutcome::Ended);
-        if !is_cure(outcome, self.trial) {
+        let is_cut = matches!(outcome, EditOutcome::Text(_) | EditOutcome::Ended { .. });
+        if !is_cure(standing, outcome, self.trial) {
             return Ok(None);
         }
         if is_cut && !edit.with.is_empty() && is_misnamed(alloc, standing, &edit)? {
@@ -179,13 +173,15 @@ impl Said {
 }
 
 /// Whether what stands against a text with a change, as far as it was tried, is no more what stood
-/// there.
-fn is_cure(outcome: EditOutcome, trial: Trial) -> bool
-    ensures { IsTrue result → ReadsOn outcome }
+/// at this place.
+fn is_cure(standing: &Standing, outcome: EditOutcome, trial: Trial) -> bool
+    ensures { IsTrue result
+        → ReadsOn standing.now.asked.now.text.now standing.now.line standing.now.col outcome }
 {
     let is_whole = trial == Trial::Text;
     match outcome {
-        EditOutcome::Ended | EditOutcome::Text(Side::Behind) => !is_whole,
+        EditOutcome::Ended { has_more } => !is_whole && (has_more || !standing.is_at_end()),
+        EditOutcome::Text(Side::Behind) => !is_whole,
         EditOutcome::Text(_) => false,
         EditOutcome::Name(side) => is_whole || !matches!(side, Side::There),
         EditOutcome::Accepted | EditOutcome::Code { .. } => true,

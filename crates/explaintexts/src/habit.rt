@@ -3,8 +3,8 @@
 use crate::said::Row;
 
 /// Something that people write and the language does not have: what is said of it, and how it may
-/// be written, in forms of which each ends with `\x1e` ([`Form::of`]). A table of texts is proved
-/// in a tenth of the steps that the parts of its rows take one by one.
+/// be written, in forms of which each ends with `\x1e` ([`Form::of`]). A text has fewer steps to
+/// prove than the parts of its rows one by one.
 #[derive(Clone, Copy)]
 pub(crate) struct Habit {
     pub row: Row,

@@ -1,7 +1,7 @@
 //! What people write who come from other languages: which row is like what stands at a place.
 
 ghost use Rattle.std.specs.Prelude.{IfOk, IfSome};
-ghost use Rattle.explaincures.specs.Trying.{ReadsOn, ShowsCure};
+ghost use Rattle.explaintexts.specs.Readings.{ShowsReading};
 
 use crate::habit::{Fix, Form, Habit, Region};
 use crate::habit_rows::table;
@@ -18,9 +18,7 @@ pub(crate) fn habit_answer(
     first: usize,
     last: usize,
 ) -> Result<Option<FaultAnswer>, AllocError>
-    ensures { let asked = standing.now.asked.now in
-        IfOk result (λ found. IfSome found
-        (ShowsCure asked.binding.now asked.text.now standing.now.line ReadsOn)) }
+    ensures { IfOk result (λ found. IfSome found (ShowsReading standing.now)) }
 {
     for number in first..last {
         for habit in table(number) {

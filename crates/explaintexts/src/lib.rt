@@ -6,7 +6,7 @@
 //! (crates/rows); of the rest of the code it is proved that it is safe and ends.
 //!
 //! ```text
-//! let answer = answer_text(alloc, &asked, line, at, TextCause::Unexpected)?;
+//! let answer = answer_text(alloc, &asked, line, col, TextCause::Unexpected)?;
 //! ```
 #![tactic(auto)]
 

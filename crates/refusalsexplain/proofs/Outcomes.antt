@@ -1,5 +1,5 @@
 -- What is said of a change, where it is known what the loader says of the text with it: a text has one answer.
-use Rattle.std.proofs.Common.{◌≡◌, ◌⊎◌, inl, inr, ℕ, ◌<◌, List, length, Result, Ok, Err, sym, subst}
+use Rattle.std.proofs.Common.{◌≡◌, ◌⊎◌, inl, inr, ℕ, ◌<◌, List, length, Result, Ok, Err, arith, subst}
 use Rattle.wordlines.specs.Wirings.{Wiring}
 use Rattle.ilsource.specs.Places.{line_at}
 use Rattle.iltext.specs.declared.fault.TextCause.{TextCause}
@@ -10,11 +10,13 @@ use Rattle.plantload.specs.Loading.{IsLoadFault, IsLoaded, IsSetup}
 use Rattle.plantload.specs.declared.fault.LoadFault.{LoadFault}
 use Rattle.plantload.specs.declared.fault.LoadFault.TheVariants as faults
 use Rattle.plantload.proofs.OneAnswer.{one_answer}
-use Rattle.explaincures.specs.Trying.{IsCure, IsOnSide, IsTried, ReadsOn, Tells, TellsFault, changed, last_line}
+use Rattle.explaincures.specs.Trying.{IsCure, IsEnd, IsOnSide, IsTried, ReadsOn, Tells, TellsFault, changed, content_of}
+use Rattle.explaincures.specs.Trying.{last_line}
 use Rattle.explaincures.specs.declared.edits.Edit.{Edit}
 use Rattle.explaincures.specs.declared.edits.EditOutcome.{EditOutcome}
 use Rattle.explaincures.specs.declared.edits.EditOutcome.TheVariants.{Accepted, Ended, Text, Name, Code}
 use Rattle.explaincures.specs.declared.edits.Side.{Side}
+use Rattle.explaincures.specs.declared.edits.Side.TheVariants.{Behind}
 
 -- it is accepted where the text with it has a setup
 pub accepted : (wiring : Wiring) (text : List ℕ) (asked : ℕ) (edit : Edit) (outcome : EditOutcome) (setup : Loaded)
@@ -46,22 +48,50 @@ not_accepted edit text bytes asked (faults.Code refused) told = told
 not_accepted edit text bytes asked faults.Memory told = told
 
 -- a fault of a text that reads on stands behind the change and the line, or at the end
-pub reads_behind : (edit : Edit) (text bytes : List ℕ) (asked line col : ℕ) (cause : TextCause) (outcome : EditOutcome)
-    → TellsFault edit text bytes asked (faults.Text (text_faults.At line col cause)) outcome → ReadsOn outcome
+pub reads_behind : (edit : Edit) (text bytes : List ℕ) (asked place line col : ℕ) (cause : TextCause) (outcome : EditOutcome)
+    → TellsFault edit text bytes asked (faults.Text (text_faults.At line col cause)) outcome
+    → ReadsOn text asked place outcome
     → (last_line edit text bytes asked < line) ⊎ (line ≡ line_at bytes (length bytes))
-reads_behind edit text bytes asked line col cause Accepted told gone = absurd told
-reads_behind edit text bytes asked line col cause Ended told gone = inr told.0
-reads_behind edit text bytes asked line col cause (Text side) told gone =
+reads_behind edit text bytes asked place line col cause Accepted told gone = absurd told
+reads_behind edit text bytes asked place line col cause (Ended has_more) told gone = inr told.0.0
+reads_behind edit text bytes asked place line col cause (Text side) told gone =
     let behind = subst (λ (s : Side). IsOnSide edit text bytes asked line s) gone told in inl behind.1
-reads_behind edit text bytes asked line col cause (Name side) told gone = absurd told
-reads_behind edit text bytes asked line col cause (Code task word) told gone = absurd told
+reads_behind edit text bytes asked place line col cause (Name side) told gone = absurd told
+reads_behind edit text bytes asked place line col cause (Code task word) told gone = absurd told
+
+-- no line stands behind the last one
+no_line_behind : (edit : Edit) (text bytes : List ℕ) (line : ℕ) → line ≡ line_at bytes (length bytes)
+    → IsOnSide edit text bytes (line_at text (length text)) line Behind → ⊥
+no_line_behind edit text bytes line is behind = omega arith
+
+-- where the fault stood at the text's end, and stands at the end again, more stands in the text than before
+pub reads_more : (edit : Edit) (text bytes : List ℕ) (asked place line col : ℕ) (cause : TextCause) (outcome : EditOutcome)
+    → IsEnd text asked place → IsEnd bytes line col
+    → TellsFault edit text bytes asked (faults.Text (text_faults.At line col cause)) outcome
+    → ReadsOn text asked place outcome → content_of text < content_of bytes
+reads_more edit text bytes asked place line col cause Accepted was is told gone = absurd told
+reads_more edit text bytes asked place line col cause (Ended has_more) was is told gone = told.1.0 (gone was)
+reads_more edit text bytes asked place line col cause (Text side) was is told gone =
+    let behind = subst (λ (s : Side). IsOnSide edit text bytes asked line s) gone told in
+    let last = subst (λ (n : ℕ). IsOnSide edit text bytes n line Behind) was.0 behind in
+    absurd (no_line_behind edit text bytes line is.0 last)
+reads_more edit text bytes asked place line col cause (Name side) was is told gone = absurd told
+reads_more edit text bytes asked place line col cause (Code task word) was is told gone = absurd told
 
 -- so it is of a cure
-pub cure_reads : (wiring : Wiring) (text : List ℕ) (asked line col : ℕ) (cause : TextCause) (edit : Edit)
-    → IsCure wiring text asked ReadsOn edit
+pub cure_reads : (wiring : Wiring) (text : List ℕ) (asked place line col : ℕ) (cause : TextCause) (edit : Edit)
+    → IsCure wiring text asked (ReadsOn text asked place) edit
     → IsLoadFault wiring (changed edit text) (faults.Text (text_faults.At line col cause))
     → (last_line edit text (changed edit text) asked < line)
     ⊎ (line ≡ line_at (changed edit text) (length (changed edit text)))
-cure_reads wiring text asked line col cause edit cure is =
-    reads_behind edit text (changed edit text) asked line col cause cure.outcome
+cure_reads wiring text asked place line col cause edit cure is =
+    reads_behind edit text (changed edit text) asked place line col cause cure.outcome
+    (told_of wiring text asked edit cure.outcome (faults.Text (text_faults.At line col cause)) is cure.tried) cure.gone
+
+pub cure_adds : (wiring : Wiring) (text : List ℕ) (asked place line col : ℕ) (cause : TextCause) (edit : Edit)
+    → IsEnd text asked place → IsCure wiring text asked (ReadsOn text asked place) edit
+    → IsLoadFault wiring (changed edit text) (faults.Text (text_faults.At line col cause))
+    → IsEnd (changed edit text) line col → content_of text < content_of (changed edit text)
+cure_adds wiring text asked place line col cause edit was cure is stands =
+    reads_more edit text (changed edit text) asked place line col cause cure.outcome was stands
     (told_of wiring text asked edit cure.outcome (faults.Text (text_faults.At line col cause)) is cure.tried) cure.gone

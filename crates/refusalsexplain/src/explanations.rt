@@ -6,7 +6,7 @@ ghost use Rattle.iltext.specs.declared.fault.TextCause.{TextCause};
 ghost use Rattle.iltext.specs.declared.fault.TextFault.TheVariants as text_faults;
 ghost use Rattle.plantload.specs.Loading.{IsLoadFault};
 ghost use Rattle.plantload.specs.declared.fault.LoadFault.TheVariants as faults;
-ghost use Rattle.explaincures.specs.Trying.{changed, last_line};
+ghost use Rattle.explaincures.specs.Trying.{IsEnd, changed, content_of, last_line};
 ghost use Rattle.explaincures.specs.declared.answers.Example.TheVariants.{Changed};
 ghost use Rattle.explaincures.specs.declared.edits.Edit.{Edit};
 
@@ -47,6 +47,29 @@ pub fn shown_change_was_tried(
         (faults.Text (text_faults.At line col why))
         → (last_line edit text (changed edit text) 3 < line)
         ⊎ (line ≡ line_at (changed edit text) (length (changed edit text)))) }
+{
+    explanation_of(alloc, asked, stop)
+}
+
+/// `nothing_is_added_at_the_end`: a change was shown that adds nothing, of a text that ends too
+/// early, though it ends too early with it as well.
+pub fn change_at_the_end_adds(
+    alloc: Global,
+    asked: &AskedText,
+    stop: &NotLoaded,
+    line: usize,
+    col: usize,
+    cause: TextCause,
+) -> Result<Explanation, AllocError>
+    requires fault { stop.now.fault ≡ faults.Text (text_faults.At line col cause) }
+    requires place { IsEnd asked.now.text.now line col }
+    ensures { let text = asked.now.text.now in
+        IfOk result (λ told. (edit : Edit) (found mark : ℕ) (why : TextCause)
+        → told.answer.example ≡ Changed edit
+        → IsLoadFault asked.now.binding.now (changed edit text)
+        (faults.Text (text_faults.At found mark why))
+        → IsEnd (changed edit text) found mark
+        → content_of text < content_of (changed edit text)) }
 {
     explanation_of(alloc, asked, stop)
 }

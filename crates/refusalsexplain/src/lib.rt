@@ -15,3 +15,4 @@
 
 pub mod changes;
 pub mod explanations;
+pub mod notes;

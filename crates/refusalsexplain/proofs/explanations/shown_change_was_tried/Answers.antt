@@ -24,14 +24,15 @@ IsRead wiring text told = (edit : Edit) (line col : ℕ) (why : TextCause) → t
 
 reads : {E : Type 0} (wiring : Wiring) (text : List ℕ) (fault : LoadFault) (cause : TextCause) (given : Result Explanation E)
     → fault ≡ faults.Text (text_faults.At 3 5 cause) → IfOk given (StandsAt fault)
-    → IfOk given (λ told. ShowsCure wiring text told.line (IsGone fault) told.answer) → IfOk given (IsRead wiring text)
+    → IfOk given (λ told. ShowsCure wiring text told.line (IsGone text fault) told.answer)
+    → IfOk given (IsRead wiring text)
 reads wiring text fault cause (Err e) is place cure = tt
 reads wiring text fault cause (Ok told) is place cure = λ edit line col why shows stands.
     let at = subst (λ (f : LoadFault). StandsAt f told) is place in
-    let cured = subst (λ (f : LoadFault). ShowsCure wiring text told.line (IsGone f) told.answer) is cure in
-    let shown = subst (λ (e : Example). IsShown (IsCure wiring text told.line ReadsOn) e) shows cured in
-    let here = subst (λ (n : ℕ). IsCure wiring text n ReadsOn edit) at.0 shown in
-    cure_reads wiring text 3 line col why edit here stands
+    let cured = subst (λ (f : LoadFault). ShowsCure wiring text told.line (IsGone text f) told.answer) is cure in
+    let shown = subst (λ (e : Example). IsShown (IsCure wiring text told.line (ReadsOn text 3 5)) e) shows cured in
+    let here = subst (λ (n : ℕ). IsCure wiring text n (ReadsOn text 3 5) edit) at.0 shown in
+    cure_reads wiring text 3 5 line col why edit here stands
 
 pub returns : goal.returns
 returns c =

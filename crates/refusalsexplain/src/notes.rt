@@ -1,0 +1,54 @@
+//! What notes say of a plan.
+
+ghost use Rattle.std.specs.Prelude.{◌≡◌, ℕ, IfOk, IsSomeAnd, Some, false, slice_get, true};
+ghost use Rattle.ilfacts.specs.Planned.{IsStartedBy, Reads, StoresTo};
+ghost use Rattle.ilplan.specs.declared.global.Location.TheVariants.{Count};
+
+use ilfacts::{is_read, is_stored, starts_task, uses_source};
+use ilplan::Plan;
+use std::alloc::{AllocError, Global};
+
+/// `stored_level_is_noted`: a level was said to be stored by no task though one stores it.
+pub fn stored_variable_is_stored(plan: &Plan, number: usize, task: usize) -> bool
+    requires { StoresTo plan.now number task }
+    ensures { result ≡ true }
+{
+    is_stored(plan, number)
+}
+
+/// `level_is_passed_over`: a level was said to be stored though no task stores it.
+pub fn unstored_variable_is_not_stored(plan: &Plan, number: usize) -> bool
+    requires { (task : ℕ) → ¬ StoresTo plan.now number task }
+    ensures { result ≡ false }
+{
+    is_stored(plan, number)
+}
+
+/// `read_input_is_noted`: an input was said to be read by no task though one reads it.
+pub fn read_variable_is_read(
+    alloc: Global,
+    plan: &Plan,
+    number: usize,
+    task: usize,
+) -> Result<bool, AllocError>
+    requires { Reads plan.now number task }
+    ensures { IfOk result (λ is. is ≡ true) }
+{
+    is_read(alloc, plan, number)
+}
+
+/// `other_trigger_starts`: a trigger was said to start a task though no task is started by it.
+pub fn trigger_of_no_task_starts_none(plan: &Plan, number: usize) -> bool
+    requires { (task : ℕ) → ¬ IsStartedBy plan.now number task }
+    ensures { result ≡ false }
+{
+    starts_task(plan, number)
+}
+
+/// `counted_source_is_noted`: a source was said not to be used though its count is.
+pub fn count_uses_its_source(plan: &Plan) -> bool
+    requires { IsSomeAnd (slice_get plan.now.globals 3) (λ g. g.location ≡ Some (Count 1 2)) }
+    ensures { result ≡ true }
+{
+    uses_source(plan, 1, 2)
+}
