@@ -1,5 +1,5 @@
 -- What is said of a change, where it is known what the loader says of the text with it: a text has one answer.
-use Rattle.std.proofs.Common.{◌≡◌, ◌⊎◌, inl, inr, ℕ, ◌<◌, List, length, Result, Ok, Err, arith, subst}
+use Rattle.std.proofs.Common.{◌≡◌, ◌⊎◌, inl, inr, ℕ, ◌<◌, List, length, Result, Ok, Err, true, arith, refl, subst}
 use Rattle.wordlines.specs.Wirings.{Wiring}
 use Rattle.ilsource.specs.Places.{line_at}
 use Rattle.iltext.specs.declared.fault.TextCause.{TextCause}
@@ -46,6 +46,17 @@ not_accepted edit text bytes asked (faults.Name (name_faults.At line col cause))
 not_accepted edit text bytes asked (faults.Name name_faults.Memory) told = told
 not_accepted edit text bytes asked (faults.Code refused) told = told
 not_accepted edit text bytes asked faults.Memory told = told
+
+-- and of a text that has no more in it than before none is told as that it has more and ends too early
+pub no_more : (edit : Edit) (text bytes : List ℕ) (asked : ℕ) (fault : LoadFault) → content_of bytes ≡ content_of text
+    → TellsFault edit text bytes asked fault (Ended true) → ⊥
+no_more edit text bytes asked (faults.Text (text_faults.At line col cause)) same told =
+    let more = told.1.0 refl in omega (arith, same, more)
+no_more edit text bytes asked (faults.Text text_faults.Memory) same told = told
+no_more edit text bytes asked (faults.Name (name_faults.At line col cause)) same told = told
+no_more edit text bytes asked (faults.Name name_faults.Memory) same told = told
+no_more edit text bytes asked (faults.Code refused) same told = told
+no_more edit text bytes asked faults.Memory same told = told
 
 -- a fault of a text that reads on stands behind the change and the line, or at the end
 pub reads_behind : (edit : Edit) (text bytes : List ℕ) (asked place line col : ℕ) (cause : TextCause) (outcome : EditOutcome)

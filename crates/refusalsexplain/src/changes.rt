@@ -1,15 +1,15 @@
 //! Changes of a text that are tried, and what a change may take away.
 
-ghost use Rattle.std.specs.Prelude.{◌≡◌, ◌≢◌, ◌+◌, ◌∷◌, [], IfOk, None};
+ghost use Rattle.std.specs.Prelude.{◌≡◌, ◌≢◌, ◌+◌, ◌∷◌, [], IfOk, None, false, true};
 ghost use Rattle.iltext.specs.declared.fault.TextFault.TheVariants as text_faults;
 ghost use Rattle.ilcompile.specs.Loaded.{Loaded};
 ghost use Rattle.plantload.specs.Loading.{IsLoadFault, IsSetup};
 ghost use Rattle.plantload.specs.declared.fault.LoadFault.TheVariants as faults;
-ghost use Rattle.explaincures.specs.Trying.{changed, last_line};
-ghost use Rattle.explaincures.specs.declared.edits.EditOutcome.TheVariants.{Accepted, Text};
+ghost use Rattle.explaincures.specs.Trying.{changed, content_of, last_line};
+ghost use Rattle.explaincures.specs.declared.edits.EditOutcome.TheVariants.{Accepted, Ended, Text};
 ghost use Rattle.explaincures.specs.declared.edits.Side.TheVariants.{There};
 
-use explaincures::{AskedText, Edit, EditOutcome, Spot, left_out};
+use explaincures::{AskedText, Edit, EditOutcome, Spot, is_end, left_out};
 use iltext::TextCause;
 use plantload::LoadFault;
 use std::alloc::{AllocError, Global};
@@ -60,6 +60,31 @@ pub fn fault_behind_a_change_is_not_there(
     ensures { IfOk result (λ outcome. outcome ≢ Text There) }
 {
     edit.outcome(alloc, asked, line)
+}
+
+/// `blank_is_more`: of a text that ends too early with a change that adds blanks alone, more was said
+/// to stand in it.
+pub fn blanks_are_nothing_more(
+    alloc: Global,
+    asked: &AskedText,
+    edit: &Edit,
+    line: usize,
+    fault: LoadFault,
+) -> Result<EditOutcome, AllocError>
+    requires fault { IsLoadFault asked.now.binding.now (changed edit.now asked.now.text.now) fault }
+    requires content { content_of (changed edit.now asked.now.text.now)
+        ≡ content_of asked.now.text.now }
+    ensures { IfOk result (λ outcome. outcome ≢ Ended true) }
+{
+    edit.outcome(alloc, asked, line)
+}
+
+/// `last_line_is_the_end`: each place of the last line was taken for the text's end.
+pub fn first_column_is_no_end(text: &[u8]) -> bool
+    requires { text.now ≡ 76 ∷ 68 ∷ [] }
+    ensures { result ≡ false }
+{
+    is_end(text, 1, 1)
 }
 
 /// `letter_is_left_out`: what was left out had a meaning.

@@ -1,7 +1,7 @@
 //! What notes say of a plan.
 
 ghost use Rattle.std.specs.Prelude.{◌≡◌, ℕ, IfOk, IsSomeAnd, Some, false, slice_get, true};
-ghost use Rattle.ilfacts.specs.Planned.{IsStartedBy, Reads, StoresTo};
+ghost use Rattle.ilfacts.specs.Planned.{IsAtSource, IsStartedBy, Reads, StoresTo};
 ghost use Rattle.ilplan.specs.declared.global.Location.TheVariants.{Count};
 
 use ilfacts::{is_read, is_stored, starts_task, uses_source};
@@ -37,6 +37,26 @@ pub fn read_variable_is_read(
     is_read(alloc, plan, number)
 }
 
+/// `unread_input_is_passed_over`: an input was said to be read though no task reads it.
+pub fn unread_variable_is_not_read(
+    alloc: Global,
+    plan: &Plan,
+    number: usize,
+) -> Result<bool, AllocError>
+    requires { (task : ℕ) → ¬ Reads plan.now number task }
+    ensures { IfOk result (λ is. is ≡ false) }
+{
+    is_read(alloc, plan, number)
+}
+
+/// `started_task_is_passed_over`: a trigger was said to start no task though one is started by it.
+pub fn trigger_of_a_task_starts_it(plan: &Plan, number: usize, task: usize) -> bool
+    requires { IsStartedBy plan.now number task }
+    ensures { result ≡ true }
+{
+    starts_task(plan, number)
+}
+
 /// `other_trigger_starts`: a trigger was said to start a task though no task is started by it.
 pub fn trigger_of_no_task_starts_none(plan: &Plan, number: usize) -> bool
     requires { (task : ℕ) → ¬ IsStartedBy plan.now number task }
@@ -51,4 +71,12 @@ pub fn count_uses_its_source(plan: &Plan) -> bool
     ensures { result ≡ true }
 {
     uses_source(plan, 1, 2)
+}
+
+/// `unused_source_is_passed_over`: a source was said to be used though no variable is located at it.
+pub fn source_without_a_variable_is_not_used(plan: &Plan, bus: u8, source: u8) -> bool
+    requires { (number : ℕ) → ¬ IsAtSource plan.now bus source number }
+    ensures { result ≡ false }
+{
+    uses_source(plan, bus, source)
 }
