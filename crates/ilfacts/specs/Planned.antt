@@ -1,5 +1,5 @@
--- What notes say of a plan by itself: what no task stores or reads, what starts none, and which sources no variable is of.
-use Rattle.std.specs.Prelude.{◌≡◌, ◌==◌, ℕ, Bool, true, false, List, IsSomeAnd, flat_map, slice_get}
+-- What a plan says by itself: what tasks store and read, what starts them, and which functions and sources are used.
+use Rattle.std.specs.Prelude.{◌≡◌, ◌==◌, ℕ, Bool, true, false, List, IsSomeAnd, flat_map, is_some, slice_get}
 use Rattle.std.specs.List.{list_any}
 use Rattle.ilsource.specs.declared.operand.Operand.{Operand}
 use Rattle.ilsource.specs.declared.operand.Operand.TheVariants.{Name as Named}
@@ -13,7 +13,7 @@ use Rattle.ilplan.specs.declared.global.Location.TheVariants.{Count, Information
 use Rattle.ilplan.specs.declared.slot.SlotOwner.TheVariants.{Global}
 use Rattle.ilplan.specs.declared.place.Place.{Place}
 use Rattle.ilplan.specs.declared.place.Place.TheVariants.{Slot}
-use Rattle.ilplan.specs.Plans.{Planned, PlannedTask, all_lines, stores}
+use Rattle.ilplan.specs.Plans.{Planned, PlannedTask, all_lines, stores, used_functions}
 
 -- the slot of the task is the global variable of this number, and some line of the task, reached or not, stores to it
 abbrev pub StoresInSlot : ℕ → PlannedTask → ℕ → Type 0
@@ -61,6 +61,16 @@ IsStartedBy plan number task = IsSomeAnd (slice_get plan.tasks task) (λ t. t.ac
 -- it starts some task
 abbrev pub StartsTask : Planned → ℕ → Type 0
 StartsTask plan number = (task : ℕ) × IsStartedBy plan number task
+
+-- the task of this number uses the function: a line of it calls the function, or a function does that it uses
+abbrev pub UsesFunctionIn : Planned → ℕ → ℕ → Type 0
+UsesFunctionIn plan number task =
+    IsSomeAnd (slice_get plan.tasks task)
+    (λ t. IsSomeAnd (slice_get (used_functions plan.functions t) number) (λ f. is_some f ≡ true))
+
+-- some task does
+abbrev pub UsesFunction : Planned → ℕ → Type 0
+UsesFunction plan number = (task : ℕ) × UsesFunctionIn plan number task
 
 -- the location is a trigger, an information or a count of this source
 abbrev pub IsOfSource : ℕ → ℕ → Location → Type 0

@@ -5,9 +5,10 @@
 //!
 //! What crosses the boundary: a setup and its source program go in, a [`House`] comes out, whose
 //! facts rules look at, and lines on a writer ([`write_load`]); of a plan by itself, which global
-//! variables tasks store and read, which start one, and which sources are used (`IsStored`,
-//! `IsRead`, `StartsTask` and `UsesSource`, specs/Planned.antt). Of the other code it is proved
-//! that it is safe and ends, and what comes of it is fixed by worked rows (crates/rows).
+//! variables tasks store and read, which start one, and which functions and sources are used
+//! (`IsStored`, `IsRead`, `StartsTask`, `UsesFunction` and `UsesSource`, specs/Planned.antt). Of the
+//! other code it is proved that it is safe and ends, and what comes of it is fixed by worked rows
+//! (crates/rows).
 //!
 //! ```text
 //! let house = house_of(alloc, &setup, &source)?;
@@ -28,5 +29,5 @@ pub use facts::{BlockCall, GlobalSlot, House, TaskFacts, Usage, house_of, place_
 pub use levels::{BROADCAST, Driven, FIRST_GROUP, Level, Levels};
 pub use line_starts::LineStarts;
 pub use load::{add_tenths, rate_of, write_load};
-pub use planned::{is_stored, starts_task, uses_source};
-pub use reads::is_read;
+pub use planned::{is_stored, starts_task, uses_function, uses_source};
+pub use reads::Reads;

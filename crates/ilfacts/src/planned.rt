@@ -1,10 +1,13 @@
-//! What a plan says by itself: what tasks store, what starts them, and which sources are used.
+//! What a plan says by itself: what tasks store, what starts them, and which functions and sources
+//! are used.
 
-ghost use Rattle.std.specs.Prelude.{◌↔◌, ◌<◌, ℕ, IsTrue, MatchOption, length, IfSome};
+ghost use Rattle.std.specs.Prelude.{◌↔◌, ◌<◌, ℕ, IfOk, IsTrue, MatchOption, length};
 ghost use Rattle.ilfacts.specs.Planned.{IsAtSource, IsOfSource, IsStartedBy, IsStored, StartsTask};
-ghost use Rattle.ilfacts.specs.Planned.{StoresInSlot, StoresTo, UsesSource};
+ghost use Rattle.ilfacts.specs.Planned.{StoresInSlot, StoresTo, UsesFunction, UsesFunctionIn};
+ghost use Rattle.ilfacts.specs.Planned.{UsesSource};
 
 use ilplan::{Activation, Location, Plan, SlotOwner, Task};
+use std::alloc::{AllocError, Global};
 
 /// Whether some line of some task, reached or not, stores to the global variable of this number,
 /// sets it or resets it.
@@ -80,6 +83,37 @@ fn is_started_by(plan: &Plan, number: usize, task: usize) -> bool
         Activation::Event { trigger } => trigger == number,
         Activation::Cyclic { .. } => false,
     }
+}
+
+/// Whether some task uses the function of this number: a line calls it, reached or not, or a
+/// function does that the task uses.
+///
+/// # Errors
+///
+/// The allocator is out of memory.
+pub fn uses_function(alloc: Global, plan: &Plan, number: usize) -> Result<bool, AllocError>
+    ensures { IfOk result (λ is. IsTrue is ↔ UsesFunction plan.now number) }
+{
+    for task in 0..plan.tasks() {
+        if uses_function_in(alloc, plan, number, task)? {
+            return Ok(true);
+        }
+    }
+    Ok(false)
+}
+
+/// Whether the task of this number uses the function.
+fn uses_function_in(
+    alloc: Global,
+    plan: &Plan,
+    number: usize,
+    task: usize,
+) -> Result<bool, AllocError>
+    requires { task < length plan.now.tasks }
+    ensures { IfOk result (λ is. IsTrue is ↔ UsesFunctionIn plan.now number task) }
+{
+    let used = plan.used_functions(alloc, task)?;
+    Ok(number < used.len() && used[number])
 }
 
 /// Whether a global variable is located at this source of events: at its trigger, its information

@@ -4,9 +4,10 @@
 //! What crosses the boundary: a setup, its source program and a scenario go in, and lines come out
 //! on a writer, or the members of a list of JSON. A note refuses nothing. Each rule looks at facts
 //! (`ilfacts`) and gives small values; one printer writes them. Where a note is a sentence about the
-//! plan by itself, the function that makes it gives it exactly where that is true (`IsTrueOf`,
-//! specs/Said.antt). What is printed is fixed by worked rows (crates/rows); of the rest of the code
-//! it is proved that it is safe and ends.
+//! plan by itself, the function that makes it gives it exactly where that is true (`NotesUse` and
+//! `IsIdle`, specs/Said.antt; `UsesFunction` and `UsesSource` of `ilfacts`). What is printed is
+//! fixed by worked rows (crates/rows); of the rest of the code it is proved that it is safe and
+//! ends.
 //!
 //! ```text
 //! write_notes(alloc, &mut out, &setup, &source, None, asked)?;

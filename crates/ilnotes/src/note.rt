@@ -1,6 +1,7 @@
 //! Notes, as small values.
 
-ghost use Rattle.std.specs.Prelude.{◌≡◌, IsSomeAnd};
+ghost use Rattle.std.specs.Prelude.{◌≡◌, IsSomeAnd, Some, slice_get};
+ghost use Rattle.ilnotes.specs.Said.{IsOn};
 
 use crate::kinds::{Kind, Rule};
 use ilblocks::BlockKind;
@@ -60,21 +61,23 @@ pub(crate) struct Note {
 
 /// A note that names so much.
 pub(crate) fn note_at(kind: Kind, place: NotePlace, first: Found, second: Found) -> Option<Note>
-    ensures { IsSomeAnd result (λ note. note.kind ≡ kind) }
+    ensures { IsSomeAnd result (λ note. (note.kind ≡ kind) × (note.place ≡ place)
+        × (slice_get note.found 0 ≡ Some first)) }
 {
     note_of(kind, place, [first, second, Found::Nothing, Found::Nothing])
 }
 
 /// A note that names all this.
 pub(crate) fn note_of(kind: Kind, place: NotePlace, found: [Found; 4]) -> Option<Note>
-    ensures { IsSomeAnd result (λ note. note.kind ≡ kind) }
+    ensures { IsSomeAnd result (λ note. (note.kind ≡ kind) × (note.place ≡ place)
+        × (note.found ≡ found)) }
 {
     Some(Note { kind, place, found })
 }
 
 /// A note on a name, and what else it names.
 pub(crate) fn note_on(kind: Kind, name: Name, second: Found) -> Option<Note>
-    ensures { IsSomeAnd result (λ note. note.kind ≡ kind) }
+    ensures { IsSomeAnd result (λ note. (note.kind ≡ kind) × IsOn name note) }
 {
     note_at(kind, NotePlace::Name(name), Found::Name(name), second)
 }

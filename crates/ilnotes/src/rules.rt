@@ -42,7 +42,7 @@ pub(crate) fn add_all_notes(notes: &mut Notes, house: &House) -> Added {
     add_stored(notes, house, &stored);
     add_requests(notes, requests);
     add_variable_notes(notes, house)?;
-    add_program_notes(notes, house.source);
+    add_program_notes(notes, house);
     add_comment_notes(notes, house);
     add_idle_notes(notes, house);
     add_source_notes(notes, plan);

@@ -1,56 +1,95 @@
 //! Notes on what no task has: programs, tasks without one, and sources of the binding.
 
-ghost use Rattle.std.specs.Prelude.{◌≡◌, MatchOption};
+ghost use Rattle.std.specs.Prelude.{◌≡◌, ◌<◌, ℕ, MatchOption, Some, length, slice_get};
 ghost use Rattle.ilfacts.specs.Planned.{UsesSource};
-ghost use Rattle.ilnotes.specs.declared.kinds.Kind.TheVariants.{UnusedSource};
+ghost use Rattle.ilnotes.specs.Said.{HasInstance, IsIdle, IsInstanceAt, IsOn};
+ghost use Rattle.ilnotes.specs.declared.kinds.Kind.TheVariants.{UnusedProgram, UnusedSource};
+ghost use Rattle.ilnotes.specs.declared.kinds.Kind.TheVariants.{UnusedTask};
+ghost use Rattle.ilnotes.specs.declared.note.Found.TheVariants.{Source};
 
 use crate::kinds::{Kind, Rule};
 use crate::note::{Found, Note, NotePlace, Notes, note_at, note_of, note_on};
 use ilfacts::{House, uses_source};
 use ilplan::Plan;
-use ilsource::{Declared, Element, InstanceDeclaration, Name, Program, Source};
+use ilsource::{Declared, Element, InstanceDeclaration, Name, Program};
 use wordlines::BoundSource;
 
 /// Adds a note for each program that no task runs and for each task in which no program runs, where
 /// the text has a configuration; without one the task `main` runs all.
-pub(crate) fn add_program_notes(notes: &mut Notes, source: &Source) {
-    let Some(configuration) = source.configuration() else {
+pub(crate) fn add_program_notes(notes: &mut Notes, house: &House) {
+    let Some(configuration) = house.source.configuration() else {
         return;
     };
-    let (text, instances) = (source.text(), configuration.instances());
-    for element in source.elements() {
-        let Element::Program(program) = element else {
-            continue;
-        };
-        let name = program.name();
-        let mut first: Option<InstanceDeclaration> = None;
-        for instance in instances {
-            if instance.program.is_same(name, text) {
-                let other = first.unwrap_or(*instance);
-                let note = note_on_twice(text, program, other, *instance);
-                notes.add(Rule::Programs, note);
-                first = Some(other);
-            }
-        }
-        if first.is_none() {
-            notes.add(
-                Rule::Programs,
-                note_on(Kind::UnusedProgram, name, Found::Nothing),
-            );
+    let (text, instances) = (house.source.text(), configuration.instances());
+    for element in house.source.elements() {
+        if let Element::Program(program) = element {
+            add_twice_notes(notes, text, program, instances);
+            let unused = note_on_program(text, program.name(), instances);
+            notes.add(Rule::Programs, unused);
         }
     }
-    for task in configuration.tasks() {
-        let has_program = instances.iter().any(|instance| match instance.task {
-            Some(name) => name.is_same(task.name, text),
-            None => false,
-        });
-        if !has_program {
-            notes.add(
-                Rule::Programs,
-                note_on(Kind::UnusedTask, task.name, Found::Nothing),
-            );
+    for (number, task) in configuration.tasks().iter().enumerate() {
+        if number < house.plan.tasks() {
+            notes.add(Rule::Programs, note_on_task(house.plan, number, task.name));
         }
     }
+}
+
+/// The note on a program that no task runs: the configuration has no instance of it.
+fn note_on_program(text: &[u8], program: Name, instances: &[InstanceDeclaration]) -> Option<Note>
+    ensures { MatchOption result (HasInstance text.now program instances.now)
+        (λ note. (note.kind ≡ UnusedProgram) × IsOn program note
+        × ¬ HasInstance text.now program instances.now) }
+{
+    match first_instance(text, program, instances) {
+        Some(_) => None,
+        None => note_on(Kind::UnusedProgram, program, Found::Nothing),
+    }
+}
+
+/// The number of the first instance of a program.
+fn first_instance(text: &[u8], program: Name, instances: &[InstanceDeclaration]) -> Option<usize>
+    ensures { MatchOption result
+        ((number : ℕ) → ¬ IsInstanceAt text.now program instances.now number)
+        (IsInstanceAt text.now program instances.now) }
+{
+    for number in 0..instances.len() {
+        if instances[number].program.is_same(program, text) {
+            return Some(number);
+        }
+    }
+    None
+}
+
+/// Adds a note for each instance of a program that does the same as its first one.
+fn add_twice_notes(
+    notes: &mut Notes,
+    text: &[u8],
+    program: &Program,
+    instances: &[InstanceDeclaration],
+) {
+    let mut first: Option<InstanceDeclaration> = None;
+    for instance in instances {
+        if instance.program.is_same(program.name(), text) {
+            let other = first.unwrap_or(*instance);
+            let note = note_on_twice(text, program, other, *instance);
+            notes.add(Rule::Programs, note);
+            first = Some(other);
+        }
+    }
+}
+
+/// The note on a task in which no program runs: the plan has the tasks of the configuration, in
+/// their order.
+fn note_on_task(plan: &Plan, number: usize, name: Name) -> Option<Note>
+    requires { number < length plan.now.tasks }
+    ensures { MatchOption result (¬ IsIdle plan.now number)
+        (λ note. (note.kind ≡ UnusedTask) × IsOn name note × IsIdle plan.now number) }
+{
+    if plan.task(number).instances().is_empty() {
+        return note_on(Kind::UnusedTask, name, Found::Nothing);
+    }
+    None
 }
 
 /// The note on an instance of a program that does the same as another one of its task, since the
@@ -137,6 +176,7 @@ pub(crate) fn add_source_notes(notes: &mut Notes, plan: &Plan) {
 fn note_on_source(plan: &Plan, bound: &BoundSource) -> Option<Note>
     ensures { MatchOption result (UsesSource plan.now bound.now.bus bound.now.number)
         (λ note. (note.kind ≡ UnusedSource)
+        × (slice_get note.found 0 ≡ Some (Source bound.now.bus bound.now.number))
         × ¬ UsesSource plan.now bound.now.bus bound.now.number) }
 {
     if uses_source(plan, bound.bus, bound.number) {
@@ -151,7 +191,9 @@ fn note_on_source(plan: &Plan, bound: &BoundSource) -> Option<Note>
 }
 
 /// A source, as notes name it.
-fn found_of(bound: &BoundSource) -> Found {
+fn found_of(bound: &BoundSource) -> Found
+    ensures { result ≡ Source bound.now.bus bound.now.number }
+{
     Found::Source {
         bus: bound.bus,
         source: bound.number,

@@ -2,13 +2,14 @@
 //! likely meant as levels. What is used is kept under the place of its name, so that the instances
 //! of a program are one.
 
-ghost use Rattle.std.specs.Prelude.{◌⊎◌, IfOk, MatchOption};
-ghost use Rattle.ilfacts.specs.Planned.{IsRead, IsStored, StartsTask};
-ghost use Rattle.ilnotes.specs.Said.{IsTrueOf};
+ghost use Rattle.std.specs.Prelude.{◌≡◌, ◌↔◌, ◌<◌, IfOk, IsSomeAnd, IsTrue, MatchOption, length, slice_get};
+ghost use Rattle.ilfacts.specs.Planned.{UsesFunction};
+ghost use Rattle.ilnotes.specs.Said.{IsOfLevel, IsOn, IsUsed, NotesUse, SaysUnused};
+ghost use Rattle.ilnotes.specs.declared.kinds.Kind.TheVariants.{UnusedFunction};
 
 use crate::kinds::{Kind, Rule};
 use crate::note::{Added, Found, Note, NotePlace, Notes, note_at, note_of, note_on};
-use ilfacts::{GlobalSlot, House, TaskFacts, Usage, is_read, is_stored, starts_task};
+use ilfacts::{GlobalSlot, House, Reads, TaskFacts, Usage, is_stored, starts_task, uses_function};
 use illisting::name_in;
 use ilplan::{Global, Location, Plan, SlotOwner, UserFunction};
 use ilsource::Name;
@@ -58,24 +59,16 @@ pub(crate) fn add_variable_notes(notes: &mut Notes, house: &House) -> Added {
     for facts in &house.tasks {
         add_task(&mut uses, house, facts);
     }
+    let reads = Reads::of(notes.alloc, house.plan)?;
     for number in 0..house.plan.globals() {
-        let global = house.plan.global(number);
-        let note = note_on_global(notes.alloc, house, &uses, number, global)?;
+        let note = note_on_global(house, &reads, &uses, number);
         notes.add(Rule::Variables, note);
     }
     for (number, function) in house.plan.functions().iter().enumerate() {
-        if house
-            .tasks
-            .iter()
-            .any(|facts| facts.functions.contains(&number))
-        {
-            let inputs = function.inputs().len();
-            for own in 0..inputs.saturating_add(function.variables().len()) {
-                notes.add(Rule::Variables, note_on_own(&uses, function, own));
-            }
-        } else {
-            let note = note_on(Kind::UnusedFunction, function.name(), Found::Nothing);
-            notes.add(Rule::Functions, note);
+        let unused = note_on_function(notes.alloc, house.plan, number)?;
+        notes.add(Rule::Functions, unused);
+        if unused.is_none() {
+            add_own_notes(notes, &uses, function);
         }
     }
     for facts in &house.tasks {
@@ -86,6 +79,32 @@ pub(crate) fn add_variable_notes(notes: &mut Notes, house: &House) -> Added {
         }
     }
     Ok(())
+}
+
+/// The note on a function that no task uses.
+fn note_on_function(
+    alloc: GlobalAllocator,
+    plan: &Plan,
+    number: usize,
+) -> Result<Option<Note>, AllocError>
+    requires { number < length plan.now.functions }
+    ensures { IfOk result (λ found. MatchOption found (UsesFunction plan.now number)
+        (λ note. (note.kind ≡ UnusedFunction) × ¬ UsesFunction plan.now number
+        × IsSomeAnd (slice_get plan.now.functions number) (λ f. IsOn f.name note))) }
+{
+    if uses_function(alloc, plan, number)? {
+        return Ok(None);
+    }
+    let name = plan.functions()[number].name();
+    Ok(note_on(Kind::UnusedFunction, name, Found::Nothing))
+}
+
+/// Adds the notes on the inputs and variables of a function.
+fn add_own_notes(notes: &mut Notes, uses: &Uses, function: &UserFunction) {
+    let inputs = function.inputs().len();
+    for own in 0..inputs.saturating_add(function.variables().len()) {
+        notes.add(Rule::Variables, note_on_own(uses, function, own));
+    }
 }
 
 /// Adds how a task uses its variables, and those of its functions. What its lines store to is what
@@ -123,37 +142,60 @@ fn use_of(uses: &Uses, name: Name) -> Use {
     uses.get(name.from).copied().unwrap_or(UNUSED)
 }
 
-/// The note on a global variable, where there is one. One without an address that has the numbers of
-/// a level, and that a task stores and no other task names, is likely meant as a level.
-fn note_on_global(
-    alloc: GlobalAllocator,
-    house: &House,
-    uses: &Uses,
-    number: usize,
-    global: &Global,
-) -> Result<Option<Note>, AllocError> {
-    let Global { name, initial, .. } = *global;
-    let used = use_of(uses, name);
+/// The note on the global variable of this number, where there is one.
+fn note_on_global(house: &House, reads: &Reads, uses: &Uses, number: usize) -> Option<Note>
+    requires number { number < length house.now.plan.now.globals }
+    requires reads { reads.now ≡ house.now.plan.now }
+    ensures { NotesUse house.now.plan.now number result }
+{
+    let global = house.plan.global(number);
     match global.location {
-        None if used.is_stored && used.times == 1 && global.value_type == LEVELS => {
-            Ok(note_on(Kind::LevelWithoutAddress, name, Found::Nothing))
-        }
-        None => Ok(note_on_use(uses, name, initial)),
-        Some(Location::Level { .. }) => Ok(note_on_level(house, uses, number, global)),
-        Some(_) if used.is_read => Ok(None),
-        Some(location) => note_on_input(alloc, house.plan, number, name, location),
+        None => note_on_plain(uses, global),
+        Some(location) if is_used(house.plan, reads, number, location) => None,
+        Some(location) => note_on_unused(house, uses, global, location),
+    }
+}
+
+/// The note on a global variable without an address, where there is one. One that has the numbers of
+/// a level, and that a task stores and no other task names, is likely meant as a level.
+fn note_on_plain(uses: &Uses, global: &Global) -> Option<Note> {
+    let used = use_of(uses, global.name);
+    if used.is_stored && used.times == 1 && global.value_type == LEVELS {
+        return note_on(Kind::LevelWithoutAddress, global.name, Found::Nothing);
+    }
+    note_on_use(uses, global.name, global.initial)
+}
+
+/// Whether a global variable that is located there is used: whether a task stores to it, where it
+/// is a level, or reads it, where it is an input; or starts by it, where it is a trigger.
+fn is_used(plan: &Plan, reads: &Reads, number: usize, location: Location) -> bool
+    requires { reads.now ≡ plan.now }
+    ensures { IsTrue result ↔ IsUsed plan.now number location }
+{
+    match location {
+        Location::Level { .. } => is_stored(plan, number),
+        Location::Trigger { .. } => reads.is_read(number) || starts_task(plan, number),
+        _ => reads.is_read(number),
+    }
+}
+
+/// The note on a variable that is located there and not used.
+fn note_on_unused(house: &House, uses: &Uses, global: &Global, location: Location) -> Option<Note>
+    ensures { IsSomeAnd result (λ note. SaysUnused location note.kind
+        × IsOn global.now.name note) }
+{
+    match location {
+        Location::Level { .. } => note_on_level(house, uses, global),
+        Location::Trigger { .. } => note_on(Kind::UnusedTrigger, global.name, Found::Nothing),
+        _ => note_on(Kind::NeverRead, global.name, Found::Nothing),
     }
 }
 
 /// The note on a level that no task stores.
-fn note_on_level(house: &House, uses: &Uses, number: usize, level: &Global) -> Option<Note>
-    ensures { MatchOption result (IsStored house.now.plan.now number)
-        (λ note. IsTrueOf house.now.plan.now number note.kind) }
+fn note_on_level(house: &House, uses: &Uses, level: &Global) -> Option<Note>
+    ensures { IsSomeAnd result (λ note. IsOfLevel note.kind × IsOn level.now.name note) }
 {
     let Global { name, initial, .. } = *level;
-    if is_stored(house.plan, number) {
-        return None;
-    }
     let (kind, line) = match same_stored(house, uses, name) {
         Some(other) => (Kind::OtherIsStored, house.lines.at(other).line),
         None => (Kind::LevelNeverStored, 0),
@@ -161,30 +203,6 @@ fn note_on_level(house: &House, uses: &Uses, number: usize, level: &Global) -> O
     let (initial, line) = (Found::Value(initial), Found::Count(line));
     let found = [Found::Name(name), initial, line, Found::Nothing];
     note_of(kind, NotePlace::Name(name), found)
-}
-
-/// The note on an input that no task reads; on a trigger where it starts none either.
-fn note_on_input(
-    alloc: GlobalAllocator,
-    plan: &Plan,
-    number: usize,
-    name: Name,
-    location: Location,
-) -> Result<Option<Note>, AllocError>
-    ensures { IfOk result (λ found. MatchOption found
-        (IsRead plan.now number ⊎ StartsTask plan.now number)
-        (λ note. IsTrueOf plan.now number note.kind)) }
-{
-    if is_read(alloc, plan, number)? {
-        return Ok(None);
-    }
-    if !matches!(location, Location::Trigger { .. }) {
-        return Ok(note_on(Kind::NeverRead, name, Found::Nothing));
-    }
-    if starts_task(plan, number) {
-        return Ok(None);
-    }
-    Ok(note_on(Kind::UnusedTrigger, name, Found::Nothing))
 }
 
 /// The variable of this name that a program has of its own and stores.

@@ -1,10 +1,11 @@
 //! What notes say of a plan.
 
 ghost use Rattle.std.specs.Prelude.{◌≡◌, ℕ, IfOk, IsSomeAnd, Some, false, slice_get, true};
-ghost use Rattle.ilfacts.specs.Planned.{IsAtSource, IsStartedBy, Reads, StoresTo};
+ghost use Rattle.ilfacts.specs.Planned.{IsAtSource, IsStartedBy, StoresTo, UsesFunctionIn};
+ghost use Rattle.ilfacts.specs.Planned.{Reads as ReadsVariable};
 ghost use Rattle.ilplan.specs.declared.global.Location.TheVariants.{Count};
 
-use ilfacts::{is_read, is_stored, starts_task, uses_source};
+use ilfacts::{Reads, is_stored, starts_task, uses_function, uses_source};
 use ilplan::Plan;
 use std::alloc::{AllocError, Global};
 
@@ -31,10 +32,10 @@ pub fn read_variable_is_read(
     number: usize,
     task: usize,
 ) -> Result<bool, AllocError>
-    requires { Reads plan.now number task }
+    requires { ReadsVariable plan.now number task }
     ensures { IfOk result (λ is. is ≡ true) }
 {
-    is_read(alloc, plan, number)
+    Ok(Reads::of(alloc, plan)?.is_read(number))
 }
 
 /// `unread_input_is_passed_over`: an input was said to be read though no task reads it.
@@ -43,10 +44,10 @@ pub fn unread_variable_is_not_read(
     plan: &Plan,
     number: usize,
 ) -> Result<bool, AllocError>
-    requires { (task : ℕ) → ¬ Reads plan.now number task }
+    requires { (task : ℕ) → ¬ ReadsVariable plan.now number task }
     ensures { IfOk result (λ is. is ≡ false) }
 {
-    is_read(alloc, plan, number)
+    Ok(Reads::of(alloc, plan)?.is_read(number))
 }
 
 /// `started_task_is_passed_over`: a trigger was said to start no task though one is started by it.
@@ -63,6 +64,31 @@ pub fn trigger_of_no_task_starts_none(plan: &Plan, number: usize) -> bool
     ensures { result ≡ false }
 {
     starts_task(plan, number)
+}
+
+/// `called_function_is_noted`: a function was said to be used by no task though one uses it.
+pub fn called_function_is_used(
+    alloc: Global,
+    plan: &Plan,
+    number: usize,
+    task: usize,
+) -> Result<bool, AllocError>
+    requires { UsesFunctionIn plan.now number task }
+    ensures { IfOk result (λ is. is ≡ true) }
+{
+    uses_function(alloc, plan, number)
+}
+
+/// `unused_function_is_passed_over`: a function was said to be used though no task uses it.
+pub fn function_of_no_task_is_not_used(
+    alloc: Global,
+    plan: &Plan,
+    number: usize,
+) -> Result<bool, AllocError>
+    requires { (task : ℕ) → ¬ UsesFunctionIn plan.now number task }
+    ensures { IfOk result (λ is. is ≡ false) }
+{
+    uses_function(alloc, plan, number)
 }
 
 /// `counted_source_is_noted`: a source was said not to be used though its count is.
