@@ -66,7 +66,7 @@ abbrev pub TellsFault : Edit → List ℕ → List ℕ → ℕ → LoadFault →
 TellsFault edit text bytes asked (faults.Text (text_faults.At line col cause)) (Ended has_more) =
     IsEnd bytes line col × (IsTrue has_more ↔ (content_of text < content_of bytes))
 TellsFault edit text bytes asked (faults.Text (text_faults.At line col cause)) (Text side) =
-    IsOnSide edit text bytes asked line side
+    ¬ IsEnd bytes line col × IsOnSide edit text bytes asked line side
 TellsFault edit text bytes asked (faults.Name (name_faults.At line col cause)) (Name side) =
     IsOnSide edit text bytes asked line side
 TellsFault edit text bytes asked (faults.Code refused) (Code task word) =

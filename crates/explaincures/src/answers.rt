@@ -56,9 +56,7 @@ pub struct FaultAnswer {
 /// Lines that show what helps.
 #[derive(Drop)]
 pub enum Example {
-    /// A line in place of that at fault: with it the file is accepted, or the fault is gone.
-    Tried(String),
-    /// A change of the text: with it the text is accepted, or the fault is gone.
+    /// A change of the text, or of the file of lines: with it that is accepted, or the fault is gone.
     Changed(Edit),
     /// Lines of another text.
     Other(String),
@@ -106,10 +104,6 @@ pub fn write_answer<W: Write>(
     out.write_all(answer.facts.as_bytes())?;
     write_lines(out, ["cure: ", "      "], answer.cure.as_str())?;
     match &answer.example {
-        Example::Tried(lines) => {
-            out.write_all(TRIED)?;
-            write_lines(out, ["    "; 2], lines.as_str())
-        }
         Example::Changed(edit) => write_tried(out, &edit.lines(alloc, text)?, line),
         Example::Other(lines) => {
             out.write_all(b"for example:\n")?;
@@ -117,9 +111,6 @@ pub fn write_answer<W: Write>(
         }
     }
 }
-
-/// What stands above a line that was tried.
-const TRIED: &[u8] = b"as it could read:\n";
 
 /// Writes lines that were tried, for a fault on this line.
 fn write_tried<W: Write>(out: &mut W, tried: &TriedLines, line: usize) -> io::Result<()> {
@@ -129,7 +120,7 @@ fn write_tried<W: Write>(out: &mut W, tried: &TriedLines, line: usize) -> io::Re
     } else if *first != line {
         writeln!(out, "as line {first} could read:")?;
     } else {
-        out.write_all(TRIED)?;
+        out.write_all(b"as it could read:\n")?;
     }
     write_lines(out, ["    "; 2], with.as_str())
 }

@@ -2,7 +2,8 @@
 
 ghost use Rattle.std.specs.Prelude.{◌≡◌, ◌<◌, ◌↔◌, IfOk, IsTrue};
 ghost use Rattle.explaincures.specs.LeavingOut.{IsEdit};
-ghost use Rattle.explaincures.specs.Trying.{IsEnd, IsOnSide, IsTried, changed_part, content_of, lines_of};
+ghost use Rattle.explaincures.specs.Trying.{IsEnd, IsOnSide, IsTried, changed, changed_part};
+ghost use Rattle.explaincures.specs.Trying.{content_of, last_line, lines_of};
 
 use crate::answers::AskedText;
 use crate::marking::{line_number, shown_text};
@@ -47,6 +48,26 @@ impl Edit {
         bytes.extend_from_slice(&self.with)?;
         bytes.extend_from_slice(part(text, self.to, to))?;
         Ok(bytes)
+    }
+
+    /// The whole text with the change.
+    ///
+    /// # Errors
+    ///
+    /// The allocator is out of memory.
+    pub fn changed(&self, alloc: Global, text: &[u8]) -> Result<Vec<u8>, AllocError>
+        ensures { IfOk result (λ bytes. bytes.items ≡ changed self.now text.now) }
+    {
+        self.apply(alloc, text, 0, text.len())
+    }
+
+    /// The line of the changed text up to which the change reaches, and a line of the text that it
+    /// is to cure; both are counted from 1.
+    pub fn last_line(&self, text: &[u8], bytes: &[u8], asked: usize) -> usize
+        ensures { result ≡ last_line self.now text.now bytes.now asked }
+    {
+        let last = LineColumn::of(text, self.to).line.max(asked);
+        lines_of(bytes).saturating_sub(lines_of(text).saturating_sub(last))
     }
 
     /// The lines that the change touches, as they could read.
@@ -97,7 +118,7 @@ impl Edit {
         ensures { IfOk result (IsTried asked.now.binding.now asked.now.text.now line self.now) }
     {
         let text = asked.text;
-        let bytes = self.apply(alloc, text, 0, text.len())?;
+        let bytes = self.changed(alloc, text)?;
         match load(alloc, &bytes, asked.binding) {
             Ok(_) => Ok(EditOutcome::Accepted),
             Err(
@@ -131,11 +152,9 @@ impl Edit {
     fn side_of(&self, text: &[u8], bytes: &[u8], asked: usize, line: usize) -> Side
         ensures { IsOnSide self.now text.now bytes.now asked line result }
     {
-        let last = LineColumn::of(text, self.to).line.max(asked);
-        let behind = lines_of(text).saturating_sub(last);
         if line < LineColumn::of(text, self.from).line {
             Side::Before
-        } else if line > lines_of(bytes).saturating_sub(behind) {
+        } else if line > self.last_line(text, bytes, asked) {
             Side::Behind
         } else {
             Side::There

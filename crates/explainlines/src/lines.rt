@@ -1,10 +1,16 @@
 //! What is said of a bad line of a binding or of a scenario.
 
+ghost use Rattle.std.specs.Prelude.{◌↔◌, IfOk, IsTrue};
+ghost use Rattle.explaincures.specs.Trying.{IsShown};
+ghost use Rattle.explainlines.specs.Curing.{CuresLine, IsGoodTo, IsGoodWith, IsOnLine, ReadsTo};
+ghost use Rattle.explainlines.specs.declared.lines.LineFile.TheVariants as files;
+
 use crate::forms::{BINDING, Form, SCENARIO, form_of};
 use crate::order::Said;
-use crate::reason::{Meant, Reason, replaced};
+use crate::reason::{Meant, Reason};
 use crate::words::{bad_words, first_word};
-use explaincures::{Example, FaultAnswer, line_of, part, place_of, shown_text};
+use explaincures::{Edit, Example, FaultAnswer, line_of, part, place_of, shown_text};
+use ilsource::LineColumn;
 use std::alloc::{AllocError, Global};
 use wordlines::{Binding, LineCause, LineFault, first_line, is_skipped, parse};
 
@@ -22,7 +28,8 @@ pub struct BadLine {
     pub answer: FaultAnswer,
 }
 
-/// What is said of the bad line of a number: with the line as it is meant, where that helps.
+/// What is said of the bad line of a number: with the line as it is meant, where that helps. A
+/// change that is shown was tried: with it the file has no fault up to the change and the line.
 ///
 /// # Errors
 ///
@@ -33,7 +40,9 @@ pub fn bad_line(
     bytes: &[u8],
     number: usize,
     cause: LineCause,
-) -> Result<BadLine, AllocError> {
+) -> Result<BadLine, AllocError>
+    ensures { IfOk result (λ bad. IsShown (CuresLine file bytes.now number) bad.answer.example) }
+{
     let line = match part(bytes, place_of(bytes, number, 1), bytes.len()) {
         [] => &[],
         rest => first_line(rest).0,
@@ -44,20 +53,41 @@ pub fn bad_line(
         LineCause::BadLine => bad_in(file, bytes, number, line),
     };
     let meant = reason.meant_line(alloc, line)?;
-    let example = match (is_cured(alloc, file, bytes, number, &meant)?, reason.meant) {
-        (false, _) => Example::Other(String::from_str(alloc, line_like(file, cause, &meant))?),
-        (true, Meant::Perhaps(_) | Meant::Digits) => Example::Other(shown_text(alloc, &meant)?),
-        (true, _) => Example::Tried(shown_text(alloc, &meant)?),
-    };
+    let other = line_like(file, cause, &meant);
     Ok(BadLine {
         col: reason.from.saturating_add(1),
         answer: FaultAnswer {
             what: reason.filled(alloc, reason.what, line, forms)?,
             facts: String::new(alloc),
             cure: reason.filled(alloc, reason.cure, line, forms)?,
-            example,
+            example: shown(alloc, file, bytes, number, reason.meant, &meant, other)?,
         },
     })
+}
+
+/// What is shown of the bad line of a number: the line as it is meant, where that helps, and else
+/// another one.
+fn shown(
+    alloc: Global,
+    file: LineFile,
+    bytes: &[u8],
+    number: usize,
+    meant: Meant,
+    line: &[u8],
+    other: &str,
+) -> Result<Example, AllocError>
+    ensures { IfOk result (IsShown (CuresLine file bytes.now number)) }
+{
+    let from = place_of(bytes, number, 1);
+    let to = from.saturating_add(line_of(bytes, number).len());
+    let edit = Edit::new(alloc, from, to, line)?;
+    if !is_on_line(bytes, number, &edit) || !is_cured(alloc, file, bytes, number, &edit)? {
+        return Ok(Example::Other(String::from_str(alloc, other)?));
+    }
+    match meant {
+        Meant::Perhaps(_) | Meant::Digits => Ok(Example::Other(shown_text(alloc, line)?)),
+        _ => Ok(Example::Changed(edit)),
+    }
 }
 
 /// The forms of the lines of a file.
@@ -102,27 +132,49 @@ fn line_like(file: LineFile, cause: LineCause, line: &[u8]) -> &'static str {
     }
 }
 
-/// Whether a file has no fault up to the lines that stand in place of that of a number.
+/// Whether a change is one of the line of a number, and of no other.
+fn is_on_line(bytes: &[u8], number: usize, edit: &Edit) -> bool
+    ensures { IsTrue result ↔ IsOnLine bytes.now number edit.now }
+{
+    LineColumn::of(bytes, edit.from).line == number && LineColumn::of(bytes, edit.to).line == number
+}
+
+/// Whether a file with a change has no fault up to the change, and up to the line of a number.
 fn is_cured(
     alloc: Global,
     file: LineFile,
     bytes: &[u8],
     number: usize,
-    lines: &[u8],
-) -> Result<bool, AllocError> {
-    let from = place_of(bytes, number, 1);
-    let to = from.saturating_add(line_of(bytes, number).len());
-    let all = replaced(alloc, bytes, from, to, lines)?;
-    let more = lines.iter().filter(|byte| **byte == b'\n').count();
-    let last = number.saturating_add(more);
+    edit: &Edit,
+) -> Result<bool, AllocError>
+    ensures { IfOk result (λ is. IsTrue is → IsGoodWith file bytes.now number edit.now) }
+{
+    let all = edit.changed(alloc, bytes)?;
+    let last = edit.last_line(bytes, &all, number);
     match file {
-        LineFile::Binding => is_good(&Binding::parse(alloc, &all), last),
-        LineFile::Scenario => is_good(&parse(alloc, &all), last),
+        LineFile::Binding => is_good_binding(alloc, &all, last),
+        LineFile::Scenario => is_good_scenario(alloc, &all, last),
     }
 }
 
+/// Whether a binding has no fault up to a line.
+fn is_good_binding(alloc: Global, bytes: &[u8], last: usize) -> Result<bool, AllocError>
+    ensures { IfOk result (λ is. IsTrue is → IsGoodTo files.Binding bytes.now last) }
+{
+    is_good(&Binding::parse(alloc, bytes), last)
+}
+
+/// Whether a scenario has no fault up to a line.
+fn is_good_scenario(alloc: Global, bytes: &[u8], last: usize) -> Result<bool, AllocError>
+    ensures { IfOk result (λ is. IsTrue is → IsGoodTo files.Scenario bytes.now last) }
+{
+    is_good(&parse(alloc, bytes), last)
+}
+
 /// Whether a file that was read has no fault up to a line.
-fn is_good<Of>(file: &Result<Of, LineFault<Of>>, last: usize) -> Result<bool, AllocError> {
+fn is_good<Of>(file: &Result<Of, LineFault<Of>>, last: usize) -> Result<bool, AllocError>
+    ensures { IfOk result (λ is. IsTrue is → ReadsTo last file.now) }
+{
     match file {
         Ok(_) => Ok(true),
         Err(LineFault::Memory) => Err(AllocError),

@@ -156,7 +156,7 @@ fn spaced(alloc: Global, line: &[u8]) -> Result<Vec<u8>, AllocError> {
 }
 
 /// The bytes with others in place of those from one place up to another.
-pub(crate) fn replaced(
+fn replaced(
     alloc: Global,
     bytes: &[u8],
     from: usize,

@@ -382,7 +382,8 @@ const NUMBERS: &[Habit] = habits! {
         "what stores takes the name of a variable: the value is loaded on the line\n\
             before";
         "LD 200\nST lamp") =>
-        Anywhere "< {store} @ {constant}" Nothing;
+        Anywhere "< {store} @ {constant}" Nothing,
+        Anywhere "< {store} @ {}" ["true false"] Nothing;
 };
 
 /// Addresses, words that say more of variables, and blocks that are not there.

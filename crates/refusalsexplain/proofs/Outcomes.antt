@@ -16,7 +16,6 @@ use Rattle.explaincures.specs.declared.edits.Edit.{Edit}
 use Rattle.explaincures.specs.declared.edits.EditOutcome.{EditOutcome}
 use Rattle.explaincures.specs.declared.edits.EditOutcome.TheVariants.{Accepted, Ended, Text, Name, Code}
 use Rattle.explaincures.specs.declared.edits.Side.{Side}
-use Rattle.explaincures.specs.declared.edits.Side.TheVariants.{Behind}
 
 -- it is accepted where the text with it has a setup
 pub accepted : (wiring : Wiring) (text : List ℕ) (asked : ℕ) (edit : Edit) (outcome : EditOutcome) (setup : Loaded)
@@ -66,14 +65,9 @@ pub reads_behind : (edit : Edit) (text bytes : List ℕ) (asked place line col :
 reads_behind edit text bytes asked place line col cause Accepted told gone = absurd told
 reads_behind edit text bytes asked place line col cause (Ended has_more) told gone = inr told.0.0
 reads_behind edit text bytes asked place line col cause (Text side) told gone =
-    let behind = subst (λ (s : Side). IsOnSide edit text bytes asked line s) gone told in inl behind.1
+    let behind = subst (λ (s : Side). IsOnSide edit text bytes asked line s) gone told.1 in inl behind.1
 reads_behind edit text bytes asked place line col cause (Name side) told gone = absurd told
 reads_behind edit text bytes asked place line col cause (Code task word) told gone = absurd told
-
--- no line stands behind the last one
-no_line_behind : (edit : Edit) (text bytes : List ℕ) (line : ℕ) → line ≡ line_at bytes (length bytes)
-    → IsOnSide edit text bytes (line_at text (length text)) line Behind → ⊥
-no_line_behind edit text bytes line is behind = omega arith
 
 -- where the fault stood at the text's end, and stands at the end again, more stands in the text than before
 pub reads_more : (edit : Edit) (text bytes : List ℕ) (asked place line col : ℕ) (cause : TextCause) (outcome : EditOutcome)
@@ -82,10 +76,7 @@ pub reads_more : (edit : Edit) (text bytes : List ℕ) (asked place line col : �
     → ReadsOn text asked place outcome → content_of text < content_of bytes
 reads_more edit text bytes asked place line col cause Accepted was is told gone = absurd told
 reads_more edit text bytes asked place line col cause (Ended has_more) was is told gone = told.1.0 (gone was)
-reads_more edit text bytes asked place line col cause (Text side) was is told gone =
-    let behind = subst (λ (s : Side). IsOnSide edit text bytes asked line s) gone told in
-    let last = subst (λ (n : ℕ). IsOnSide edit text bytes n line Behind) was.0 behind in
-    absurd (no_line_behind edit text bytes line is.0 last)
+reads_more edit text bytes asked place line col cause (Text side) was is told gone = absurd (told.0 is)
 reads_more edit text bytes asked place line col cause (Name side) was is told gone = absurd told
 reads_more edit text bytes asked place line col cause (Code task word) was is told gone = absurd told
 

@@ -5,11 +5,13 @@ ghost use Rattle.iltext.specs.declared.fault.TextFault.TheVariants as text_fault
 ghost use Rattle.ilcompile.specs.Loaded.{Loaded};
 ghost use Rattle.plantload.specs.Loading.{IsLoadFault, IsSetup};
 ghost use Rattle.plantload.specs.declared.fault.LoadFault.TheVariants as faults;
-ghost use Rattle.explaincures.specs.Trying.{changed, content_of, last_line};
+ghost use Rattle.explaincures.specs.Trying.{IsEnd, changed, content_of, last_line};
 ghost use Rattle.explaincures.specs.declared.edits.EditOutcome.TheVariants.{Accepted, Ended, Text};
+ghost use Rattle.explaincures.specs.declared.edits.Side.{Side};
 ghost use Rattle.explaincures.specs.declared.edits.Side.TheVariants.{There};
 
 use explaincures::{AskedText, Edit, EditOutcome, Spot, is_end, left_out};
+use ilsource::LineColumn;
 use iltext::TextCause;
 use plantload::LoadFault;
 use std::alloc::{AllocError, Global};
@@ -58,6 +60,23 @@ pub fn fault_behind_a_change_is_not_there(
         IsLoadFault asked.now.binding.now bytes
         (faults.Text (text_faults.At (last_line edit.now text bytes line + 1) 1 cause)) }
     ensures { IfOk result (λ outcome. outcome ≢ Text There) }
+{
+    edit.outcome(alloc, asked, line)
+}
+
+/// `end_is_on_a_side`: a fault at the end of a text with a change was told by its side, as any other.
+pub fn fault_at_the_end_has_no_side(
+    alloc: Global,
+    asked: &AskedText,
+    edit: &Edit,
+    line: usize,
+    found: LineColumn,
+    cause: TextCause,
+) -> Result<EditOutcome, AllocError>
+    requires fault { IsLoadFault asked.now.binding.now (changed edit.now asked.now.text.now)
+        (faults.Text (text_faults.At found.line found.col cause)) }
+    requires end { IsEnd (changed edit.now asked.now.text.now) found.line found.col }
+    ensures { IfOk result (λ outcome. (side : Side) → outcome ≢ Text side) }
 {
     edit.outcome(alloc, asked, line)
 }

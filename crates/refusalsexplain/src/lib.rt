@@ -15,4 +15,5 @@
 
 pub mod changes;
 pub mod explanations;
+pub mod lines;
 pub mod notes;

@@ -17,4 +17,4 @@ returns c =
     (λ outcome tried same.
     let there = subst (λ (o : EditOutcome). TellsFault edit text (changed edit text) c.args.line fault o) same
     (told_of wiring text c.args.line edit outcome fault c.requires tried) in
-    omega (arith, there.1))
+    omega (arith, there.1.1))
