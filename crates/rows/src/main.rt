@@ -27,7 +27,7 @@ use std::thread::Threads;
 use std::time::Clock as Timer;
 use std::{env, fs, io};
 use workedrows::{Judge, RowsStop};
-use wrong::{refuse_pages, refuse_rows};
+use wrong::{Wrong, refuse_all};
 
 fn main(rt: HostRuntime) -> io::Result<ExitCode> {
     let devices = HostDevices { rt };
@@ -64,9 +64,9 @@ fn judge_files<R: Files + Env + AllocGlobal + Threads + Wait + Timer + Sync, S: 
         let text = fs::read_to_string(rt, path.as_str())?;
         let is_page = path.as_str().ends_with(".md");
         match (path.as_str().starts_with("wrong"), is_page) {
-            (true, true) => wrong = wrong.saturating_add(refuse_pages(rt, site, &text)?),
-            (true, false) => {
-                wrong = wrong.saturating_add(refuse_rows(rt.alloc(), rt, site, &text)?);
+            (true, _) => {
+                let kind = if is_page { Wrong::Pages } else { Wrong::Rows };
+                wrong = wrong.saturating_add(refuse_all(rt, site, kind, &text)?);
             }
             (false, true) => judge_page(&mut judge, rt, site, path.as_str(), &text)?,
             (false, false) => judge_lines(&mut judge, rt, site, &text)?,

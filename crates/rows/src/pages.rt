@@ -11,9 +11,7 @@ use std::rt::Files;
 use std::sync::Wait;
 use std::thread::Threads;
 use std::time::Clock as Timer;
-use workedrows::{
-    CHANGED, ChangedLine, Difference, Fit, Judge, PageStep, RowsStop, ShownRun, page_steps,
-};
+use workedrows::{CHANGED, ChangedLine, Difference, Fit, Judge, PageStep, RowsStop, page_steps};
 
 /// Judges a page: its path, which the names of its rows begin with, and its text.
 ///
@@ -35,7 +33,10 @@ pub fn judge_page<R: Files + AllocGlobal + Threads + Wait + Timer + Sync, S: Sit
         folder: String::new(judge.alloc()),
     };
     for step in &steps {
-        reading.take_step(judge, rt, site, step)?;
+        if let Some(run) = reading.prepare(judge, rt, step)? {
+            judge_lines(judge, rt, site, run.as_str())?;
+            expect_step(judge, step)?;
+        }
     }
     judge.end_part()
 }
@@ -50,37 +51,47 @@ struct Reading<'a> {
 }
 
 impl Reading<'_> {
-    /// Takes the next step of the page.
-    fn take_step<R: Files + AllocGlobal + Threads + Wait + Timer + Sync, S: Site + Sync>(
+    /// Takes the next step of the page, up to its command: the line that runs that, where the step
+    /// has one.
+    fn prepare<R: Files + AllocGlobal>(
         &mut self,
         judge: &mut Judge,
         rt: &R,
-        site: &S,
         step: &PageStep,
-    ) -> Result<(), RowsStop> {
+    ) -> Result<Option<String>, RowsStop> {
         let folder = self.folder.as_str();
         match step {
             PageStep::Folder(name) => {
                 self.folder = joined(judge.alloc(), folder, name.as_str())?;
-                Ok(())
+                Ok(None)
             }
-            PageStep::File { name, bytes } => take_block(judge, rt, folder, name.as_str(), bytes),
+            PageStep::File { name, bytes } => {
+                take_block(judge, rt, folder, name.as_str(), bytes)?;
+                Ok(None)
+            }
             PageStep::Run(run) => {
                 name_row(judge, self.path, run.line)?;
                 take_files(judge, rt, folder, run.words.as_str())?;
-                judge_run(judge, rt, site, run)
+                Ok(Some(running(judge, run.words.as_str())?))
             }
             PageStep::Changed(changed) => {
                 name_row(judge, self.path, changed.line)?;
                 take_files(judge, rt, folder, changed.words.as_str())?;
-                judge_changed(judge, rt, site, changed)
+                put_changed(judge, changed)?;
+                Ok(Some(running(judge, changed.words.as_str())?))
             }
             PageStep::Picture { line, path } => {
                 name_row(judge, self.path, *line)?;
-                compare_picture(judge, rt, self.path, path.as_str())
+                compare_picture(judge, rt, self.path, path.as_str())?;
+                Ok(None)
             }
         }
     }
+}
+
+/// The line of a row that runs the command of these words.
+fn running(judge: &Judge, words: &str) -> Result<String, AllocError> {
+    format!(in judge.alloc(); "-- run {words}")
 }
 
 /// Goes on with a row that is called by its page and its line there.
@@ -159,42 +170,13 @@ fn put_changed(judge: &mut Judge, changed: &ChangedLine) -> Result<(), RowsStop>
     judge.end_part()
 }
 
-/// Checks a text with another line in it.
-fn judge_changed<T: Threads + Wait + Timer + Sync, S: Site + Sync>(
-    judge: &mut Judge,
-    threads: &T,
-    site: &S,
-    changed: &ChangedLine,
-) -> Result<(), RowsStop> {
-    put_changed(judge, changed)?;
-    run_words(judge, threads, site, changed.words.as_str())?;
-    expect(judge, "-- stdout", changed.shown.as_bytes())
-}
-
-/// Runs a command, and says what it must show where that goes to no file.
-fn judge_run<T: Threads + Wait + Timer + Sync, S: Site + Sync>(
-    judge: &mut Judge,
-    threads: &T,
-    site: &S,
-    run: &ShownRun,
-) -> Result<(), RowsStop> {
-    run_words(judge, threads, site, run.words.as_str())?;
-    if run.is_kept {
-        Ok(())
-    } else {
-        expect(judge, heading_of(run.fit), &run.shown)
+/// Says what the command of a step must have shown, where that goes to no file.
+fn expect_step(judge: &mut Judge, step: &PageStep) -> Result<(), RowsStop> {
+    match step {
+        PageStep::Run(run) if !run.is_kept => expect(judge, heading_of(run.fit), &run.shown),
+        PageStep::Changed(changed) => expect(judge, "-- stdout", changed.shown.as_bytes()),
+        _ => Ok(()),
     }
-}
-
-/// Runs the command line of these words.
-fn run_words<T: Threads + Wait + Timer + Sync, S: Site + Sync>(
-    judge: &mut Judge,
-    threads: &T,
-    site: &S,
-    words: &str,
-) -> Result<(), RowsStop> {
-    let heading = format!(in judge.alloc(); "-- run {words}")?;
-    judge_lines(judge, threads, site, heading.as_str())
 }
 
 /// The line below which a page's lines stand that fit so.
