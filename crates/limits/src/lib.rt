@@ -6,7 +6,7 @@
 //! `is_too_long(text)` is the question that texts, bindings and scenarios ask first.
 //!
 //! ```text
-//! if is_too_long(text) { /* text fault 2 */ }
+//! if is_too_long(text) { /* text fault 9 */ }
 //! ```
 #![tactic(auto)]
 
