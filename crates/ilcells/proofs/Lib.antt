@@ -1,8 +1,10 @@
 mod BitEnds
 mod Bits
-pub mod Places
+mod Places
 mod RowAccess
 mod RowEnds
 mod RowStarts
 pub mod RowWrites
 mod Rows
+pub mod SlotPlaces
+mod Sorted

@@ -13,4 +13,4 @@ mod RowSlots
 mod RowTaking
 mod SameStarts
 pub mod StoredSlots
-pub use Rattle.ilready.proofs.SlotPlaces
+pub use Rattle.ilcells.proofs.SlotPlaces

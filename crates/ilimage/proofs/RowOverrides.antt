@@ -6,8 +6,8 @@ use Rattle.std.proofs.lemmas.List.{drop_more, length-set}
 use Rattle.std.proofs.lemmas.List.Elements.{All-head, All-tail}
 use Rattle.iltypes.specs.declared.value.Value.{Value}
 use Rattle.iltypes.specs.declared.value.Value.TheVariants as values
-use Rattle.ilready.specs.Cells.{is_number_of}
-use Rattle.ilready.specs.Banks.{kinds_of}
+use Rattle.ilcells.specs.Cells.{is_number_of}
+use Rattle.ilcells.specs.Banks.{kinds_of}
 use Rattle.ilimage.specs.declared.external.External.{External}
 use Rattle.ilimage.specs.declared.overriding.Override.{Override}
 use Rattle.ilimage.specs.declared.slots.TaskSlot.{TaskSlot}

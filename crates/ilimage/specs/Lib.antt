@@ -5,7 +5,7 @@ pub mod RowSteps
 pub mod Rows
 pub mod Snapshots
 pub mod TaskRows
-pub use Rattle.ilready.specs.ReadyWords
-pub use Rattle.ilready.specs.declared.choice.Choice
-pub use Rattle.ilready.specs.declared.ready_word.ReadyWord
+pub use Rattle.ilcells.specs.ReadyWords
+pub use Rattle.ilcells.specs.declared.choice.Choice
+pub use Rattle.ilcells.specs.declared.ready_word.ReadyWord
 pub use Rattle.ilverify.specs.Verdicts

@@ -7,7 +7,7 @@ use Rattle.iltypes.specs.declared.value.IlType.{IlType}
 use Rattle.iltypes.specs.declared.value.Value.{Value}
 use Rattle.iltypes.specs.declared.value.Value.TheVariants as values
 use Rattle.ilverify.specs.Listings.{lasting_types}
-use Rattle.ilready.specs.Cells.{is_number_of}
+use Rattle.ilcells.specs.Cells.{is_number_of}
 use Rattle.ilblocks.specs.Calls.{Block}
 use Rattle.ilimage.specs.declared.external.External.{External}
 use Rattle.ilimage.specs.declared.overriding.Override.{Override}

@@ -6,7 +6,7 @@ ghost use Rattle.ilblocks.specs.Stores.{blocks_at_first};
 ghost use Rattle.ilverify.specs.Listings.{lasting_types};
 
 use ilblocks::{BlockKind, BlockState};
-use ilready::{RowLayout, ValueRow};
+use ilcells::{RowLayout, ValueRow};
 use iltypes::Value;
 use ilverify::Code;
 use std::alloc::{AllocError, Global};

@@ -10,7 +10,7 @@ use crate::snapshot::Snapshot;
 use crate::task::TaskImage;
 use crate::task_row::{TaskRow, rows_of};
 use ilblocks::BlockState;
-use ilready::ValueRow;
+use ilcells::ValueRow;
 use iltypes::{IlType, Value};
 use std::alloc::{AllocError, Global};
 use std::marker::Model;

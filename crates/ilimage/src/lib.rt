@@ -33,7 +33,7 @@ mod task;
 mod task_row;
 
 pub use external::External;
-pub use ilready::{Choice, ReadyWord};
+pub use ilcells::{Choice, ReadyWord};
 pub use ilverify::Verified;
 pub use image::Image;
 pub use law::variables_and_blocks_are_the_image;

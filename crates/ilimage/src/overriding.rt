@@ -1,11 +1,11 @@
 //! Values that a snapshot has in place of the image's.
 
 ghost use Rattle.std.specs.Prelude.{◌≡◌, ◌<◌, All, length};
-ghost use Rattle.ilready.specs.Banks.{kinds_of};
+ghost use Rattle.ilcells.specs.Banks.{kinds_of};
 ghost use Rattle.ilimage.specs.RowSteps.{MaySet, lists_of, slots_at, row_with, row_under};
 
 use crate::slots::TaskSlot;
-use ilready::ValueRow;
+use ilcells::ValueRow;
 use iltypes::Value;
 
 /// A global variable with the value that a snapshot has in place of the image's, as the trigger of

@@ -10,7 +10,7 @@ ghost use Rattle.ilimage.specs.RowSteps.{stored_by};
 use crate::row_writes::give;
 use crate::slots::TaskSlot;
 use crate::task_row::TaskRow;
-use ilready::ValueRow;
+use ilcells::ValueRow;
 use iltypes::Value;
 
 /// Writes, of the values that a scan of a task left in the programs' slots, those of the global

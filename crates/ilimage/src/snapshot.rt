@@ -3,7 +3,7 @@
 use crate::code_rows::{first_blocks, row_of};
 use crate::prepared::PreparedCode;
 use ilblocks::BlockState;
-use ilready::ValueRow;
+use ilcells::ValueRow;
 use iltypes::Value;
 use ilverify::Verified;
 use std::alloc::{AllocError, Global};

@@ -12,7 +12,7 @@ use crate::slots::StoredSlot;
 use crate::snapshot::Snapshot;
 use crate::task::TaskImage;
 use ilblocks::BlockState;
-use ilready::ValueRow;
+use ilcells::ValueRow;
 use iltypes::Value;
 use std::alloc::{AllocError, Global};
 use std::marker::Model;

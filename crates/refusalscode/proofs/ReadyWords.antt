@@ -1,8 +1,8 @@
 -- The ready word of a code of one word.
 use Rattle.std.proofs.Common.{◌≡◌, ℕ, List, [], ◌∷◌, Bool, IfSome, slice_get}
 use Rattle.ilcode.specs.declared.word.Word.{Word}
-use Rattle.ilready.specs.declared.ready_word.ReadyWord.{ReadyWord}
-use Rattle.ilready.specs.ReadyWords.{AreReadyFor, Fits, stands_for}
+use Rattle.ilcells.specs.declared.ready_word.ReadyWord.{ReadyWord}
+use Rattle.ilcells.specs.ReadyWords.{AreReadyFor, Fits, stands_for}
 
 pub one_ready : (kinds : List Bool) (word : Word) (ready : List ReadyWord) (P : ReadyWord → Type 0)
     → AreReadyFor kinds (word ∷ []) ready → Fits kinds word

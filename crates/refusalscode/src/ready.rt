@@ -4,8 +4,8 @@ ghost use Rattle.std.specs.Prelude.{◌≡◌, ◌≢◌, ◌+◌, ◌*◌, ◌/
 ghost use Rattle.std.specs.Prelude.{slice_get};
 ghost use Rattle.refusalscode.specs.Codes.{level};
 
+use ilcells::{Choice, ReadyWord, ready_words};
 use ilcode::{PackedWord, Word, WordOperand};
-use ilready::{Choice, ReadyWord, ready_words};
 use iltypes::{Condition, IlType, Operator};
 use std::alloc::{AllocError, Global};
 

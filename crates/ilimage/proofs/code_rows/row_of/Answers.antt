@@ -2,7 +2,7 @@ use Rattle.std.proofs.Common.{◌∙◌, List, take, length, sym, ap, arith}
 use Rattle.std.proofs.lemmas.List.{length-take-le}
 use Rattle.iltypes.specs.declared.value.IlType.{IlType}
 use Rattle.ilverify.specs.Listings.{lasting_types}
-use Rattle.ilready.specs.Banks.{kinds_of_types}
+use Rattle.ilcells.specs.Banks.{kinds_of_types}
 use Rattle.ilimage.proofs.RowKinds.{kinds_are}
 use Rattle.ilimage.proofs.LastingSlots.{lasting_within, lasting_front}
 use Rattle.ilimage.proofs.code_rows.row_of.Goals as goal

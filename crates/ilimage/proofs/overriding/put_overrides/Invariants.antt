@@ -1,5 +1,5 @@
 use Rattle.std.proofs.Common.{◌≡◌, drop, Vec, Global}
-use Rattle.ilready.specs.Banks.{kinds_of}
+use Rattle.ilcells.specs.Banks.{kinds_of}
 use Rattle.ilimage.specs.declared.slots.TaskSlot.{TaskSlot}
 use Rattle.ilimage.specs.RowSteps.{row_under, lists_of}
 use Rattle.ilimage.proofs.overriding.put_overrides.Given as goal

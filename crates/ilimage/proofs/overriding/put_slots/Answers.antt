@@ -1,7 +1,7 @@
 use Rattle.std.proofs.Common.{◌≡◌, ◌∙◌, ap, get_or, true, false}
 use Rattle.std.specs.Prelude.{slice_set}
 use Rattle.std.proofs.lemmas.Bool.{eq-eqb}
-use Rattle.ilready.specs.Banks.{kinds_of}
+use Rattle.ilcells.specs.Banks.{kinds_of}
 use Rattle.ilimage.specs.RowSteps.{row_with}
 use Rattle.ilimage.proofs.RowSlots.{no_slot, neq-eqb}
 use Rattle.ilimage.proofs.RowOverrides.{kinds_kept, may_move, slot_turn}

@@ -1,5 +1,5 @@
 use Rattle.std.proofs.Common.{◌≡◌, drop}
-use Rattle.ilready.specs.Banks.{kinds_of}
+use Rattle.ilcells.specs.Banks.{kinds_of}
 use Rattle.ilimage.specs.RowSteps.{row_with}
 use Rattle.ilimage.proofs.overriding.put_slots.Given as goal
 

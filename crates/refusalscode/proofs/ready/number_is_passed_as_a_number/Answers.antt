@@ -6,10 +6,10 @@ use Rattle.ilcode.specs.declared.word.Word.{Word}
 use Rattle.ilcode.specs.declared.word.Word.TheVariants as words
 use Rattle.ilcode.specs.declared.word.WordOperand.TheVariants as operands
 use Rattle.ilcells.specs.Banks.{kinds_of_types}
-use Rattle.ilready.specs.declared.choice.Choice.{Choice}
-use Rattle.ilready.specs.declared.choice.Choice.TheVariants as choices
-use Rattle.ilready.specs.declared.ready_word.ReadyWord.{ReadyWord}
-use Rattle.ilready.specs.ReadyWords.{AreReadyFor, meant}
+use Rattle.ilcells.specs.declared.choice.Choice.{Choice}
+use Rattle.ilcells.specs.declared.choice.Choice.TheVariants as choices
+use Rattle.ilcells.specs.declared.ready_word.ReadyWord.{ReadyWord}
+use Rattle.ilcells.specs.ReadyWords.{AreReadyFor, meant}
 use Rattle.refusalscode.proofs.ReadyWords.{one_ready}
 use Rattle.refusalscode.proofs.Results.{if_ok}
 use Rattle.refusalscode.proofs.ready.number_is_passed_as_a_number.Goals as goal
