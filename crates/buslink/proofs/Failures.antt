@@ -3,13 +3,13 @@ use Rattle.std.proofs.Common.{◌≡◌, ℕ, zero, suc, ◌-◌, List, [], ◌�
 use Rattle.std.specs.Prelude.{All}
 use Rattle.std.proofs.lemmas.List.Elements.{All-append, All-cons}
 use Rattle.daliframe.specs.declared.forward.Frame.{Frame}
-use Rattle.transact.specs.declared.marks.Mark.{Mark}
-use Rattle.transact.specs.declared.marks.Mark.TheVariants.{Lost, Failed}
-use Rattle.transact.specs.declared.marks.Sent.{Sent}
+use Rattle.buslink.specs.declared.marks.Mark.{Mark}
+use Rattle.buslink.specs.declared.marks.Mark.TheVariants.{Lost, Failed}
+use Rattle.buslink.specs.declared.marks.Sent.{Sent}
 use Rattle.gearcmd.specs.FrameLists.{FrameList}
-use Rattle.transact.specs.Marks.{outcome_of}
-use Rattle.transact.specs.Attempts.{Attempt, IsAttempt, IsReport, ReportParts, Spells, marks_of}
-use Rattle.transact.specs.Attempts.{sent_with, all_sent, last_mark}
+use Rattle.buslink.specs.Marks.{outcome_of}
+use Rattle.buslink.specs.Attempts.{Attempt, IsAttempt, IsReport, ReportParts, Spells, marks_of}
+use Rattle.buslink.specs.Attempts.{sent_with, all_sent, last_mark}
 use Rattle.buslink.specs.BusLog.{BusLog, one_more}
 use Rattle.buslink.specs.Performing.{failures_after, after_report}
 

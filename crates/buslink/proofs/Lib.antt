@@ -1,3 +1,5 @@
+mod AttemptLemmas
 pub mod Eaching
-mod Trying
 mod Failures
+mod ReadingLemmas
+mod Trying

@@ -5,15 +5,15 @@ use Rattle.std.specs.Prelude.{All, IsTrue, Result, Ok, Err, ◌==◌, true, fals
 use Rattle.std.proofs.lemmas.Bool.{eqb-true}
 use Rattle.std.proofs.lemmas.List.{append-nil, length-append, take_all}
 use Rattle.daliframe.specs.declared.forward.Frame.{Frame}
-use Rattle.transact.specs.declared.marks.Mark.{Mark}
-use Rattle.transact.specs.declared.marks.Mark.TheVariants.{Quiet, Answer, Damaged, Lost, Failed}
-use Rattle.transact.specs.declared.marks.Reply.{Reply}
-use Rattle.transact.specs.declared.marks.Reply.TheVariants as reply
-use Rattle.transact.specs.declared.marks.Sent.{Sent}
-use Rattle.transact.specs.Marks.{IsBroken, outcome_of}
+use Rattle.buslink.specs.declared.marks.Mark.{Mark}
+use Rattle.buslink.specs.declared.marks.Mark.TheVariants.{Quiet, Answer, Damaged, Lost, Failed}
+use Rattle.buslink.specs.declared.marks.Reply.{Reply}
+use Rattle.buslink.specs.declared.marks.Reply.TheVariants as reply
+use Rattle.buslink.specs.declared.marks.Sent.{Sent}
+use Rattle.buslink.specs.Marks.{IsBroken, outcome_of}
 use Rattle.gearcmd.specs.FrameLists.{FrameList}
-use Rattle.transact.specs.Attempts.{Attempt, IsAttempt, IsReport, ReportParts, Spells, marks_of}
-use Rattle.transact.specs.Attempts.{all_marks, sent_with, all_sent, last_mark}
+use Rattle.buslink.specs.Attempts.{Attempt, IsAttempt, IsReport, ReportParts, Spells, marks_of}
+use Rattle.buslink.specs.Attempts.{all_marks, sent_with, all_sent, last_mark}
 use Rattle.buslink.specs.declared.faults.Fault.{Fault}
 use Rattle.buslink.specs.BusLog.{BusLog, mark_of_send, after_send}
 use Rattle.buslink.specs.Performing.{failures_after, after_report}

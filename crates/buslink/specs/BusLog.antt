@@ -3,11 +3,11 @@ use Rattle.std.specs.Prelude.{◌≡◌, ℕ, ◌+◌, ◌-◌, ◌%◌, ◌^◌
 use Rattle.std.specs.Prelude.{List, [], ◌∷◌, ◌++◌, option_map, IfSome}
 use Rattle.std.specs.List.{filter_map}
 use Rattle.daliframe.specs.declared.forward.Frame.{Frame}
-use Rattle.transact.specs.declared.marks.Mark.{Mark}
-use Rattle.transact.specs.declared.marks.Mark.TheVariants.{Failed}
-use Rattle.transact.specs.declared.marks.Reply.{Reply}
-use Rattle.transact.specs.declared.marks.Sent.{Sent}
-use Rattle.transact.specs.Marks.{mark_of}
+use Rattle.buslink.specs.declared.marks.Mark.{Mark}
+use Rattle.buslink.specs.declared.marks.Mark.TheVariants.{Failed}
+use Rattle.buslink.specs.declared.marks.Reply.{Reply}
+use Rattle.buslink.specs.declared.marks.Sent.{Sent}
+use Rattle.buslink.specs.Marks.{mark_of}
 use Rattle.buslink.specs.declared.arrivals.Arrival.{Arrival}
 use Rattle.buslink.specs.declared.arrivals.Arrival.TheVariants as arrival
 use Rattle.buslink.specs.declared.faults.Fault.{Fault}

@@ -1,5 +1,9 @@
+pub mod Attempts
 pub mod BusLog
 pub mod ClockLog
 pub mod Each
+pub mod Marks
 pub mod Performing
 pub mod PerformingSteps
+pub mod Printed
+pub mod ReadingSteps

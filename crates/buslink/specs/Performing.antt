@@ -1,8 +1,8 @@
 -- What performing a transaction does to a bus.
 use Rattle.std.specs.Prelude.{ℕ, ◌++◌}
-use Rattle.transact.specs.declared.marks.Outcome.{Outcome}
-use Rattle.transact.specs.declared.marks.Outcome.TheVariants as outcome
-use Rattle.transact.specs.Attempts.{ReportParts}
+use Rattle.buslink.specs.declared.marks.Outcome.{Outcome}
+use Rattle.buslink.specs.declared.marks.Outcome.TheVariants as outcome
+use Rattle.buslink.specs.Attempts.{ReportParts}
 use Rattle.buslink.specs.BusLog.{BusLog, one_more}
 
 -- the failures after a transaction: only one that failed met a fault, and one fault ends it

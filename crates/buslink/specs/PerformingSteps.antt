@@ -2,11 +2,11 @@
 use Rattle.std.specs.Prelude.{◌≡◌, ℕ, ◌-◌, Result, List, ◌++◌, length}
 use Rattle.daliframe.specs.declared.forward.Frame.{Frame}
 use Rattle.gearcmd.specs.FrameLists.{FrameList}
-use Rattle.transact.specs.declared.marks.Mark.{Mark}
-use Rattle.transact.specs.declared.marks.Mark.TheVariants as mark
-use Rattle.transact.specs.declared.marks.Reply.{Reply}
-use Rattle.transact.specs.declared.marks.Sent.{Sent}
-use Rattle.transact.specs.Attempts.{Attempt, IsAttempt, IsReport, marks_of, all_marks, sent_with, all_sent, last_mark}
+use Rattle.buslink.specs.declared.marks.Mark.{Mark}
+use Rattle.buslink.specs.declared.marks.Mark.TheVariants as mark
+use Rattle.buslink.specs.declared.marks.Reply.{Reply}
+use Rattle.buslink.specs.declared.marks.Sent.{Sent}
+use Rattle.buslink.specs.Attempts.{Attempt, IsAttempt, IsReport, marks_of, all_marks, sent_with, all_sent, last_mark}
 use Rattle.buslink.specs.declared.faults.Fault.{Fault}
 use Rattle.buslink.specs.BusLog.{BusLog, one_more, mark_of_send, after_send}
 

@@ -4,9 +4,9 @@ ghost use Rattle.buslink.specs.BusLog.{TellsAll, after_send, after_hear, with_sp
 ghost use Rattle.buslink.specs.BusLog.{after_mend, after_resume};
 
 use crate::Fault;
+use crate::marks::Reply;
 use daliframe::{Frame, Frame24};
 use std::alloc::AllocError;
-use transact::Reply;
 
 /// A bus interface, with its number, what comes on it where that is known, and what became of it so
 /// far: the frames that were sent and heard, and how often it failed, heard and was taken up again.

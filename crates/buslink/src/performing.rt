@@ -3,15 +3,17 @@ ghost use Rattle.std.specs.Prelude.{◌≡◌, ◌+◌, ◌*◌, ◌<◌, ◌≤
 ghost use Rattle.arrayvec.specs.ArrayVec.{array_vec_len};
 ghost use Rattle.gearcmd.specs.FrameLists.{most_frames};
 ghost use Rattle.limits.specs.Limits.{AreTries};
-ghost use Rattle.transact.specs.Attempts.{IsReportParts, most_sent};
+ghost use Rattle.buslink.specs.Attempts.{IsReportParts, most_sent};
 ghost use Rattle.buslink.specs.BusLog.{one_more};
 ghost use Rattle.buslink.specs.Performing.{after_report};
 ghost use Rattle.buslink.specs.PerformingSteps.{IsSent, IsTriedOnce, IsTried};
 
+use crate::marks::Mark;
+use crate::reports::{MOST_SENT, Report};
+use crate::transactions::Transaction;
 use crate::{Bus, Fault};
 use arrayvec::ArrayVec;
 use daliframe::Frame;
-use transact::{MOST_SENT, Mark, Report, Transaction};
 
 /// Sends the frames of a transaction, and all of them again where one is lost, in at most `tries`
 /// attempts, 1 to 5. A fault of the bus interface ends it at once, with the outcome `Failed`. The

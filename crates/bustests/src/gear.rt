@@ -1,13 +1,12 @@
 //! Simulated gear and devices under frames that no block sends, alone or between others, and what a
 //! bus hears between the frames that are sent on it.
 
-use buslink::{Bus, Fault};
+use buslink::Reply::{Answer, Damaged, Quiet};
+use buslink::{Bus, Fault, Reply};
 use daliframe::{BusNumber, Frame, Frame16, Frame24, InstanceNumber, ShortAddress};
 use simbus::{BusSetup, SimBus, parse};
 use std::alloc::{AllocError, Global};
 use std::test::Fail;
-use transact::Reply;
-use transact::Reply::{Answer, Damaged, Quiet};
 
 const EQUIPMENT: &[u8] = b"gear 0 5\ngear 0 6\ndevice 0 5\ninstance 0 5 2 1 0 9\n";
 

@@ -1,13 +1,12 @@
 //! Buses behind a line over bytes in memory: what an interface says goes in, and what was said to
 //! it comes out.
 
-use buslink::{Bus, Fault};
+use buslink::{Bus, Fault, Reply};
 use daliframe::{BusNumber, Frame, Frame16, Frame24};
 use liveline::{Greeted, LineBus};
 use std::io;
 use std::io::{ErrorKind, Read};
 use std::test::Fail;
-use transact::Reply;
 
 /// What an interface says after its greeting; what becomes of a level, a query and a call that
 /// hears, a letter each; and how many bytes of `ASKED` were said to it.

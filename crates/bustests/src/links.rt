@@ -4,13 +4,14 @@ ghost use Rattle.std.specs.Prelude.{◌≡◌, ◌+◌, ◌≤◌, [], None};
 ghost use Rattle.arrayvec.specs.ArrayVec.{array_vec_len};
 
 use arrayvec::ArrayVec;
-use buslink::{Bus, Clock, Fault, perform};
+use buslink::{
+    Bus, Clock, Fault, MOST_SENT, Mark, Outcome, Reply, Report, Sent, Transaction, perform,
+};
 use daliframe::{Address, BusNumber, Frame, Frame24};
 use gearcmd::{Command, GearSetCommand, Request, TaskKind};
 use simbus::{ScriptedClock, parse};
 use std::alloc::AllocError;
 use std::test::Fail;
-use transact::{MOST_SENT, Mark, Outcome, Reply, Report, Sent, Transaction};
 
 /// What becomes of the frames of a bus.
 #[derive(Clone, Copy)]

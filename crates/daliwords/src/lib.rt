@@ -1,5 +1,5 @@
 //! Frames, event messages, requests, outcomes and status bytes in words, for a person to read. A
-//! value of ../daliframe, ../gearcmd or ../transact goes in, and comes out as a type that is
+//! value of ../daliframe, ../gearcmd or ../buslink goes in, and comes out as a type that is
 //! printed. What an installer writes on a command line, a block's name and the numbers of its
 //! ports, goes in too, and the command that they ask for comes out: `IsWritten` in
 //! `specs/Written.antt` says which.

@@ -1,7 +1,7 @@
 //! How transactions ended, in words.
 
+use buslink::{Mark, Report, Sent};
 use std::fmt;
-use transact::{Mark, Report, Sent};
 
 /// How a transaction ended, and how many of its frames were lost, where some were: `quiet`, `answer
 /// 200`, `damaged, lost 1`, `gave up, lost 3`, `failed`.

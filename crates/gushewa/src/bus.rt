@@ -5,12 +5,11 @@ ghost use Rattle.buslink.specs.BusLog.{with_sent};
 ghost use Rattle.gushewa.specs.Controllers.{fresh_bus};
 
 use crate::interface::Interface;
-use buslink::{Bus, Fault};
+use buslink::{Bus, Fault, Mark, Reply, Sent};
 use daliframe::{BusNumber, Frame, Frame24};
 use ghosts::Trace;
 use std::alloc::AllocError;
 use std::marker::Model;
-use transact::{Mark, Reply, Sent};
 
 /// A bus over an interface. What was sent and heard has no bytes: contracts alone see it.
 #[derive(Drop)]

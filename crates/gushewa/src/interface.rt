@@ -1,8 +1,7 @@
 //! Interfaces of a program's own.
 
-use buslink::Fault;
+use buslink::{Fault, Reply};
 use daliframe::{Frame, Frame24};
-use transact::Reply;
 
 /// What a program has in place of a bus. No contract speaks of what it does: whatever it answers, a
 /// controller sends only what was decided, and its history says what was answered.

@@ -27,7 +27,7 @@ mod not_opened;
 mod unobserved;
 
 pub use bus::InterfaceBus;
-pub use buslink::{Bus, Fault};
+pub use buslink::{Bus, Fault, Reply};
 pub use controller::Controller;
 pub use daliframe::{Address, BusNumber, Fields16, Frame, Frame16, Frame24};
 pub use ilcompile::Setup;
@@ -36,6 +36,5 @@ pub use not_opened::NotOpened;
 pub use plant::{OpenFault, Plant};
 pub use plantdriving::{Halt, Happened, Observer};
 pub use plantload::{LoadFault, load};
-pub use transact::Reply;
 pub use unobserved::Unobserved;
 pub use wordlines::Binding;

@@ -1,12 +1,12 @@
 //! A plant that repeats what another one did.
 
+use buslink::{Mark, Report};
 use ilcompile::Setup;
 use limits::MOST_EVENTS;
 use plant::{OpenFault, Plant};
 use plantsteps::{Step, StepReply, SteppedPlant};
 use plantturns::Happened;
 use std::alloc::Global;
-use transact::{Mark, Report};
 
 /// A plant that repeats what another one did, event by event in their order. Since a plant decides
 /// nothing by chance, it is then as the other one was.

@@ -1,12 +1,12 @@
 //! The lines of a log.
 
+use buslink::{Mark, Outcome, Reply, Report, Transaction};
 use daliwords::{FrameWords, HeardWords, OutcomeWords, RequestWords};
 use ilplan::Plan;
 use jiff::Timestamp;
 use plantevents::Origin;
 use plantturns::Happened;
 use std::fmt;
-use transact::{Mark, Outcome, Reply, Report, Transaction};
 
 /// Where an event stands, and when it came.
 #[derive(Clone, Copy)]

@@ -1,5 +1,6 @@
 //! A record of what came to a building, as a scenario that plays again.
 
+use buslink::{Mark, Outcome, Reply, Report};
 use gearcmd::{Command, Request};
 use ilplan::{Location, Plan};
 use limits::MOST_BYTES;
@@ -8,7 +9,6 @@ use plantturns::Happened;
 use std::alloc::{AllocError, Global};
 use std::io;
 use std::io::Write;
-use transact::{Mark, Outcome, Reply, Report};
 
 /// The first line of a record that begins with kept values. FILE is the record, whichever name it
 /// has.

@@ -1,8 +1,8 @@
 -- A line says one reply at most, and one message at most.
 use Rattle.std.proofs.Common.{◌≡◌, ℕ, List, [], ◌∷◌, ◌++◌, Option, None, Some, sym, ap, ◌∙◌, refl, arith}
 use Rattle.std.specs.Prelude.{codes}
-use Rattle.transact.specs.declared.marks.Reply.{Reply}
-use Rattle.transact.specs.declared.marks.Reply.TheVariants.{Quiet, Answer, Damaged, Lost}
+use Rattle.buslink.specs.declared.marks.Reply.{Reply}
+use Rattle.buslink.specs.declared.marks.Reply.TheVariants.{Quiet, Answer, Damaged, Lost}
 use Rattle.wordlines.specs.WordLines.{hex_number, number_upto}
 use Rattle.liveline.specs.Lines.{IsMessage, IsReply}
 use Rattle.liveline.proofs.Answering.{same_rest}

@@ -5,8 +5,8 @@ use Rattle.std.specs.Prelude.{◌≡◌, ℕ, List, [], ◌∷◌, ◌++◌, Opt
 use Rattle.std.specs.Fmt.{decimal}
 use Rattle.daliframe.specs.declared.forward.Frame.{Frame}
 use Rattle.daliframe.specs.Printed.{printed}
-use Rattle.transact.specs.declared.marks.Reply.{Reply}
-use Rattle.transact.specs.declared.marks.Reply.TheVariants.{Quiet, Answer, Damaged, Lost}
+use Rattle.buslink.specs.declared.marks.Reply.{Reply}
+use Rattle.buslink.specs.declared.marks.Reply.TheVariants.{Quiet, Answer, Damaged, Lost}
 use Rattle.wordlines.specs.WordLines.{hex_number, number_upto}
 
 -- a line feed (10)

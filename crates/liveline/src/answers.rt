@@ -1,12 +1,12 @@
 //! What the lines of an interface say.
 
 ghost use Rattle.std.specs.Prelude.{◌≡◌, ◌↔◌, ◌++◌, ℕ, List, Option, Some, IsTrue, MatchOption};
-ghost use Rattle.transact.specs.declared.marks.Reply.{Reply as ReplyTo};
-ghost use Rattle.transact.specs.declared.marks.Reply.TheVariants as said;
+ghost use Rattle.buslink.specs.declared.marks.Reply.{Reply as ReplyTo};
+ghost use Rattle.buslink.specs.declared.marks.Reply.TheVariants as said;
 ghost use Rattle.liveline.specs.Lines.{IsMessage, IsReply, fault_line, greeting};
 
+use buslink::Reply;
 use daliframe::Frame24;
-use transact::Reply;
 use wordlines::{hex_of, number_of};
 
 /// Whether a line says that the interface does not know what was asked.

@@ -13,13 +13,12 @@ use crate::answers::{message_in, reply_in};
 use crate::ends::{ask_to_hear, ask_to_send, read_line};
 use crate::greetings::Greeted;
 use crate::troubles::Trouble;
-use buslink::{Bus, Fault};
+use buslink::{Bus, Fault, Mark, Reply, Sent};
 use daliframe::{BusNumber, Frame, Frame24};
 use ghosts::Trace;
 use std::alloc::AllocError;
 use std::io::{Read, Write};
 use std::marker::Model;
-use transact::{Mark, Reply, Sent};
 
 /// A bus behind a line. Once a request was not answered as it should be, the bus says nothing more
 /// and fails, since a later line might answer that request, until it has a line that greeted. What

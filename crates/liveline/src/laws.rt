@@ -1,7 +1,7 @@
 //! A law of the definitions.
 
 ghost use Rattle.std.specs.Prelude.{◌≡◌, ℕ, List, Option};
-ghost use Rattle.transact.specs.declared.marks.Reply.{Reply as ReplyTo};
+ghost use Rattle.buslink.specs.declared.marks.Reply.{Reply as ReplyTo};
 ghost use Rattle.liveline.specs.Lines.{IsMessage, IsReply};
 
 /// A line says one reply at most, and one message at most. So what is read is what was said.

@@ -8,7 +8,7 @@ ghost use Rattle.livemend.specs.Mended.{IsCounted, IsLastCounted, most_kept};
 use crate::reasons::Reason;
 use crate::starter::{LineStarter, Order};
 use crate::thread::{Job, Outcome, Tries};
-use buslink::{Bus, Fault};
+use buslink::{Bus, Fault, Reply};
 use crossbeam_channel::{Receiver, Sender, bounded};
 use daliframe::{BusNumber, Frame, Frame24};
 use ghosts::Memo;
@@ -19,7 +19,6 @@ use std::io::Write;
 use std::marker::Model;
 use std::sync::Wait;
 use std::time::Clock;
-use transact::Reply;
 
 /// The most frames that are heard once the building's end was asked for: as many as an interface
 /// keeps.

@@ -2,9 +2,9 @@
 use Rattle.std.proofs.Common.{◌≡◌, List, [], ◌∷◌, ◌++◌, refl, sym, ◌∙◌, ap, append_assoc}
 use Rattle.std.proofs.lemmas.List.Elements.{All-nil, All-cons, All-append}
 use Rattle.gearcmd.specs.declared.requests.Command.{Command}
-use Rattle.transact.specs.declared.marks.Outcome.{Outcome}
-use Rattle.transact.specs.declared.marks.Outcome.TheVariants as outcome
-use Rattle.transact.specs.Attempts.{ReportParts}
+use Rattle.buslink.specs.declared.marks.Outcome.{Outcome}
+use Rattle.buslink.specs.declared.marks.Outcome.TheVariants as outcome
+use Rattle.buslink.specs.Attempts.{ReportParts}
 use Rattle.buslink.specs.BusLog.{BusLog, with_spare}
 use Rattle.buslink.specs.Performing.{after_report}
 use Rattle.livesurvey.specs.declared.asking.AskFault.{AskFault}

@@ -1,13 +1,13 @@
 -- What is broken off: the beginning of a course, with a rest that makes it whole.
 use Rattle.std.specs.Prelude.{Result, Ok, Err, IfOk, MatchResult}
 use Rattle.std.proofs.lemmas.Result.{IfOk-at_ok}
-use Rattle.transact.specs.Attempts.{ReportParts}
+use Rattle.buslink.specs.Attempts.{ReportParts}
 use Rattle.std.proofs.Common.{◌≡◌, ℕ, zero, suc, ◌≤◌, ◌<◌, List, [], ◌∷◌, ◌++◌, refl, sym, ◌∙◌, ap, subst}
 use Rattle.std.proofs.Common.{append_assoc, eq-or-lt_of_le, ⊎_elim, arith}
 use Rattle.std.proofs.lemmas.List.{append-nil}
 use Rattle.gearcmd.specs.declared.requests.Command.{Command}
-use Rattle.transact.specs.declared.marks.Outcome.TheVariants as outcome
-use Rattle.transact.specs.declared.marks.Reply.TheVariants.{Quiet}
+use Rattle.buslink.specs.declared.marks.Outcome.TheVariants as outcome
+use Rattle.buslink.specs.declared.marks.Reply.TheVariants.{Quiet}
 use Rattle.buslink.specs.BusLog.{BusLog}
 use Rattle.livesurvey.specs.declared.asking.AskFault.{AskFault}
 use Rattle.livesurvey.specs.declared.asking.AskFault.TheVariants.{Memory, Failed}

@@ -4,7 +4,7 @@ use Rattle.std.proofs.Common.{◌≡◌, ℕ, ◌<◌, List, length, Option, Som
 use Rattle.std.specs.List.{AllWithin, HoldsAt}
 use Rattle.std.proofs.lemmas.Option.{slice_get_read}
 use Rattle.gearcmd.specs.declared.requests.Command.{Command}
-use Rattle.transact.specs.declared.marks.Outcome.{Outcome}
+use Rattle.buslink.specs.declared.marks.Outcome.{Outcome}
 use Rattle.livesurvey.specs.declared.asking.Asked.{Asked}
 use Rattle.livesurvey.specs.Surveys.{IsFirstOf}
 

@@ -4,9 +4,9 @@ use Rattle.std.proofs.Common.{subst, arith}
 use Rattle.daliframe.specs.declared.addressing.Address.TheVariants.{Short}
 use Rattle.gearcmd.specs.declared.requests.Command.{Command}
 use Rattle.gearcmd.specs.declared.requests.Command.TheVariants.{GearAsk, GearDo, GearLevel}
-use Rattle.transact.specs.declared.marks.Outcome.{Outcome}
-use Rattle.transact.specs.declared.marks.Outcome.TheVariants as outcome
-use Rattle.transact.specs.declared.marks.Reply.TheVariants.{Quiet}
+use Rattle.buslink.specs.declared.marks.Outcome.{Outcome}
+use Rattle.buslink.specs.declared.marks.Outcome.TheVariants as outcome
+use Rattle.buslink.specs.declared.marks.Reply.TheVariants.{Quiet}
 use Rattle.buslink.specs.BusLog.{BusLog}
 use Rattle.livesurvey.specs.declared.asking.AskFault.{AskFault}
 use Rattle.livesurvey.specs.declared.asking.AskFault.TheVariants.{Memory, Failed}

@@ -5,14 +5,14 @@ use Rattle.std.proofs.Common.{arith, inl, inr, subst}
 use Rattle.std.proofs.lemmas.List.Elements.{All-nil}
 use Rattle.daliframe.specs.declared.addressing.Address.TheVariants.{Broadcast}
 use Rattle.gearcmd.specs.FrameLists.{IsLegal}
-use Rattle.transact.specs.declared.marks.Mark.{Mark}
-use Rattle.transact.specs.declared.marks.Mark.TheVariants.{Quiet, Answer, Damaged, Lost, Failed}
-use Rattle.transact.specs.declared.marks.Reply.{Reply}
-use Rattle.transact.specs.declared.marks.Reply.TheVariants as reply
-use Rattle.transact.specs.declared.marks.Sent.{Sent}
-use Rattle.transact.specs.declared.marks.Outcome.{Outcome}
-use Rattle.transact.specs.Marks.{IsBroken, outcome_of}
-use Rattle.transact.specs.Attempts.{Attempt, IsAttempt, IsReport, all_marks, all_sent, last_mark}
+use Rattle.buslink.specs.declared.marks.Mark.{Mark}
+use Rattle.buslink.specs.declared.marks.Mark.TheVariants.{Quiet, Answer, Damaged, Lost, Failed}
+use Rattle.buslink.specs.declared.marks.Reply.{Reply}
+use Rattle.buslink.specs.declared.marks.Reply.TheVariants as reply
+use Rattle.buslink.specs.declared.marks.Sent.{Sent}
+use Rattle.buslink.specs.declared.marks.Outcome.{Outcome}
+use Rattle.buslink.specs.Marks.{IsBroken, outcome_of}
+use Rattle.buslink.specs.Attempts.{Attempt, IsAttempt, IsReport, all_marks, all_sent, last_mark}
 use Rattle.buslink.specs.declared.faults.Fault.{Fault}
 use Rattle.buslink.specs.BusLog.{BusLog, after_send, mark_of_send, with_spare}
 use Rattle.buslink.specs.Performing.{failures_after}

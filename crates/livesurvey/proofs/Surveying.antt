@@ -4,7 +4,7 @@ use Rattle.std.proofs.Common.{append_assoc, inl, inr, subst, arith}
 use Rattle.std.proofs.lemmas.List.{append-nil}
 use Rattle.gearcmd.specs.declared.requests.Command.{Command}
 use Rattle.gearcmd.specs.declared.requests.Command.TheVariants.{GearAsk}
-use Rattle.transact.specs.declared.marks.Outcome.{Outcome}
+use Rattle.buslink.specs.declared.marks.Outcome.{Outcome}
 use Rattle.buslink.specs.BusLog.{BusLog}
 use Rattle.livesurvey.specs.declared.asking.Asked.{Asked}
 use Rattle.livesurvey.specs.Asking.{AreAnswered}

@@ -5,8 +5,8 @@ use Rattle.gearcmd.specs.declared.requests.Command.{Command}
 use Rattle.gearcmd.specs.declared.requests.TaskKind.TheVariants.{Event}
 use Rattle.gearcmd.specs.FrameLists.{FrameList}
 use Rattle.gearcmd.specs.Requests.{frames_of, class_of}
-use Rattle.transact.specs.declared.marks.Outcome.TheVariants as outcome
-use Rattle.transact.specs.Attempts.{ReportParts, IsReportParts}
+use Rattle.buslink.specs.declared.marks.Outcome.TheVariants as outcome
+use Rattle.buslink.specs.Attempts.{ReportParts, IsReportParts}
 use Rattle.buslink.specs.BusLog.{BusLog, with_spare}
 use Rattle.buslink.specs.Performing.{after_report}
 use Rattle.livesurvey.specs.declared.asking.AskFault.{AskFault}

@@ -3,9 +3,9 @@ use Rattle.std.specs.Prelude.{◌≡◌, ℕ, ◌<◌, ◌++◌, List, [], ◌�
 use Rattle.daliframe.specs.declared.addressing.Address.TheVariants.{Short}
 use Rattle.gearcmd.specs.declared.requests.Command.{Command}
 use Rattle.gearcmd.specs.declared.requests.Command.TheVariants.{GearAsk, GearDo, GearLevel}
-use Rattle.transact.specs.declared.marks.Outcome.{Outcome}
-use Rattle.transact.specs.declared.marks.Outcome.TheVariants.{Done}
-use Rattle.transact.specs.declared.marks.Reply.TheVariants.{Answer}
+use Rattle.buslink.specs.declared.marks.Outcome.{Outcome}
+use Rattle.buslink.specs.declared.marks.Outcome.TheVariants.{Done}
+use Rattle.buslink.specs.declared.marks.Reply.TheVariants.{Answer}
 use Rattle.buslink.specs.BusLog.{BusLog}
 use Rattle.livesurvey.specs.declared.asking.AskFault.{AskFault}
 use Rattle.livesurvey.specs.declared.asking.Asked.{Asked}

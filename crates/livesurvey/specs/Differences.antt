@@ -11,9 +11,9 @@ use Rattle.daliframe.specs.declared.schemes.EventScheme.{EventScheme}
 use Rattle.daliframe.specs.declared.schemes.EventScheme.TheVariants as schemes
 use Rattle.gearcmd.specs.declared.requests.Command.{Command}
 use Rattle.gearcmd.specs.declared.requests.Command.TheVariants.{GearAsk, DevAsk}
-use Rattle.transact.specs.declared.marks.Outcome.{Outcome}
-use Rattle.transact.specs.declared.marks.Outcome.TheVariants.{Done}
-use Rattle.transact.specs.declared.marks.Reply.TheVariants.{Answer}
+use Rattle.buslink.specs.declared.marks.Outcome.{Outcome}
+use Rattle.buslink.specs.declared.marks.Outcome.TheVariants.{Done}
+use Rattle.buslink.specs.declared.marks.Reply.TheVariants.{Answer}
 use Rattle.iltypes.specs.declared.value.Value.{Value}
 use Rattle.iltypes.specs.declared.value.Value.TheVariants.{Int}
 use Rattle.ilplan.specs.declared.global.Global.{Global as GlobalVariable}

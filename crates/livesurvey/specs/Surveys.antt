@@ -5,9 +5,9 @@ use Rattle.std.specs.Prelude.{nat_le, MatchBool, Some, slice_get}
 use Rattle.std.specs.List.{AllWithin}
 use Rattle.gearcmd.specs.declared.requests.Command.{Command}
 use Rattle.gearcmd.specs.declared.requests.Command.TheVariants.{GearAsk, DevAsk}
-use Rattle.transact.specs.declared.marks.Outcome.{Outcome}
-use Rattle.transact.specs.declared.marks.Outcome.TheVariants.{Done, GaveUp, Failed}
-use Rattle.transact.specs.declared.marks.Reply.TheVariants.{Quiet, Answer, Damaged, Lost}
+use Rattle.buslink.specs.declared.marks.Outcome.{Outcome}
+use Rattle.buslink.specs.declared.marks.Outcome.TheVariants.{Done, GaveUp, Failed}
+use Rattle.buslink.specs.declared.marks.Reply.TheVariants.{Quiet, Answer, Damaged, Lost}
 use Rattle.buslink.specs.BusLog.{BusLog}
 use Rattle.livesurvey.specs.declared.asking.Asked.{Asked}
 use Rattle.livesurvey.specs.Asking.{AreAnswered}

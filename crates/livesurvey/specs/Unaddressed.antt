@@ -5,9 +5,9 @@ use Rattle.daliframe.specs.declared.forward.Frame.TheVariants.{Forward16}
 use Rattle.daliframe.specs.declared.addressing.Address.TheVariants.{Broadcast}
 use Rattle.daliframe.specs.Frames.{command_frame}
 use Rattle.gearcmd.specs.FrameLists.{FrameList}
-use Rattle.transact.specs.declared.marks.Outcome.{Outcome}
-use Rattle.transact.specs.declared.marks.Outcome.TheVariants as ended
-use Rattle.transact.specs.Attempts.{ReportParts}
+use Rattle.buslink.specs.declared.marks.Outcome.{Outcome}
+use Rattle.buslink.specs.declared.marks.Outcome.TheVariants as ended
+use Rattle.buslink.specs.Attempts.{ReportParts}
 use Rattle.buslink.specs.BusLog.{BusLog, with_spare}
 use Rattle.livesurvey.specs.declared.asking.AskFault.{AskFault}
 use Rattle.livesurvey.specs.declared.asking.AskFault.TheVariants.{Memory, Failed}

@@ -1,10 +1,10 @@
 -- What trying the query to all does to a bus: one attempt after another.
 use Rattle.std.specs.Prelude.{◌≡◌, ℕ, List, ◌++◌, Result, Ok, Err}
-use Rattle.transact.specs.declared.marks.Mark.{Mark}
-use Rattle.transact.specs.declared.marks.Outcome.{Outcome}
-use Rattle.transact.specs.declared.marks.Outcome.TheVariants as ended
-use Rattle.transact.specs.Marks.{outcome_of}
-use Rattle.transact.specs.Attempts.{Attempt, IsReport, all_sent, last_mark}
+use Rattle.buslink.specs.declared.marks.Mark.{Mark}
+use Rattle.buslink.specs.declared.marks.Outcome.{Outcome}
+use Rattle.buslink.specs.declared.marks.Outcome.TheVariants as ended
+use Rattle.buslink.specs.Marks.{outcome_of}
+use Rattle.buslink.specs.Attempts.{Attempt, IsReport, all_sent, last_mark}
 use Rattle.buslink.specs.BusLog.{BusLog}
 use Rattle.buslink.specs.PerformingSteps.{failures_with}
 use Rattle.livesurvey.specs.declared.asking.AskFault.{AskFault}

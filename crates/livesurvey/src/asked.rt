@@ -7,8 +7,8 @@ ghost use Rattle.livesurvey.specs.Differences.{outcome_of};
 
 use crate::asking::Asked;
 use crate::surveys::is_answer;
+use buslink::{Outcome, Reply};
 use gearcmd::Command;
-use transact::{Outcome, Reply};
 
 /// Whether something answered a question.
 pub(crate) fn is_answered(asked: &[Asked], question: Command) -> bool

@@ -1,16 +1,15 @@
 //! A command at one bus, and what it is answered.
 
 ghost use Rattle.std.specs.Prelude.{◌≡◌, ◌≤◌, ◌↔◌, Err, IsTrue, MatchResult};
-ghost use Rattle.transact.specs.Attempts.{most_sent};
+ghost use Rattle.buslink.specs.Attempts.{most_sent};
 ghost use Rattle.livesurvey.specs.Asking.{IsAnswered, IsUnanswered};
 
-use buslink::{Bus, perform};
+use buslink::{Bus, MOST_SENT, Outcome, Report, Transaction, perform};
 use daliframe::BusNumber;
 use gearcmd::{Command, Request, TaskKind};
 use limits::USUAL_TRIES;
 use std::alloc::AllocError;
 use std::fmt;
-use transact::{MOST_SENT, Outcome, Report, Transaction};
 
 /// Why a command was not answered.
 #[derive(Clone, Copy, PartialEq, Eq, Debug)]

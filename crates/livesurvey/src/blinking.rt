@@ -9,12 +9,11 @@ ghost use Rattle.livesurvey.specs.Surveys.{AreParts};
 use crate::asking::{AskFault, ask};
 use crate::surveys::query;
 use crate::tables::STATUS;
-use buslink::Bus;
+use buslink::{Bus, Outcome, Reply};
 use daliframe::{Address, ShortAddress};
 use gearcmd::{Command, GearDoCommand};
 use std::thread;
 use std::time::{Clock as Timer, Duration};
-use transact::{Outcome, Reply};
 
 /// QUERY ACTUAL LEVEL among the queries of GEAR_ASK.
 pub(crate) const ACTUAL_LEVEL: u8 = 16;

@@ -10,13 +10,13 @@ use crate::tables::{
     DEVICE_TYPE, EVENT_SCHEME, FADE_TIME, INSTANCE_TYPE, MAX_LEVEL, MIN_LEVEL, POWER_ON_LEVEL,
     PRESENT, STATUS, answer_in, groups_of, scene_level,
 };
+use buslink::Outcome;
 use daliframe::{EventScheme, InstanceNumber, ShortAddress};
 use daliwords::SchemeWords;
 use gearcmd::Command;
 use std::alloc::Global;
 use std::io::Write;
 use std::{fmt, io};
-use transact::Outcome;
 
 /// The fade times by their numbers, in milliseconds (IEC 62386-102, clause 9).
 const FADE_MILLIS: &[u32] = &[

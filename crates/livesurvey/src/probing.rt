@@ -7,10 +7,9 @@ use crate::asking::AskFault;
 use crate::surveys::{Survey, make_survey};
 use crate::tables::Table;
 use crate::unaddressed::ask_unaddressed;
-use buslink::Bus;
+use buslink::{Bus, Outcome};
 use std::alloc::Global;
 use std::io::Write;
-use transact::Outcome;
 
 /// What was found on a bus.
 #[derive(Drop)]

@@ -1,7 +1,7 @@
 //! The commands at one line: what they do, and what they print.
 
 ghost use Rattle.std.specs.Prelude.{◌≡◌, ◌≤◌, IfOk, OnOk, Ok};
-ghost use Rattle.transact.specs.Attempts.{most_sent};
+ghost use Rattle.buslink.specs.Attempts.{most_sent};
 ghost use Rattle.livesurvey.specs.Asking.{HasAsked};
 ghost use Rattle.livesurvey.specs.Blinking.{HasBlinked};
 ghost use Rattle.livesurvey.specs.Listening.{SendsNothing};
@@ -20,7 +20,7 @@ use crate::probing::{Probed, probe};
 use crate::surveys::is_answer;
 use crate::tables::{Table, answer_in};
 use bitflags::Flags;
-use buslink::Bus;
+use buslink::{Bus, Outcome, Reply, Report};
 use daliframe::{BusNumber, Frame, ShortAddress};
 use daliwords::{FrameWords, OutcomeWords, RequestWords, StatusWords};
 use gearcmd::{Command, Request, Status};
@@ -29,7 +29,6 @@ use std::alloc::Global;
 use std::io;
 use std::io::Write;
 use std::time::Clock as Timer;
-use transact::{Outcome, Reply, Report};
 use wordlines::Binding;
 
 /// How a command at one line was served.

@@ -11,13 +11,12 @@ ghost use Rattle.livesurvey.specs.Surveys.{is_answer, is_surveyed};
 
 use crate::asking::{AskFault, Asked, ask};
 use crate::tables::Table;
-use buslink::Bus;
+use buslink::{Bus, Outcome, Reply};
 use daliframe::{InstanceNumber, ShortAddress};
 use gearcmd::{Command, DevAskCommand, GearAskCommand};
 use std::alloc::Global;
 use std::io::Write;
 use std::marker::Model;
-use transact::{Outcome, Reply};
 
 /// What was asked on a bus, in order, and how each question ended.
 #[derive(Drop)]

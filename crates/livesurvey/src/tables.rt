@@ -6,12 +6,12 @@ use crate::asking::Asked;
 use crate::blinking::ACTUAL_LEVEL;
 use crate::surveys::{instance_query, is_answer, outcome_in, query};
 use bitflags::Flags;
+use buslink::{Outcome, Reply};
 use daliframe::{EventScheme, InstanceNumber, ShortAddress};
 use daliwords::{SchemeWords, StatusWords};
 use gearcmd::Status;
 use std::io::Write;
 use std::{fmt, io};
-use transact::{Outcome, Reply};
 
 // The queries of GEAR_ASK.
 pub(crate) const STATUS: u8 = 0;

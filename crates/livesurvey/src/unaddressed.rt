@@ -7,10 +7,9 @@ ghost use Rattle.livesurvey.specs.Unaddressed.{missing_frame};
 ghost use Rattle.livesurvey.specs.UnaddressedSteps.{EndsAs, IsTriedAlone};
 
 use crate::asking::AskFault;
-use buslink::{Bus, Fault};
+use buslink::{Bus, Fault, MOST_SENT, Mark, Outcome, Reply};
 use daliframe::{Address, Frame, Frame16};
 use limits::USUAL_TRIES;
-use transact::{MOST_SENT, Mark, Outcome, Reply};
 
 /// QUERY MISSING SHORT ADDRESS (IEC 62386-102, clause 11).
 const QUERY_MISSING_SHORT_ADDRESS: u8 = 0x96;

@@ -5,8 +5,8 @@ use Rattle.std.specs.Prelude.{if◌then◌else◌, List, ◌∷◌}
 use Rattle.std.specs.Option.{option_and_then}
 use Rattle.gearcmd.specs.declared.requests.Answerer.{Answerer}
 use Rattle.gearcmd.specs.declared.requests.Answerer.TheVariants.{Gear, Instance}
-use Rattle.transact.specs.declared.marks.Outcome.{Outcome}
-use Rattle.transact.specs.Attempts.{ReportParts}
+use Rattle.buslink.specs.declared.marks.Outcome.{Outcome}
+use Rattle.buslink.specs.Attempts.{ReportParts}
 use Rattle.ilplan.specs.declared.global.Global.{Global as GlobalVariable}
 use Rattle.ilplan.specs.Plans.{Planned}
 use Rattle.ilimage.specs.Images.{ProcessImage, ImageVariable, Global, Own, layout_of, value_of, blocks_of}

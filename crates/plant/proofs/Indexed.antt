@@ -13,7 +13,7 @@ use Rattle.wordlines.specs.Wirings.{IsAt, IsWithinLimits, Wiring}
 use Rattle.wordlines.specs.declared.sources.BoundSource.{BoundSource}
 use Rattle.gearcmd.specs.declared.requests.Answerer.{Answerer}
 use Rattle.gearcmd.specs.declared.requests.Answerer.TheVariants.{Gear, Instance}
-use Rattle.transact.specs.declared.marks.Outcome.{Outcome}
+use Rattle.buslink.specs.declared.marks.Outcome.{Outcome}
 use Rattle.ilplan.specs.declared.global.Location.{Location}
 use Rattle.ilplan.specs.declared.global.Location.TheVariants.{Level, GearAnswer, DeviceAnswer, Information, Count, Trigger}
 use Rattle.ilplan.specs.declared.activation.Activation.{Activation}

@@ -4,7 +4,7 @@ use Rattle.std.proofs.Common.{length, Option, Some, None, refl, sym, ap, ◌∙�
 use Rattle.std.proofs.lemmas.Bool.{eq-eqb, ne_eqb}
 use Rattle.std.specs.Prelude.{if◌then◌else◌}
 use Rattle.gearcmd.specs.FrameLists.{FrameList, most_frames}
-use Rattle.transact.specs.Attempts.{ReportParts, IsReportParts}
+use Rattle.buslink.specs.Attempts.{ReportParts, IsReportParts}
 use Rattle.ilimage.specs.Images.{ProcessImage}
 use Rattle.plantevents.specs.declared.event.Event.{Event}
 use Rattle.plantevents.specs.declared.event.Event.TheVariants.{Tick, Heard, Take, Commit, Hand, Done, Down, Up}

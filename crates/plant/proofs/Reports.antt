@@ -13,10 +13,10 @@ use Rattle.gearcmd.specs.declared.requests.Command.TheVariants.{GearRead, DevDo,
 use Rattle.gearcmd.specs.FrameLists.{FrameList, most_frames}
 use Rattle.gearcmd.specs.Requests.{frames_of}
 use Rattle.ilblocks.specs.Calls.{address_of}
-use Rattle.transact.specs.declared.marks.Mark.{Mark}
-use Rattle.transact.specs.declared.marks.Sent.{Sent}
-use Rattle.transact.specs.Attempts.{Attempt, IsReport, ReportParts, IsReportParts, marks_of, sent_with, all_sent}
-use Rattle.transact.specs.Attempts.{most_sent}
+use Rattle.buslink.specs.declared.marks.Mark.{Mark}
+use Rattle.buslink.specs.declared.marks.Sent.{Sent}
+use Rattle.buslink.specs.Attempts.{Attempt, IsReport, ReportParts, IsReportParts, marks_of, sent_with, all_sent}
+use Rattle.buslink.specs.Attempts.{most_sent}
 use Rattle.plantevents.specs.declared.event.Event.{Event}
 use Rattle.plantevents.specs.declared.event.Event.TheVariants.{Tick, Heard, Take, Commit, Hand, Done, Down, Up}
 use Rattle.plantevents.specs.Plants.{Plant}

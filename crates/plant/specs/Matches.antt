@@ -1,7 +1,7 @@
 -- What is open at a worker and at a bus, and so what may end there (profile).
 use Rattle.std.specs.Prelude.{◌≡◌, ℕ, ◌<◌, Some}
 use Rattle.gearcmd.specs.FrameLists.{FrameList}
-use Rattle.transact.specs.Attempts.{ReportParts}
+use Rattle.buslink.specs.Attempts.{ReportParts}
 use Rattle.plantevents.specs.Scans.{Scan}
 use Rattle.plantevents.specs.Histories as histories
 use Rattle.plantevents.specs.Histories.{OpenScan, OpenHand}

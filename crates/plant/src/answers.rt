@@ -7,11 +7,11 @@ ghost use Rattle.plantbuses.specs.AnswerSteps.{answer_at};
 ghost use Rattle.plant.specs.IndexSteps.{AreInputsOf};
 
 use crate::inputs::give;
+use buslink::Outcome;
 use ilimage::Image;
 use ilplan::Plan;
 use plantbuses::answer_to;
 use plantevents::Origin;
-use transact::Outcome;
 
 /// Writes the answer that a transaction, which was made of this and sent on a bus, brought to the
 /// input that is located there, if one is. It takes no memory.

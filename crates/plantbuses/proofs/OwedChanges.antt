@@ -11,8 +11,8 @@ use Rattle.gearcmd.specs.declared.requests.Answerer.{Answerer}
 use Rattle.gearcmd.specs.declared.requests.Answerer.TheVariants.{Gear, Instance}
 use Rattle.gearcmd.specs.declared.requests.Request.{Request}
 use Rattle.gearcmd.specs.FrameLists.{FrameList}
-use Rattle.transact.specs.declared.marks.Outcome.{Outcome}
-use Rattle.transact.specs.Attempts.{ReportParts}
+use Rattle.buslink.specs.declared.marks.Outcome.{Outcome}
+use Rattle.buslink.specs.Attempts.{ReportParts}
 use Rattle.busqueue.specs.declared.class.Class.{Class}
 use Rattle.busqueue.specs.Queues.{class_number}
 use Rattle.ilplan.specs.declared.global.Global.{Global as GlobalVariable}

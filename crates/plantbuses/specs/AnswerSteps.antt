@@ -4,7 +4,7 @@ use Rattle.iltypes.specs.declared.value.IlType.{IlType}
 use Rattle.iltypes.specs.declared.value.Value.{Value}
 use Rattle.iltypes.specs.Values.{IsOf}
 use Rattle.gearcmd.specs.declared.requests.Answerer.{Answerer}
-use Rattle.transact.specs.declared.marks.Outcome.{Outcome}
+use Rattle.buslink.specs.declared.marks.Outcome.{Outcome}
 use Rattle.ilplan.specs.declared.global.Location.{Location}
 use Rattle.ilplan.specs.Plans.{Planned, HasUpTo, Suits}
 use Rattle.ilimage.specs.Images.{ImageVariable, Global, Own}

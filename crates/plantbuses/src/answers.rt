@@ -8,11 +8,11 @@ ghost use Rattle.plantevents.specs.Variables.{reply_value, outcome_value, answer
 ghost use Rattle.plantevents.specs.Variables.{is_answer_of};
 ghost use Rattle.plantbuses.specs.AnswerSteps.{FitsAnswers, IsWrittenAs, answer_write, answer_at};
 
+use buslink::{Outcome, Reply};
 use gearcmd::Answerer;
 use ilplan::{Location, Plan};
 use iltypes::Value;
 use plantevents::Origin;
-use transact::{Outcome, Reply};
 
 /// The value at an answer's input where no answer came, which is NO to a query.
 const NO_ANSWER: i64 = 256;

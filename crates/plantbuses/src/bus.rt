@@ -13,11 +13,11 @@ ghost use Rattle.plantbuses.specs.OfferSteps.{waiting_in, dropped_in};
 
 use crate::next::{Next, transaction_of};
 use crate::outputs::LEVELS;
+use buslink::{Report, Transaction};
 use busqueue::Queues;
 use plantevents::Origin;
 use std::alloc::{AllocError, Global};
 use std::marker::Model;
-use transact::{Report, Transaction};
 
 /// A transaction that a bus has open.
 #[derive(Drop)]

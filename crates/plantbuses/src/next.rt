@@ -5,12 +5,12 @@ ghost use Rattle.gearcmd.specs.FrameLists.{IsLegal};
 ghost use Rattle.plantbuses.specs.HandingSteps.{IsOfClass, IsLevel, transaction_by, first_by};
 ghost use Rattle.plantevents.specs.Variables.{whole};
 
+use buslink::Transaction;
 use busqueue::Class;
 use daliframe::Address;
 use gearcmd::Request;
 use iltypes::Value;
 use plantevents::Origin;
-use transact::Transaction;
 
 /// What is handed out next.
 #[derive(Clone, Copy)]

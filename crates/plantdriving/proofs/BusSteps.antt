@@ -10,9 +10,9 @@ use Rattle.buslink.specs.BusLog.{BusLog, HasHeardAll, IsSameBus, one_more, one_m
 use Rattle.buslink.specs.declared.faults.Fault.{Fault}
 use Rattle.buslink.specs.Performing.{after_report, failures_after}
 use Rattle.gearcmd.specs.FrameLists.{FrameList}
-use Rattle.transact.specs.Attempts.{ReportParts}
-use Rattle.transact.specs.declared.marks.Outcome.{Outcome}
-use Rattle.transact.specs.declared.marks.Outcome.TheVariants as outcome
+use Rattle.buslink.specs.Attempts.{ReportParts}
+use Rattle.buslink.specs.declared.marks.Outcome.{Outcome}
+use Rattle.buslink.specs.declared.marks.Outcome.TheVariants as outcome
 use Rattle.plantevents.specs.declared.event.Event.{Event}
 use Rattle.plantevents.specs.declared.event.Event.TheVariants.{Heard, Hand, Done, Down}
 use Rattle.plantevents.specs.declared.event.Origin.{Origin}

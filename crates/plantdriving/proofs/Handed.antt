@@ -7,9 +7,9 @@ use Rattle.std.proofs.lemmas.Bool.{lt-ltb}
 use Rattle.buslink.specs.BusLog.{BusLog, with_spare}
 use Rattle.buslink.specs.Performing.{after_report}
 use Rattle.gearcmd.specs.FrameLists.{FrameList}
-use Rattle.transact.specs.Attempts.{ReportParts}
-use Rattle.transact.specs.declared.marks.Outcome.{Outcome}
-use Rattle.transact.specs.declared.marks.Outcome.TheVariants as outcome
+use Rattle.buslink.specs.Attempts.{ReportParts}
+use Rattle.buslink.specs.declared.marks.Outcome.{Outcome}
+use Rattle.buslink.specs.declared.marks.Outcome.TheVariants as outcome
 use Rattle.plantevents.specs.declared.event.Event.TheVariants.{Hand, Done, Down}
 use Rattle.plantevents.specs.declared.event.Origin.{Origin}
 use Rattle.plantevents.specs.Histories.{hand, is_down}

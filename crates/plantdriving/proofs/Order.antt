@@ -9,8 +9,8 @@ use Rattle.buslink.specs.BusLog.{BusLog}
 use Rattle.gearcmd.specs.FrameLists.{FrameList}
 use Rattle.plantevents.specs.Snapshots.{ScanStart}
 use Rattle.plantevents.specs.Scans.{Scan}
-use Rattle.transact.specs.Attempts.{ReportParts}
-use Rattle.transact.specs.declared.marks.Outcome.TheVariants as outcome
+use Rattle.buslink.specs.Attempts.{ReportParts}
+use Rattle.buslink.specs.declared.marks.Outcome.TheVariants as outcome
 use Rattle.plantevents.specs.declared.event.Event.{Event}
 use Rattle.plantevents.specs.declared.event.Event.TheVariants.{Heard, Take, Commit, Hand, Done, Down}
 use Rattle.plantevents.specs.declared.event.Origin.{Origin}

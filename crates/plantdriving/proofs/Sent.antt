@@ -4,8 +4,8 @@ use Rattle.std.specs.Prelude.{MatchResult, None, Result, Ok, Err, ⊤}
 use Rattle.buslink.specs.BusLog.{BusLog, with_spare}
 use Rattle.buslink.specs.Performing.{after_report}
 use Rattle.gearcmd.specs.FrameLists.{FrameList}
-use Rattle.transact.specs.Attempts.{ReportParts, IsReportParts}
-use Rattle.transact.specs.declared.marks.Outcome.TheVariants as outcome
+use Rattle.buslink.specs.Attempts.{ReportParts, IsReportParts}
+use Rattle.buslink.specs.declared.marks.Outcome.TheVariants as outcome
 use Rattle.plantevents.specs.declared.event.Event.{Event}
 use Rattle.plantevents.specs.declared.event.Event.TheVariants.{Hand, Done, Down}
 use Rattle.plantevents.specs.declared.event.Origin.{Origin}

@@ -5,9 +5,9 @@ use Rattle.buslink.specs.BusLog.{BusLog, IsSameBus}
 use Rattle.plantevents.specs.declared.event.Event.{Event}
 use Rattle.plantevents.specs.declared.event.Event.TheVariants.{Heard, Down}
 use Rattle.plantevents.specs.Histories.{sent_in, heard_in, downs_in, ups_in, given_in}
-use Rattle.transact.specs.Attempts.{ReportParts}
-use Rattle.transact.specs.declared.marks.Outcome.{Outcome}
-use Rattle.transact.specs.declared.marks.Outcome.TheVariants as outcome
+use Rattle.buslink.specs.Attempts.{ReportParts}
+use Rattle.buslink.specs.declared.marks.Outcome.{Outcome}
+use Rattle.buslink.specs.declared.marks.Outcome.TheVariants as outcome
 use Rattle.plant.specs.declared.refusal.CallRefusal.TheVariants.{NothingReady, BusDown}
 use Rattle.plant.specs.Shown.{Shown}
 use Rattle.plantdriving.specs.declared.halt.Halt.{Halt}

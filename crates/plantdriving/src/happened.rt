@@ -1,8 +1,8 @@
 //! What happens at a plant, as whoever looks on is told of it.
 
+use buslink::{Report, Transaction};
 use daliframe::Frame24;
 use plantevents::Origin;
-use transact::{Report, Transaction};
 
 /// An event of a plant's history.
 #[derive(Drop)]

@@ -4,9 +4,9 @@ ghost use Rattle.std.specs.Prelude.{◌≡◌};
 ghost use Rattle.plantdriving.specs.Tellings.{noted};
 
 use crate::Happened;
+use buslink::Report;
 use plant::Plant;
 use std::io;
-use transact::Report;
 
 /// Whoever is told what happens at a plant: each event with its place in the history, from 0. The
 /// places order what is told; where several threads drive a plant, each tells what it did itself,

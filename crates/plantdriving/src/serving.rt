@@ -1,8 +1,8 @@
 //! What is sent and heard on a bus.
 
 ghost use Rattle.std.specs.Prelude.{◌≡◌, ◌≢◌, ◌+◌, ◌<◌, ◌≤◌, IfErr, OnOk, length};
-ghost use Rattle.transact.specs.Attempts.{most_sent};
-ghost use Rattle.transact.specs.declared.marks.Outcome.TheVariants as outcomes;
+ghost use Rattle.buslink.specs.Attempts.{most_sent};
+ghost use Rattle.buslink.specs.declared.marks.Outcome.TheVariants as outcomes;
 ghost use Rattle.plantevents.specs.declared.event.Event.TheVariants.{Done, Down};
 ghost use Rattle.plantevents.specs.Legal.{IsUp};
 ghost use Rattle.plant.specs.Matches.{IsReportOf};
@@ -18,10 +18,9 @@ ghost use Rattle.plantdriving.specs.TurnSteps.{Tells, TellsThese, down_place, re
 ghost use Rattle.plantdriving.specs.declared.happened.Happened.TheVariants as what;
 
 use crate::{Halt, Happened, Observer};
-use buslink::{Bus, perform};
+use buslink::{Bus, MOST_SENT, Outcome, Report, perform};
 use plant::{CallRefusal, Handed, Plant};
 use std::io;
-use transact::{MOST_SENT, Outcome, Report};
 
 /// Notes the report of the transaction that a bus has open, by the attempts of the bus. Where the
 /// interface failed, the bus goes down: at which place of the history.

@@ -2,8 +2,8 @@
 use Rattle.std.proofs.Common.{◌≡◌, inl, inr, ℕ, zero, suc, ◌<◌, true, [], ◌∷◌, length, refl, arith}
 use Rattle.std.specs.Prelude.{slice_get, option_and_then}
 use Rattle.daliframe.specs.declared.addressing.Address.TheVariants.{Short}
-use Rattle.transact.specs.declared.marks.Mark.TheVariants as mark
-use Rattle.transact.specs.Attempts.{IsReportParts}
+use Rattle.buslink.specs.declared.marks.Mark.TheVariants as mark
+use Rattle.buslink.specs.Attempts.{IsReportParts}
 use Rattle.iltypes.specs.Values.{IsOf}
 use Rattle.ilmachine.specs.Images.{variable_in}
 use Rattle.ilmachine.specs.Scans.{IsScan, store_of}

@@ -4,7 +4,7 @@ use Rattle.std.specs.Prelude.{ℕ, ◌+◌, ◌%◌, ◌^◌, ◌==◌, ◌&&◌
 use Rattle.std.specs.Prelude.{Option, Some, None, if◌then◌else◌}
 use Rattle.dalievent.specs.declared.messages.EventSource.{EventSource}
 use Rattle.gearcmd.specs.FrameLists.{FrameList}
-use Rattle.transact.specs.declared.marks.Sent.{Sent}
+use Rattle.buslink.specs.declared.marks.Sent.{Sent}
 use Rattle.ilmachine.specs.Snapshots.{ScanStart}
 use Rattle.plantevents.specs.declared.event.Origin.{Origin}
 use Rattle.plantevents.specs.declared.event.Event.{Event}

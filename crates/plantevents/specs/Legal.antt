@@ -1,7 +1,7 @@
 -- Which histories are legal (IEC 61131-3, 2.7.2, IEC 62386-101, and profile).
 use Rattle.std.specs.Prelude.{◌≡◌, ℕ, ◌<◌, ◌≤◌, true, false, List, [], ◌∷◌, slice_get, Some, None, ⊤}
 use Rattle.gearcmd.specs.FrameLists.{FrameList, IsLegal}
-use Rattle.transact.specs.Attempts.{ReportParts, IsReportParts}
+use Rattle.buslink.specs.Attempts.{ReportParts, IsReportParts}
 use Rattle.ilplan.specs.Plans.{PlannedTask}
 use Rattle.ilplan.specs.PlanMeaning.{plan_scan}
 use Rattle.ilmachine.specs.Snapshots.{ScanStart}

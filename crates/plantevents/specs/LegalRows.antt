@@ -3,10 +3,10 @@
 use Rattle.std.specs.Prelude.{List, [], ◌∷◌, drop, map, false}
 use Rattle.daliframe.specs.declared.forward.Frame.TheVariants.{Forward16}
 use Rattle.gearcmd.specs.FrameLists.{FrameList}
-use Rattle.transact.specs.declared.marks.Mark.TheVariants as mark
-use Rattle.transact.specs.declared.marks.Reply.TheVariants as reply
-use Rattle.transact.specs.declared.marks.Outcome.TheVariants as outcome
-use Rattle.transact.specs.Attempts.{ReportParts}
+use Rattle.buslink.specs.declared.marks.Mark.TheVariants as mark
+use Rattle.buslink.specs.declared.marks.Reply.TheVariants as reply
+use Rattle.buslink.specs.declared.marks.Outcome.TheVariants as outcome
+use Rattle.buslink.specs.Attempts.{ReportParts}
 use Rattle.ilmachine.specs.WordOperand.TheVariants.{Slot}
 use Rattle.ilmachine.specs.Target.TheVariants as variables
 use Rattle.ilmachine.specs.Word.TheVariants.{Load, Store as St}

@@ -15,8 +15,8 @@ use Rattle.gearcmd.specs.declared.requests.Request.{Request}
 use Rattle.gearcmd.specs.declared.requests.Command.{Command}
 use Rattle.gearcmd.specs.declared.requests.Command.TheVariants.{GearLevel, GearRead}
 use Rattle.gearcmd.specs.FrameLists.{FrameList}
-use Rattle.transact.specs.declared.marks.Outcome.{Outcome}
-use Rattle.transact.specs.Attempts.{ReportParts}
+use Rattle.buslink.specs.declared.marks.Outcome.{Outcome}
+use Rattle.buslink.specs.Attempts.{ReportParts}
 use Rattle.ilplan.specs.Instruction.{Instruction}
 use Rattle.ilplan.specs.Instruction.TheVariants as instructions
 use Rattle.ilplan.specs.Line.{Line}

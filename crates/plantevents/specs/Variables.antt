@@ -7,10 +7,10 @@ use Rattle.dalievent.specs.declared.messages.EventSource.{EventSource}
 use Rattle.gearcmd.specs.declared.requests.Answerer.{Answerer}
 use Rattle.gearcmd.specs.declared.requests.Answerer.TheVariants.{Gear, Instance}
 use Rattle.gearcmd.specs.Requests.{answerer_of}
-use Rattle.transact.specs.declared.marks.Reply.{Reply}
-use Rattle.transact.specs.declared.marks.Reply.TheVariants.{Quiet, Answer, Damaged, Lost}
-use Rattle.transact.specs.declared.marks.Outcome as outcomes
-use Rattle.transact.specs.declared.marks.Outcome.TheVariants as outcome
+use Rattle.buslink.specs.declared.marks.Reply.{Reply}
+use Rattle.buslink.specs.declared.marks.Reply.TheVariants.{Quiet, Answer, Damaged, Lost}
+use Rattle.buslink.specs.declared.marks.Outcome as outcomes
+use Rattle.buslink.specs.declared.marks.Outcome.TheVariants as outcome
 use Rattle.ilplan.specs.Calls.{Block}
 use Rattle.ilplan.specs.declared.global.Location.{Location}
 use Rattle.ilplan.specs.declared.global.Location.TheVariants.{GearAnswer, DeviceAnswer, Information, Count, Trigger}

@@ -3,8 +3,8 @@
 ghost use Rattle.std.specs.Prelude.{◌≡◌, true, false, [], ◌∷◌, length, slice_get, Some, None};
 ghost use Rattle.iltypes.specs.declared.value.Value.TheVariants.{Bool as truth};
 ghost use Rattle.daliframe.specs.declared.forward.Frame.TheVariants.{Forward16};
-ghost use Rattle.transact.specs.declared.marks.Reply.TheVariants.{Quiet, Answer, Damaged};
-ghost use Rattle.transact.specs.declared.marks.Outcome.TheVariants.{Done, GaveUp};
+ghost use Rattle.buslink.specs.declared.marks.Reply.TheVariants.{Quiet, Answer, Damaged};
+ghost use Rattle.buslink.specs.declared.marks.Outcome.TheVariants.{Done, GaveUp};
 ghost use Rattle.ilmachine.specs.Images.{Global, Own};
 ghost use Rattle.plantevents.specs.declared.event.Origin.TheVariants.{Queued, Output};
 ghost use Rattle.plantevents.specs.Plants.{activator};

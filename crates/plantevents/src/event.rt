@@ -1,9 +1,9 @@
 //! Events.
 
 use crate::noted::{NotedResult, NotedSnapshot};
+use buslink::{Report, Transaction};
 use daliframe::Frame24;
 use gearcmd::Request;
-use transact::{Report, Transaction};
 
 /// What a transaction was made of.
 #[derive(Clone, Copy)]

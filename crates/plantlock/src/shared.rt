@@ -21,6 +21,7 @@ ghost use Rattle.plantlock.specs.Answers.{ShowsScan, ShowsTransaction};
 ghost use Rattle.plantlock.specs.Tied.{IsFront, IsMet};
 
 use crate::locked_plant::LockedPlant;
+use buslink::Report;
 use daliframe::Frame24;
 use ilmachine::ScanResult;
 use limits::MOST_SEATS;
@@ -29,7 +30,6 @@ use plantreceipts::{LockStart, NotedPart, Share, Shares};
 use planttallies::{Tallies, Tally};
 use std::alloc::{AllocError, Global};
 use std::sync::{Mutex, OnceLock, OnceToken, Wait};
-use transact::Report;
 
 /// The lock round the plant.
 pub struct Shared<'a, J: LockStart, T: Tally, K: Tallies<T>> {

@@ -1,5 +1,6 @@
 //! The lines that are written of what happens.
 
+use buslink::{Outcome, Transaction};
 use daliframe::Frame;
 use daliwords::FramesWords;
 use ilplan::Plan;
@@ -9,7 +10,6 @@ use playwatch::Watch;
 use std::alloc::{AllocError, Global};
 use std::io::Write;
 use std::{fmt, io};
-use transact::{Outcome, Transaction};
 
 /// How the frames of a play are written.
 #[derive(Clone, Copy, PartialEq, Eq, Debug)]

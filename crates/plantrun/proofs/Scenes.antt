@@ -10,7 +10,7 @@ use Rattle.buslink.specs.BusLog.{Arrivals, BusLog, frame_in, frames_in}
 use Rattle.buslink.specs.ClockLog.{ClockLog, HasGivenAll}
 use Rattle.wordlines.specs.declared.statements.Statement.{Statement}
 use Rattle.wordlines.specs.Happenings.{ticks}
-use Rattle.transact.specs.declared.marks.Sent.{Sent}
+use Rattle.buslink.specs.declared.marks.Sent.{Sent}
 use Rattle.simbus.specs.declared.scripts.ScriptedReply.{ScriptedReply}
 use Rattle.simbus.specs.Histories.{Setup}
 use Rattle.simbus.specs.Setups.{arrival_on}

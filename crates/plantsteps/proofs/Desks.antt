@@ -6,8 +6,8 @@ use Rattle.std.proofs.lemmas.Bool.{cases_lt}
 use Rattle.std.proofs.lemmas.List.{get_or_past}
 use Rattle.std.specs.Prelude.{slice_index_or, option_map, Result, Ok, Err, MatchResult, ⊤}
 use Rattle.gearcmd.specs.FrameLists.{FrameList}
-use Rattle.transact.specs.declared.marks.Mark.{Mark}
-use Rattle.transact.specs.Attempts.{IsReport, ReportParts, Spells, SpellsNone}
+use Rattle.buslink.specs.declared.marks.Mark.{Mark}
+use Rattle.buslink.specs.Attempts.{IsReport, ReportParts, Spells, SpellsNone}
 use Rattle.ilmachine.specs.Scans.{Task, Scan}
 use Rattle.plantevents.specs.Plants.{tries_of}
 use Rattle.plantevents.specs.Histories.{scan, hand}

@@ -1,8 +1,8 @@
 -- Steps of a plant, one after another, with their replies (profile).
 use Rattle.std.specs.Prelude.{◌≡◌, ℕ, ◌<◌, List, [], ◌∷◌, ◌++◌, length, reverse, Some, ⊤}
 use Rattle.gearcmd.specs.FrameLists.{FrameList}
-use Rattle.transact.specs.declared.marks.Mark.{Mark}
-use Rattle.transact.specs.Attempts.{ReportParts, Spells, SpellsNone}
+use Rattle.buslink.specs.declared.marks.Mark.{Mark}
+use Rattle.buslink.specs.Attempts.{ReportParts, Spells, SpellsNone}
 use Rattle.ilimage.specs.Snapshots.{ScanStart}
 use Rattle.ilmachine.specs.Scans.{Scan}
 use Rattle.plantevents.specs.declared.event.Event.{Event}

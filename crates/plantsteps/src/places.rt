@@ -1,7 +1,7 @@
 //! What callers of a plant have open: a place for each worker, and one for each bus.
 
 ghost use Rattle.std.specs.Prelude.{◌≡◌, ◌<◌, ◌∷◌, ℕ, List, None, Some, length, IfOk, IfSome, slice_index_or};
-ghost use Rattle.transact.specs.Attempts.{ReportParts};
+ghost use Rattle.buslink.specs.Attempts.{ReportParts};
 ghost use Rattle.ilimage.specs.Snapshots.{ScanStart};
 ghost use Rattle.ilmachine.specs.Scans.{Scan, task_of};
 ghost use Rattle.plantevents.specs.declared.event.Event.{Event};
@@ -10,10 +10,10 @@ ghost use Rattle.plantevents.specs.declared.event.Origin.{Origin};
 ghost use Rattle.plantevents.specs.Plants.{Plant as Made};
 ghost use Rattle.plantsteps.specs.DeskSteps.{AreEmpty, OrdersFollow, SendingsFollow};
 
+use buslink::Transaction;
 use ilmachine::Work;
 use std::alloc::{AllocError, Global};
 use std::marker::Model;
-use transact::Transaction;
 
 /// A transaction of which there is no report yet.
 #[derive(Drop)]

@@ -1,9 +1,9 @@
 //! Steps and their replies.
 
+use buslink::{Mark, Transaction};
 use daliframe::Frame24;
 use plant::{CallError, CallRefusal};
 use plantevents::Origin;
-use transact::{Mark, Transaction};
 
 /// What is asked of a plant.
 #[derive(Drop)]

@@ -2,7 +2,7 @@
 
 ghost use Rattle.std.specs.Prelude.{◌≡◌, IfOk, IfErr, OnOk, MatchOption};
 ghost use Rattle.limits.specs.Limits.{most_total};
-ghost use Rattle.transact.specs.Attempts.{Spells};
+ghost use Rattle.buslink.specs.Attempts.{Spells};
 ghost use Rattle.plant.specs.Matches.{IsReportOf};
 ghost use Rattle.plant.specs.Shown.{opened, IsOpenFault, IsWorkerCount, IsLimit, IsRoomy};
 ghost use Rattle.plantsteps.specs.declared.step.Step.TheVariants as steps;
@@ -12,6 +12,7 @@ use crate::places::{
     Unreported, empty_places, note_order, note_sending, note_sent, sending_at, take_order,
 };
 use crate::step::{Step, StepReply};
+use buslink::{Mark, Report};
 use daliframe::Frame24;
 use ilcompile::Setup;
 use ilmachine::{Work, scan_into};
@@ -19,7 +20,6 @@ use limits::MOST_TOTAL;
 use plant::{CallRefusal, OpenFault, Plant};
 use std::alloc::Global;
 use std::marker::Model;
-use transact::{Mark, Report};
 
 /// A plant that takes steps, with the scan that each worker has open and the transaction that each
 /// bus has.

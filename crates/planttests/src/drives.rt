@@ -2,12 +2,12 @@
 //! and events that wait. The replies were worked by hand from the definitions. The numbers of takes
 //! and hands are the places of their events, as clauses say, and are not compared.
 
+use buslink::Mark;
 use daliframe::Frame24;
 use plant::CallRefusal;
 use plantsteps::{Driven, Step, StepReply, drive_text};
 use std::alloc::{AllocError, Global};
 use std::test::Fail;
-use transact::Mark;
 use wordlines::Binding;
 
 /// A press of the button, instance 2 of the device with short address 5, switches the lamp.

@@ -1,7 +1,7 @@
 -- What turns come to, by their answers.
 use Rattle.std.specs.Prelude.{◌≡◌, ◌≢◌, ◌⊎◌, ℕ, Bool, true, false, Some, List, ◌∷◌, Result, Ok, Err}
-use Rattle.transact.specs.declared.marks.Outcome.TheVariants as outcome
-use Rattle.transact.specs.Attempts.{ReportParts}
+use Rattle.buslink.specs.declared.marks.Outcome.TheVariants as outcome
+use Rattle.buslink.specs.Attempts.{ReportParts}
 use Rattle.buslink.specs.BusLog.{BusLog, after_mend, after_resume, with_spare}
 use Rattle.buslink.specs.Performing.{after_report}
 use Rattle.ilimage.specs.Snapshots.{ScanStart}

@@ -1,8 +1,8 @@
 -- What the steps of a turn come to, and why a turn ends with an error.
 use Rattle.std.specs.Prelude.{◌≡◌, ◌≢◌, ℕ, Some, None, Option, List, Result, Ok, Err, ⊤}
-use Rattle.transact.specs.declared.marks.Outcome.{Outcome}
-use Rattle.transact.specs.declared.marks.Outcome.TheVariants as outcome
-use Rattle.transact.specs.Attempts.{ReportParts}
+use Rattle.buslink.specs.declared.marks.Outcome.{Outcome}
+use Rattle.buslink.specs.declared.marks.Outcome.TheVariants as outcome
+use Rattle.buslink.specs.Attempts.{ReportParts}
 use Rattle.buslink.specs.BusLog.{BusLog}
 use Rattle.plantevents.specs.declared.event.Event.TheVariants.{Down}
 use Rattle.plantevents.specs.Parts.{Placed}

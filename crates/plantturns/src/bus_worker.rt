@@ -1,7 +1,7 @@
 //! A turn of the worker of a bus.
 
 ghost use Rattle.std.specs.Prelude.{◌≡◌, ◌≢◌, ℕ, false, OnOk, IfErr};
-ghost use Rattle.transact.specs.declared.marks.Outcome.TheVariants as outcomes;
+ghost use Rattle.buslink.specs.declared.marks.Outcome.TheVariants as outcomes;
 ghost use Rattle.plantevents.specs.Parts.{shown_down};
 ghost use Rattle.plantevents.specs.declared.event.Event.TheVariants.{Down};
 ghost use Rattle.plantlock.specs.Receipts.{IsNoted, whole};
@@ -13,13 +13,12 @@ ghost use Rattle.plantturns.specs.TurnSteps.{IsDownWhereFailed, IsTold, IsUnaske
 
 use crate::links::Links;
 use crate::turn::Turn;
-use buslink::{Bus, perform};
+use buslink::{Bus, MOST_SENT, Outcome, Report, perform};
 use plantdriving::{Halt, Happened, Observer};
 use plantlock::{CallRefusal, Handed, LockStart, Share, Shared};
 use planttallies::{Tallies, Tally};
 use std::io;
 use std::sync::Wait;
-use transact::{MOST_SENT, Outcome, Report};
 
 /// A bus with its Share.
 #[derive(Drop)]

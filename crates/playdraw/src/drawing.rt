@@ -1,6 +1,7 @@
 //! A picture that is drawn while a scenario is played.
 
 use crate::levels::{Lamp, level_of};
+use buslink::{Outcome, Reply, Report, Transaction};
 use daliframe::{Frame, Frame24};
 use daliwords::{FrameWords, FramesWords};
 use iltypes::Value;
@@ -11,7 +12,6 @@ use playwatch::Watch;
 use simbus::{Scenario, SimBus};
 use std::alloc::{AllocError, Global};
 use std::io;
-use transact::{Outcome, Reply, Report, Transaction};
 use wordlines::BoundSource;
 
 /// A picture that is drawn while a scenario is played. Its columns have the lines of the play.

@@ -1,12 +1,12 @@
 //! What has a level: the rows of lamps, and the levels of control gear.
 
 use crate::Drawing;
+use buslink::{Outcome, Report};
 use daliframe::{Fields16, Frame, ShortAddress};
 use ilplan::{Location, Plan};
 use playpicture::{Kind, Sign};
 use simbus::{Scenario, SimBus, Statement};
 use std::alloc::{AllocError, Global};
-use transact::{Outcome, Report};
 
 /// What has a level: a lamp, a group, or all lamps of a bus.
 #[derive(Clone, Copy, PartialEq, Eq)]

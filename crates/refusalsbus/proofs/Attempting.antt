@@ -3,13 +3,13 @@ use Rattle.std.proofs.Common.{◌≡◌, ◌∙◌, ℕ, zero, suc, ◌+◌, ◌
 use Rattle.std.proofs.Common.{arith, length-append}
 use Rattle.daliframe.specs.declared.forward.Frame.{Frame}
 use Rattle.gearcmd.specs.FrameLists.{FrameList}
-use Rattle.transact.specs.declared.marks.Mark.{Mark}
-use Rattle.transact.specs.declared.marks.Mark.TheVariants.{Quiet, Answer, Damaged, Lost, Failed}
-use Rattle.transact.specs.declared.marks.Reply.{Reply}
-use Rattle.transact.specs.declared.marks.Outcome.TheVariants.{Done, GaveUp}
-use Rattle.transact.specs.Attempts.{Attempt, IsAttempt, IsReport, IsReportParts, ReportParts, all_sent, last_mark}
-use Rattle.transact.specs.Attempts.{marks_of, sent_with}
-use Rattle.transact.specs.Marks.{IsBroken, outcome_of}
+use Rattle.buslink.specs.declared.marks.Mark.{Mark}
+use Rattle.buslink.specs.declared.marks.Mark.TheVariants.{Quiet, Answer, Damaged, Lost, Failed}
+use Rattle.buslink.specs.declared.marks.Reply.{Reply}
+use Rattle.buslink.specs.declared.marks.Outcome.TheVariants.{Done, GaveUp}
+use Rattle.buslink.specs.Attempts.{Attempt, IsAttempt, IsReport, IsReportParts, ReportParts, all_sent, last_mark}
+use Rattle.buslink.specs.Attempts.{marks_of, sent_with}
+use Rattle.buslink.specs.Marks.{IsBroken, outcome_of}
 
 is_lost : (mark : Mark) → outcome_of mark ≡ GaveUp → mark ≡ Lost
 is_lost Quiet up = absurd cc

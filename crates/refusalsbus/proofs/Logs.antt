@@ -2,7 +2,7 @@
 use Rattle.std.proofs.Common.{◌≡◌, ℕ, List, [], ◌∷◌, ◌++◌, ◌&&◌, false, Option, Some, None, Result, Ok, Err, IfOk, IfSome}
 use Rattle.std.proofs.Common.{refl, ap}
 use Rattle.daliframe.specs.declared.forward.Frame.{Frame}
-use Rattle.transact.specs.declared.marks.Reply.{Reply}
+use Rattle.buslink.specs.declared.marks.Reply.{Reply}
 use Rattle.buslink.specs.BusLog.{BusLog, after_hear, after_send, mark_of_send}
 use Rattle.buslink.specs.ClockLog.{ClockLog, after_now}
 use Rattle.buslink.specs.declared.faults.Fault.{Fault}

@@ -1,9 +1,9 @@
 -- What marks of lost frames spell of a transaction.
 use Rattle.std.proofs.Common.{◌≡◌, ℕ, zero, ◌<◌, List, [], ◌∷◌, ◌++◌, length, refl, ap, arith, All, subst, sym}
-use Rattle.transact.specs.declared.marks.Mark.{Mark}
-use Rattle.transact.specs.declared.marks.Mark.TheVariants.{Lost}
-use Rattle.transact.specs.Attempts.{Attempt, IsAttempt, IsReport, all_marks, last_mark}
-use Rattle.transact.specs.Marks.{IsBroken}
+use Rattle.buslink.specs.declared.marks.Mark.{Mark}
+use Rattle.buslink.specs.declared.marks.Mark.TheVariants.{Lost}
+use Rattle.buslink.specs.Attempts.{Attempt, IsAttempt, IsReport, all_marks, last_mark}
+use Rattle.buslink.specs.Marks.{IsBroken}
 
 last_is_lost : (before : List Mark) (final : Mark) → Lost ∷ [] ≡ (before ++ final ∷ []) ++ [] → final ≡ Lost
 last_is_lost [] final e = cc

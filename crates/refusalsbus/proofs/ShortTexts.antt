@@ -4,8 +4,8 @@ use Rattle.std.proofs.Common.{IfOk, false, inl, inr, refl, sym, ap, arith, lengt
 use Rattle.std.specs.Fmt.{decimal}
 use Rattle.std.specs.Io.KnownBytes.{Appends, Consumes}
 use Rattle.std.proofs.KnownBytes.{Appends-trans}
-use Rattle.transact.specs.declared.marks.Reply.{Reply}
-use Rattle.transact.specs.declared.marks.Reply.TheVariants.{Quiet, Answer, Damaged, Lost}
+use Rattle.buslink.specs.declared.marks.Reply.{Reply}
+use Rattle.buslink.specs.declared.marks.Reply.TheVariants.{Quiet, Answer, Damaged, Lost}
 use Rattle.liveline.specs.Exchanges.{IsExchange, LineState}
 use Rattle.liveline.specs.Greetings.{Ends, IsGreeted, ended, ends}
 use Rattle.liveline.specs.Lines.{IsMessage, IsReply, fault_line, greeting, hear_line, line_end}

@@ -8,12 +8,11 @@ ghost use Rattle.liveline.specs.Exchanges.{IsAtMost};
 ghost use Rattle.liveline.specs.Lines.{greeting, line_end, numbered_greeting};
 ghost use Rattle.liveline.specs.Lines.{send_line};
 
-use buslink::{Bus, Clock, Fault};
+use buslink::{Bus, Clock, Fault, Reply};
 use daliframe::{Frame, Frame24};
 use liveline::{Greeted, LineBus, Ungreeted};
 use std::alloc::AllocError;
 use std::io::{Read, Write};
-use transact::Reply;
 
 /// `failed_send_appends_nothing`: a frame at which the interface failed did not count as sent.
 pub fn sent_frame_is_in_the_log<B: Bus>(

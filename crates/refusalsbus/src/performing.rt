@@ -2,10 +2,9 @@
 
 ghost use Rattle.std.specs.Prelude.{◌≡◌, ◌+◌, ◌<◌, ◌≤◌, false, length, true};
 ghost use Rattle.buslink.specs.BusLog.{one_more};
-ghost use Rattle.transact.specs.Attempts.{most_sent};
+ghost use Rattle.buslink.specs.Attempts.{most_sent};
 
-use buslink::{Bus, perform};
-use transact::{Outcome, Reply, Report, Transaction};
+use buslink::{Bus, Outcome, Reply, Report, Transaction, perform};
 
 /// `gave_up_before_the_last_attempt`: on a bus of two attempts a transaction gave up after one.
 pub fn last_attempt_is_made<B: Bus>(bus: &mut B, transaction: &Transaction) -> Report

@@ -2,7 +2,7 @@
 
 ghost use Rattle.std.specs.Prelude.{◌≡◌, [], ◌∷◌, IfSome, Some, false, true};
 ghost use Rattle.refusalsbus.specs.Sendings.{disabling};
-ghost use Rattle.transact.specs.declared.marks.Mark.TheVariants as marks;
+ghost use Rattle.buslink.specs.declared.marks.Mark.TheVariants as marks;
 
 use daliframe::{InstanceNumber, ShortAddress};
 use simbus::{Gear, GearVariables, InputInstance, InstanceVariables, SimBus};

@@ -2,7 +2,7 @@
 
 ghost use Rattle.std.specs.Prelude.{◌≡◌, true};
 
-use transact::{MOST_SENT, Mark, Outcome, Report, Transaction};
+use buslink::{MOST_SENT, Mark, Outcome, Report, Transaction};
 
 /// `lost_last_frame_is_done`: a transaction whose last frame was lost was done.
 pub fn lost_last_frame_gives_up(transaction: &Transaction) -> Outcome

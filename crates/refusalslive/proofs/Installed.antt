@@ -9,13 +9,13 @@ use Rattle.daliframe.specs.declared.forward.Frame.TheVariants.{Forward16}
 use Rattle.gearcmd.specs.declared.requests.Command.{Command}
 use Rattle.gearcmd.specs.declared.requests.Command.TheVariants.{GearAsk}
 use Rattle.gearcmd.specs.FrameLists.{FrameList}
-use Rattle.transact.specs.declared.marks.Mark.{Mark}
-use Rattle.transact.specs.declared.marks.Mark.TheVariants.{Quiet, Answer, Damaged, Lost, Failed}
-use Rattle.transact.specs.declared.marks.Sent.{Sent}
-use Rattle.transact.specs.declared.marks.Outcome.{Outcome}
-use Rattle.transact.specs.declared.marks.Outcome.TheVariants as outcome
-use Rattle.transact.specs.Attempts.{Attempt, IsAttempt, IsReport, ReportParts, all_sent, last_mark, marks_of, sent_with}
-use Rattle.transact.specs.Marks.{outcome_of}
+use Rattle.buslink.specs.declared.marks.Mark.{Mark}
+use Rattle.buslink.specs.declared.marks.Mark.TheVariants.{Quiet, Answer, Damaged, Lost, Failed}
+use Rattle.buslink.specs.declared.marks.Sent.{Sent}
+use Rattle.buslink.specs.declared.marks.Outcome.{Outcome}
+use Rattle.buslink.specs.declared.marks.Outcome.TheVariants as outcome
+use Rattle.buslink.specs.Attempts.{Attempt, IsAttempt, IsReport, ReportParts, all_sent, last_mark, marks_of, sent_with}
+use Rattle.buslink.specs.Marks.{outcome_of}
 use Rattle.buslink.specs.BusLog.{BusLog}
 use Rattle.buslink.specs.Performing.{failures_after}
 use Rattle.livesurvey.specs.declared.asking.AskFault.{AskFault}

@@ -4,9 +4,9 @@ use Rattle.std.proofs.Common.{refl, sym, ap, arith, subst, inl, inr, length-appe
 use Rattle.std.specs.Prelude.{All}
 use Rattle.std.proofs.lemmas.List.Elements.{All-nil, All-cons, All-head, All-tail}
 use Rattle.gearcmd.specs.declared.requests.Command.{Command}
-use Rattle.transact.specs.declared.marks.Outcome.{Outcome}
-use Rattle.transact.specs.declared.marks.Outcome.TheVariants.{Done}
-use Rattle.transact.specs.declared.marks.Reply.TheVariants.{Quiet}
+use Rattle.buslink.specs.declared.marks.Outcome.{Outcome}
+use Rattle.buslink.specs.declared.marks.Outcome.TheVariants.{Done}
+use Rattle.buslink.specs.declared.marks.Reply.TheVariants.{Quiet}
 use Rattle.buslink.specs.BusLog.{BusLog}
 use Rattle.livesurvey.specs.Asking.{AreAnswered}
 use Rattle.livesurvey.specs.declared.asking.AskFault.{AskFault}

@@ -3,7 +3,7 @@
 ghost use Rattle.std.specs.Prelude.{◌≡◌, [], All, IfErr, IfOk, Ok, length};
 ghost use Rattle.std.specs.Prelude.{replicate};
 
-use buslink::Bus;
+use buslink::{Bus, Mark, Outcome, Reply, Report};
 use daliframe::{Address, Frame, ShortAddress};
 use gearcmd::Command;
 use livesurvey::{
@@ -13,7 +13,6 @@ use std::alloc::Global;
 use std::io;
 use std::io::Write;
 use std::time::Clock as Timer;
-use transact::{Mark, Outcome, Reply, Report};
 
 /// `sent_as_a_cyclic_task_does`: a level that a person sends had the priority of a cyclic task.
 pub fn level_of_a_person_has_priority_2<B: Bus>(

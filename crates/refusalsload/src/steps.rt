@@ -3,10 +3,10 @@
 ghost use Rattle.std.specs.Prelude.{◌≡◌};
 ghost use Rattle.plantsteps.specs.Runs.{HasNoReport};
 
+use buslink::Mark;
 use plant::CallRefusal;
 use plantsteps::{Step, StepReply, SteppedPlant};
 use std::alloc::Global;
-use transact::Mark;
 
 /// `report_under_another_number`, `a_report_is_taken_twice`: a report was taken of a transaction
 /// that is not open.

@@ -4,8 +4,8 @@ use Rattle.std.proofs.Common.{OnOk, refl, ap, sym, ◌∙◌, arith, slice_get}
 use Rattle.std.specs.Prelude.{is_some, nat_lt, not}
 use Rattle.buslink.specs.BusLog.{BusLog, one_more}
 use Rattle.buslink.specs.Performing.{failures_after}
-use Rattle.transact.specs.declared.marks.Outcome.{Outcome}
-use Rattle.transact.specs.declared.marks.Outcome.TheVariants.{Done, GaveUp, Failed}
+use Rattle.buslink.specs.declared.marks.Outcome.{Outcome}
+use Rattle.buslink.specs.declared.marks.Outcome.TheVariants.{Done, GaveUp, Failed}
 use Rattle.plantevents.specs.declared.event.Event.{Event}
 use Rattle.plantevents.specs.Histories.{heard_in, heards, is_down, scan, sent_in}
 use Rattle.plant.specs.declared.refusal.CallRefusal.{CallRefusal}

@@ -15,6 +15,7 @@ ghost use Rattle.plantevents.specs.Plants.{location, output_at, storing_kind};
 ghost use Rattle.plantevents.specs.Variables.{answerer_by, value, whole};
 ghost use Rattle.plantevents.specs.Waiting.{handouts};
 
+use buslink::{Outcome, Transaction};
 use busqueue::Class;
 use gearcmd::{Request, TaskKind};
 use ilimage::Image;
@@ -27,7 +28,6 @@ use plantbuses::{
 };
 use plantevents::Origin;
 use std::alloc::{AllocError, Global};
-use transact::{Outcome, Transaction};
 
 /// `answer_filed_under_another_gear`: the answer of gear 63 was written to the input of gear 5.
 pub fn answer_goes_to_its_gear(plan: &Plan, origin: &Origin, outcome: Outcome) -> Option<Value>

@@ -14,7 +14,7 @@ ghost use Rattle.plantevents.specs.declared.event.Event.TheVariants.{Commit, Don
 ghost use Rattle.plantevents.specs.declared.event.Origin.{Origin};
 ghost use Rattle.plantevents.specs.Histories.{is_down, sent_in};
 ghost use Rattle.refusalsplant.specs.Hearings.{IsOfHearing};
-ghost use Rattle.transact.specs.Attempts.{ReportParts};
+ghost use Rattle.buslink.specs.Attempts.{ReportParts};
 
 use buslink::Bus;
 use plant::{CallError, CallRefusal, Order, Plant};

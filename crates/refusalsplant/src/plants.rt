@@ -8,6 +8,7 @@ ghost use Rattle.plantevents.specs.Variables.{value, whole};
 ghost use Rattle.plantevents.specs.Waiting.{waiting};
 ghost use Rattle.plant.specs.Matches.{IsOwnScan};
 
+use buslink::Report;
 use gearcmd::Request;
 use ilcompile::Setup;
 use ilmachine::ScanResult;
@@ -15,7 +16,6 @@ use ilplan::Location;
 use plant::{CallError, CallRefusal, Handed, OpenFault, Order, Plant};
 use plantevents::{Origin, PendingEvent};
 use std::alloc::Global;
-use transact::Report;
 
 /// The newest event's information: a task took the information of the newest message of its source,
 /// which the image has, and not that of its own event.

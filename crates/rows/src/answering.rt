@@ -4,13 +4,12 @@ ghost use Rattle.std.specs.Prelude.{◌≡◌, false};
 ghost use Rattle.livehouse.specs.Sites.{IsNewBus};
 ghost use Rattle.buslink.specs.BusLog.{after_mend};
 
-use buslink::{Bus, Fault};
+use buslink::{Bus, Fault, Reply};
 use daliframe::{BusNumber, Frame, Frame24};
 use liveline::{Greeted, LineBus};
 use std::alloc::AllocError;
 use std::io;
 use std::io::{Cursor, Sink};
-use transact::Reply;
 
 /// A bus whose line answers what a file says, line by line, whatever is asked. It is greeted by the
 /// number 0. Once it has failed it is greeted again, by the next number: it comes back where the

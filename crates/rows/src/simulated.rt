@@ -6,7 +6,7 @@ ghost use Rattle.rows.specs.Lines.{line_log};
 
 use crate::answering::AnsweringLine;
 use crate::disk::RowsDisk;
-use buslink::{Bus, Fault};
+use buslink::{Bus, Fault, Reply};
 use daliframe::{BusNumber, Frame, Frame24};
 use livehouse::{DownWatch, End, Site, SiteFault};
 use options::LineWord;
@@ -14,7 +14,6 @@ use simbus::{BusSetup, SimBus, parse};
 use std::alloc::{AllocError, Global};
 use std::num::NonZeroU64;
 use std::sync::Arc;
-use transact::Reply;
 
 /// The site of a row. A line whose path ends with `.scenario` is the simulated bus of that
 /// scenario, a file of the row, and all that comes on it has come. Any other line gives the answers

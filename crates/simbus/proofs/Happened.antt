@@ -5,7 +5,7 @@ use Rattle.std.proofs.lemmas.List.{append_assoc, reverse-append}
 use Rattle.std.proofs.lemmas.List.Elements.{filter_map-append}
 use Rattle.buslink.specs.declared.arrivals.Arrival.{Arrival}
 use Rattle.buslink.specs.BusLog.{frame_in, frames_in}
-use Rattle.transact.specs.declared.marks.Sent.{Sent}
+use Rattle.buslink.specs.declared.marks.Sent.{Sent}
 use Rattle.simbus.specs.declared.equipment.Equipment.{Equipment}
 use Rattle.simbus.specs.declared.scripts.ScriptedReply.{ScriptedReply}
 use Rattle.simbus.specs.Histories.{Setup}

@@ -11,7 +11,7 @@ use Rattle.daliframe.specs.declared.forward.Frame.TheVariants.{Forward16, Forwar
 use Rattle.daliframe.specs.declared.forward16.Fields16.{Fields16}
 use Rattle.daliframe.specs.declared.forward24.Fields24.{Fields24}
 use Rattle.daliframe.specs.Frames.{HasFields16, HasFields24}
-use Rattle.transact.specs.declared.marks.Sent.{Sent}
+use Rattle.buslink.specs.declared.marks.Sent.{Sent}
 use Rattle.simbus.specs.declared.gears.Gear.{Gear}
 use Rattle.simbus.specs.declared.instances.InputInstance.{InputInstance}
 use Rattle.simbus.specs.declared.gears.MemoryByte.{MemoryByte}

@@ -3,8 +3,8 @@ use Rattle.std.proofs.Common.{◌≡◌, ℕ, zero, suc, ◌≤◌, List, [], �
 use Rattle.std.proofs.Math.Seq.{drop-nil}
 use Rattle.std.specs.Prelude.{Option, Some, None}
 use Rattle.std.specs.List.{filter_map, cons_option}
-use Rattle.transact.specs.declared.marks.Reply.{Reply}
-use Rattle.transact.specs.declared.marks.Reply.TheVariants.{Quiet, Damaged}
+use Rattle.buslink.specs.declared.marks.Reply.{Reply}
+use Rattle.buslink.specs.declared.marks.Reply.TheVariants.{Quiet, Damaged}
 use Rattle.simbus.specs.Answers.{reply_of}
 use Rattle.simbus.specs.Kept.{joined, replies_from}
 

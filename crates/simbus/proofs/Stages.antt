@@ -2,7 +2,7 @@
 use Rattle.std.proofs.Common.{◌≡◌, ℕ, List, Option, None, Some, Ok, Err, refl, sym, ap, ◌∙◌, subst}
 use Rattle.std.specs.Prelude.{Bool, Result}
 use Rattle.daliframe.specs.declared.forward.Frame.{Frame}
-use Rattle.transact.specs.declared.marks.Reply.{Reply}
+use Rattle.buslink.specs.declared.marks.Reply.{Reply}
 use Rattle.buslink.specs.declared.faults.Fault.{Fault}
 use Rattle.buslink.specs.BusLog.{BusLog, after_hear, after_mend, after_resume, after_send, with_spare}
 use Rattle.wordlines.specs.declared.statements.Statement.{Statement}

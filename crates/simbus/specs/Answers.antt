@@ -5,8 +5,8 @@ use Rattle.daliframe.specs.declared.forward.Frame.{Frame}
 use Rattle.daliframe.specs.declared.forward.Frame.TheVariants.{Forward16, Forward24}
 use Rattle.daliframe.specs.declared.forward16.Fields16.{Fields16}
 use Rattle.daliframe.specs.declared.forward16.Fields16.TheVariants as said
-use Rattle.transact.specs.declared.marks.Reply.{Reply}
-use Rattle.transact.specs.declared.marks.Reply.TheVariants as reply
+use Rattle.buslink.specs.declared.marks.Reply.{Reply}
+use Rattle.buslink.specs.declared.marks.Reply.TheVariants as reply
 use Rattle.simbus.specs.declared.commands.Query.{Query}
 use Rattle.simbus.specs.declared.commands.Query.TheVariants as query
 use Rattle.simbus.specs.declared.commands.GearCommand.{GearCommand}

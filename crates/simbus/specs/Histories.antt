@@ -5,10 +5,10 @@ use Rattle.std.specs.Prelude.{List, [], ◌∷◌, ◌++◌}
 use Rattle.std.specs.List.{filter_map}
 use Rattle.daliframe.specs.declared.forward.Frame.{Frame}
 use Rattle.daliframe.specs.declared.forward.Frame.TheVariants.{Forward16, Forward24}
-use Rattle.transact.specs.declared.marks.Mark.{Mark}
-use Rattle.transact.specs.declared.marks.Mark.TheVariants.{Quiet, Answer, Damaged, Lost, Failed}
-use Rattle.transact.specs.declared.marks.Reply.{Reply}
-use Rattle.transact.specs.declared.marks.Sent.{Sent}
+use Rattle.buslink.specs.declared.marks.Mark.{Mark}
+use Rattle.buslink.specs.declared.marks.Mark.TheVariants.{Quiet, Answer, Damaged, Lost, Failed}
+use Rattle.buslink.specs.declared.marks.Reply.{Reply}
+use Rattle.buslink.specs.declared.marks.Sent.{Sent}
 use Rattle.simbus.specs.declared.gears.Gear.{Gear}
 use Rattle.simbus.specs.declared.gears.GearVariables.{GearVariables}
 use Rattle.simbus.specs.declared.gears.MemoryByte.{MemoryByte}

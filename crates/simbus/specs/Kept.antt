@@ -3,9 +3,9 @@ use Rattle.std.specs.Prelude.{◌≡◌, ℕ, Bool, false, Option, Some, None, L
 use Rattle.daliframe.specs.declared.forward.Frame.{Frame}
 use Rattle.daliframe.specs.declared.forward16.Fields16.{Fields16}
 use Rattle.daliframe.specs.declared.forward24.Fields24.{Fields24}
-use Rattle.transact.specs.declared.marks.Reply.{Reply}
-use Rattle.transact.specs.declared.marks.Reply.TheVariants as reply
-use Rattle.transact.specs.declared.marks.Sent.{Sent}
+use Rattle.buslink.specs.declared.marks.Reply.{Reply}
+use Rattle.buslink.specs.declared.marks.Reply.TheVariants as reply
+use Rattle.buslink.specs.declared.marks.Sent.{Sent}
 use Rattle.simbus.specs.declared.gears.Gear.{Gear}
 use Rattle.simbus.specs.declared.gears.MemoryByte.{MemoryByte}
 use Rattle.simbus.specs.declared.instances.InputInstance.{InputInstance}

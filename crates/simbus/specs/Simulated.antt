@@ -2,12 +2,12 @@
 use Rattle.std.specs.Prelude.{◌≡◌, ℕ, ◌+◌, ◌==◌, false, Option, Some, None, option_map, Result, Ok, IsErr, List, [], ⊤}
 use Rattle.std.specs.Prelude.{◌∷◌, length, reverse, find, drop, ◌++◌}
 use Rattle.daliframe.specs.declared.forward.Frame.{Frame}
-use Rattle.transact.specs.declared.marks.Mark.{Mark}
-use Rattle.transact.specs.declared.marks.Mark.TheVariants as mark
-use Rattle.transact.specs.declared.marks.Reply.{Reply}
-use Rattle.transact.specs.declared.marks.Reply.TheVariants as reply
-use Rattle.transact.specs.declared.marks.Sent.{Sent}
-use Rattle.transact.specs.Marks.{mark_of}
+use Rattle.buslink.specs.declared.marks.Mark.{Mark}
+use Rattle.buslink.specs.declared.marks.Mark.TheVariants as mark
+use Rattle.buslink.specs.declared.marks.Reply.{Reply}
+use Rattle.buslink.specs.declared.marks.Reply.TheVariants as reply
+use Rattle.buslink.specs.declared.marks.Sent.{Sent}
+use Rattle.buslink.specs.Marks.{mark_of}
 use Rattle.buslink.specs.declared.arrivals.Arrival.{Arrival}
 use Rattle.buslink.specs.declared.arrivals.Arrival.TheVariants as arrival
 use Rattle.buslink.specs.declared.faults.Fault.{Fault}

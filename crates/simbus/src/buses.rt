@@ -10,13 +10,12 @@ ghost use Rattle.simbus.specs.Simulated.{IsAsSetUp, arrived, all_arrived, due_ma
 use crate::equipment::Equipment;
 use crate::scripts::fate_at;
 use crate::{BusSetup, GearVariables, InstanceVariables, ScriptedReply};
-use buslink::{Arrival, Bus, Fault};
+use buslink::{Arrival, Bus, Fault, Mark, Reply, Sent};
 use daliframe::{BusNumber, Frame, Frame24, InstanceNumber, ShortAddress};
 use ghosts::Trace;
 use std::alloc::{AllocError, Global};
 use std::collections::VecDeque;
 use std::marker::Model;
-use transact::{Mark, Reply, Sent};
 use wordlines::FrameFate;
 
 /// A simulated bus. It never waits: a frame is answered at once, and a call that hears meets what

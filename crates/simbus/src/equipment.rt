@@ -2,7 +2,7 @@
 ghost use Rattle.std.specs.Prelude.{◌≡◌, List, map, IfOk};
 ghost use Rattle.std.specs.List.{filter_map};
 ghost use Rattle.daliframe.specs.Frames.{HasFields16, HasFields24};
-ghost use Rattle.transact.specs.declared.marks.Sent.{Sent};
+ghost use Rattle.buslink.specs.declared.marks.Sent.{Sent};
 ghost use Rattle.simbus.specs.Histories.{same_frame, Setup, answer_of, is_reached, variables_at};
 ghost use Rattle.simbus.specs.Histories.{is_instance, instance_variables_at, IsReachedBy};
 ghost use Rattle.simbus.specs.Histories.{IsMissedBy};
@@ -15,9 +15,9 @@ ghost use Rattle.simbus.specs.Kept.{joined, gear_after_fields, live_instance_aft
 ghost use Rattle.simbus.specs.Kept.{live_answer, live_instance_answer};
 
 use crate::{Gear, GearVariables, InputInstance, InstanceVariables, MemoryByte};
+use buslink::{Mark, Reply};
 use daliframe::{Fields16, Fields24, Frame, InstanceNumber, ShortAddress};
 use std::alloc::{AllocError, Global};
-use transact::{Mark, Reply};
 
 /// Gear with its variables.
 #[derive(Clone, Copy)]

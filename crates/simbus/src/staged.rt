@@ -3,11 +3,10 @@ ghost use Rattle.std.specs.Prelude.{◌≡◌};
 ghost use Rattle.simbus.specs.Staged.{IsOnStage};
 
 use crate::SimBus;
-use buslink::{Bus, Fault};
+use buslink::{Bus, Fault, Reply};
 use daliframe::{Frame, Frame24};
 use std::alloc::AllocError;
 use std::marker::{Brand, Model, PhantomData};
-use transact::Reply;
 
 /// A scenario, for contracts alone.
 pub trait Scene {

@@ -1,7 +1,7 @@
 //! Which events do not concern tasks.
 ghost use Rattle.std.specs.Prelude.{ℕ, ◌∷◌, List};
 ghost use Rattle.gearcmd.specs.FrameLists.{FrameList};
-ghost use Rattle.transact.specs.Attempts.{ReportParts};
+ghost use Rattle.buslink.specs.Attempts.{ReportParts};
 ghost use Rattle.plantevents.specs.declared.event.Origin.{Origin};
 ghost use Rattle.plantevents.specs.declared.event.Event.{Event};
 ghost use Rattle.plantevents.specs.declared.event.Event.TheVariants.{Hand, Done, Down, Up};

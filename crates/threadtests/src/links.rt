@@ -3,12 +3,11 @@ ghost use Rattle.std.specs.Prelude.{◌≤◌, None};
 ghost use Rattle.buslink.specs.BusLog.{with_spare};
 
 use crate::watch::{Until, Watch};
-use buslink::{Bus, Clock, Fault};
+use buslink::{Bus, Clock, Fault, Reply};
 use daliframe::{Frame, Frame24};
 use simbus::{ScriptedClock, SimBus};
 use std::alloc::AllocError;
 use std::time::Clock as Timer;
-use transact::Reply;
 
 /// The turns that a clock rests before each answer for which it needn't wait.
 const REST: u64 = 100;

@@ -4,7 +4,7 @@ use Rattle.std.proofs.Common.{Bool, true, false, All}
 use Rattle.std.proofs.lemmas.List.{append-nil, append_assoc}
 use Rattle.std.proofs.lemmas.List.Elements.{All-head, All-tail}
 use Rattle.std.specs.Prelude.{if◌then◌else◌, ◌==◌}
-use Rattle.transact.specs.declared.marks.Sent.{Sent}
+use Rattle.buslink.specs.declared.marks.Sent.{Sent}
 use Rattle.buslink.specs.BusLog.{BusLog, one_more}
 use Rattle.plantevents.specs.declared.event.Event.{Event}
 use Rattle.plantevents.specs.declared.event.Event.TheVariants.{Tick, Heard, Take, Commit, Hand, Done, Down, Up}

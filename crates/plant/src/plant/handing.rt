@@ -15,12 +15,12 @@ ghost use Rattle.plant.specs.Shown.{grown, is_full};
 
 use super::Plant;
 use crate::refusal::CallRefusal;
+use buslink::Transaction;
 use busqueue::Class;
 use gearcmd::Request;
 use plantbuses::{Next, first_of, note_hand, note_handed, transaction_of};
 use plantevents::{Event, Origin};
 use taskset::other_events_leave_tasks;
-use transact::Transaction;
 
 /// A transaction that was handed to a bus.
 #[derive(Drop)]

@@ -8,10 +8,10 @@ ghost use Rattle.plant.specs.Matches.{IsOpenTransaction, IsReportOf};
 
 use super::Plant;
 use crate::answers::write_answer;
+use buslink::{Report, Transaction};
 use plantbuses::note_report;
 use plantevents::{Event, Origin};
 use taskset::other_events_leave_tasks;
-use transact::{Report, Transaction};
 
 impl Plant {
     /// What the transaction was made of, where it is the one that a bus has open.

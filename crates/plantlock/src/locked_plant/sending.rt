@@ -13,12 +13,12 @@ ghost use Rattle.plantreceipts.specs.Receipts.{IsNoted, whole};
 ghost use Rattle.plantlock.specs.Answers.{Decides, IsNotUp, ShowsTransaction};
 
 use super::LockedPlant;
+use buslink::{Report, Transaction};
 use plant::{CallRefusal, Handed};
 use plantevents::{Event, what_a_part_shows};
 use plantreceipts::{LockStart, Share};
 use planttallies::{Tallies, Tally};
 use std::sync::Wait;
-use transact::{Report, Transaction};
 
 /// The same transaction again.
 fn copy_of(transaction: &Transaction) -> Transaction

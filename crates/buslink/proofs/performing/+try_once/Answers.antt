@@ -1,5 +1,5 @@
 use Rattle.std.proofs.Common.{◌≡◌, ◌⊎◌, ◌-◌, inl, inr, length, take, drop, refl}
-use Rattle.transact.specs.Marks.{IsBroken}
+use Rattle.buslink.specs.Marks.{IsBroken}
 use Rattle.buslink.proofs.Trying.{one_left, once_last, once_more, not_true}
 use Rattle.buslink.proofs.performing.+try_once.Goals as goal
 use Rattle.buslink.proofs.performing.+try_once.Goals.{then-is_broken-via-then-is_broken}

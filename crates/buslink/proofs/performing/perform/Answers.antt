@@ -1,5 +1,5 @@
 use Rattle.std.proofs.Common.{◌-◌, []}
-use Rattle.transact.specs.Attempts.{Spells}
+use Rattle.buslink.specs.Attempts.{Spells}
 use Rattle.buslink.specs.PerformingSteps.{IsTried}
 use Rattle.buslink.proofs.Trying.{SpellOne, performed, spare_kept}
 use Rattle.buslink.proofs.Failures.{failed_where_risen}

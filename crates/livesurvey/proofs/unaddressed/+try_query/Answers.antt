@@ -1,6 +1,6 @@
 use Rattle.std.proofs.Common.{◌≡◌, ◌<◌, ◌↔◌, true, false, refl}
 use Rattle.std.specs.Prelude.{IsTrue}
-use Rattle.transact.specs.declared.marks.Mark.TheVariants.{Lost}
+use Rattle.buslink.specs.declared.marks.Mark.TheVariants.{Lost}
 use Rattle.livesurvey.proofs.Retrying.{none_left, not_true, tried_last, tried_more}
 use Rattle.livesurvey.proofs.unaddressed.+try_query.Goals as goal
 

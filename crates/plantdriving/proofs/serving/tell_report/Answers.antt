@@ -1,5 +1,5 @@
 use Rattle.std.proofs.Common.{◌≡◌, ◌∙◌, ℕ, Option, Some, ap, refl, subst, sym}
-use Rattle.transact.specs.Attempts.{ReportParts}
+use Rattle.buslink.specs.Attempts.{ReportParts}
 use Rattle.plantdriving.specs.Tellings.{noted}
 use Rattle.plantdriving.specs.TurnSteps.{TellsThese, report_told}
 use Rattle.plantdriving.specs.declared.happened.Happened.TheVariants as what

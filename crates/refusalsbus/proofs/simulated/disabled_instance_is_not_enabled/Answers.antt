@@ -1,7 +1,7 @@
 use Rattle.std.proofs.Common.{◌≡◌, ◌∙◌, ℕ, List, [], ◌∷◌, Some, false, refl}
 use Rattle.std.specs.Prelude.{reverse}
-use Rattle.transact.specs.declared.marks.Mark.TheVariants.{Quiet}
-use Rattle.transact.specs.declared.marks.Sent.{Sent}
+use Rattle.buslink.specs.declared.marks.Mark.TheVariants.{Quiet}
+use Rattle.buslink.specs.declared.marks.Sent.{Sent}
 use Rattle.simbus.specs.FrameFields.{device_fields_at}
 use Rattle.simbus.specs.Histories.{Setup, instance_variables_at}
 use Rattle.simbus.specs.Instances.{device_command_of}

@@ -1,5 +1,5 @@
 use Rattle.std.proofs.Common.{length, ap, ◌∙◌}
-use Rattle.transact.specs.Marks.{outcome_of}
+use Rattle.buslink.specs.Marks.{outcome_of}
 use Rattle.refusalsbus.proofs.LostFrames.{one_lost}
 use Rattle.refusalsbus.proofs.transactions.lost_last_frame_gives_up.Goals as goal
 

@@ -2,7 +2,7 @@ use Rattle.std.proofs.Common.{◌≡◌, ap}
 use Rattle.daliframe.specs.declared.addressing.Address.TheVariants.{Short}
 use Rattle.gearcmd.specs.declared.requests.Command.TheVariants.{GearLevel}
 use Rattle.gearcmd.specs.FrameLists.{FrameList}
-use Rattle.transact.specs.Attempts.{ReportParts}
+use Rattle.buslink.specs.Attempts.{ReportParts}
 use Rattle.livesurvey.specs.Asking.{transaction_of}
 use Rattle.refusalslive.proofs.Installed.{answer_is}
 use Rattle.refusalslive.proofs.Results.{if_ok}

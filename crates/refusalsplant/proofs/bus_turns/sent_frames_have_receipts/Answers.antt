@@ -1,5 +1,5 @@
 use Rattle.std.proofs.Common.{◌∙◌, ◌++◌, List, ap}
-use Rattle.transact.specs.declared.marks.Sent.{Sent}
+use Rattle.buslink.specs.declared.marks.Sent.{Sent}
 use Rattle.plantevents.specs.Parts.{shown_sent}
 use Rattle.plantreceipts.specs.Receipts.{whole}
 use Rattle.refusalsplant.proofs.bus_turns.sent_frames_have_receipts.Goals as goal

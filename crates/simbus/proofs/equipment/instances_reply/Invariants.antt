@@ -1,5 +1,5 @@
 use Rattle.std.proofs.Common.{◌≡◌, drop}
-use Rattle.transact.specs.declared.marks.Reply.TheVariants.{Quiet}
+use Rattle.buslink.specs.declared.marks.Reply.TheVariants.{Quiet}
 use Rattle.simbus.specs.Kept.{replies_from, live_instance_answer}
 use Rattle.simbus.proofs.equipment.instances_reply.Given as goal
 

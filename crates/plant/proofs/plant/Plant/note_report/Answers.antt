@@ -1,5 +1,5 @@
 use Rattle.std.proofs.Common.{◌≡◌, Some, refl, sym, subst, ap, ◌∙◌}
-use Rattle.transact.specs.declared.marks.Outcome.{Outcome}
+use Rattle.buslink.specs.declared.marks.Outcome.{Outcome}
 use Rattle.ilplan.specs.Plans.{Planned}
 use Rattle.ilimage.specs.Images.{value_of}
 use Rattle.std.specs.Prelude.{slice_index_or}

@@ -1,5 +1,5 @@
 use Rattle.std.proofs.Common.{◌≡◌, ◌∙◌, refl, ap, sym}
-use Rattle.transact.specs.Attempts.{ReportParts}
+use Rattle.buslink.specs.Attempts.{ReportParts}
 use Rattle.plantevents.specs.Plants.{Plant, tries_of}
 use Rattle.plantreceipts.specs.Receipts.{whole}
 use Rattle.plantlock.proofs.Ending.{hand_shown, transaction_open}

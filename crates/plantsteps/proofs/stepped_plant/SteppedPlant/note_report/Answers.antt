@@ -1,6 +1,6 @@
 use Rattle.std.proofs.Common.{List, refl, sym, subst}
-use Rattle.transact.specs.declared.marks.Mark.{Mark}
-use Rattle.transact.specs.Attempts.{Spells}
+use Rattle.buslink.specs.declared.marks.Mark.{Mark}
+use Rattle.buslink.specs.Attempts.{Spells}
 use Rattle.plantevents.specs.declared.event.Event.TheVariants as events
 use Rattle.plant.specs.Matches.{IsReportOf}
 use Rattle.plant.specs.Shown.{Shown}

@@ -1,6 +1,6 @@
 use Rattle.std.proofs.Common.{◌≡◌, ◌+◌, ◌-◌, ◌<◌, List, [], ◌∷◌, ◌++◌, Some, refl, sym, subst, ◌∙◌, ap, vec_len, arith}
 use Rattle.std.specs.Prelude.{reverse, false}
-use Rattle.transact.specs.declared.marks.Sent.{Sent}
+use Rattle.buslink.specs.declared.marks.Sent.{Sent}
 use Rattle.simbus.specs.Histories.{Setup}
 use Rattle.simbus.specs.Kept.{setup_of, IsEquipmentOf}
 use Rattle.simbus.specs.Simulated.{Simulated, due_mark}

@@ -1,7 +1,7 @@
 use Rattle.std.proofs.Common.{◌≡◌, ℕ, List, [], ◌++◌, false, Some, refl, sym, subst, ◌∙◌, ap, arith}
 use Rattle.std.specs.Prelude.{reverse}
 use Rattle.buslink.specs.BusLog.{frames_in}
-use Rattle.transact.specs.declared.marks.Sent.{Sent}
+use Rattle.buslink.specs.declared.marks.Sent.{Sent}
 use Rattle.buslink.specs.declared.arrivals.Arrival.{Arrival}
 use Rattle.simbus.specs.Histories.{Setup}
 use Rattle.simbus.specs.Kept.{setup_of}

@@ -6,7 +6,7 @@ use Rattle.daliframe.specs.declared.forward.Frame.{Frame}
 use Rattle.daliframe.specs.declared.forward.Frame.TheVariants.{Forward16, Forward24}
 use Rattle.daliframe.specs.contracts.forward.FramePartialEq.TheImpl as frames
 use Rattle.gearcmd.specs.FrameLists.{FrameList}
-use Rattle.transact.proofs.transactions.Transaction.is_same.Goals as goal
+use Rattle.buslink.proofs.transactions.Transaction.is_same.Goals as goal
 
 -- `==` holds of the same frames alone
 same_frame : (a b : Frame) → Decides (frames.eq-value.it a b) (a ≡ b)

@@ -1,7 +1,7 @@
 use Rattle.std.proofs.Common.{ℕ, ◌<◌, slice_index_or}
-use Rattle.transact.specs.declared.marks.Mark.{Mark}
-use Rattle.transact.specs.Marks.{IsBroken}
-use Rattle.transact.proofs.reports.attempt_end.Given as goal
+use Rattle.buslink.specs.declared.marks.Mark.{Mark}
+use Rattle.buslink.specs.Marks.{IsBroken}
+use Rattle.buslink.proofs.reports.attempt_end.Given as goal
 
 -- no mark so far is broken, and there are fewer of them than frames
 abbrev pub invariant-loop-i : goal.invariant-loop-i

@@ -5,16 +5,16 @@ use Rattle.std.specs.Prelude.{IsTrue, true, false, ◌==◌, Option, Some, None,
 use Rattle.std.proofs.lemmas.Bool.{cases_lt, eqb-true}
 use Rattle.std.proofs.lemmas.List.{take-append-drop, take_more, get_or_default, append-nil}
 use Rattle.daliframe.specs.declared.forward.Frame.{Frame}
-use Rattle.transact.specs.declared.marks.Mark.{Mark}
-use Rattle.transact.specs.declared.marks.Mark.TheVariants.{Quiet, Lost}
-use Rattle.transact.specs.declared.marks.Sent.{Sent}
-use Rattle.transact.specs.declared.marks.Outcome.{Outcome}
+use Rattle.buslink.specs.declared.marks.Mark.{Mark}
+use Rattle.buslink.specs.declared.marks.Mark.TheVariants.{Quiet, Lost}
+use Rattle.buslink.specs.declared.marks.Sent.{Sent}
+use Rattle.buslink.specs.declared.marks.Outcome.{Outcome}
 use Rattle.gearcmd.specs.FrameLists.{FrameList}
-use Rattle.transact.specs.Marks.{outcome_of}
-use Rattle.transact.specs.Attempts.{Spells, Attempt, IsAttempt, IsReport, marks_of, all_marks, sent_with}
-use Rattle.transact.specs.Attempts.{all_sent, last_mark}
-use Rattle.transact.specs.ReadingSteps.{EndsAt, IsRead, ReadsNone, HasNoAttempt}
-use Rattle.transact.proofs.AttemptLemmas.{same_attempt}
+use Rattle.buslink.specs.Marks.{outcome_of}
+use Rattle.buslink.specs.Attempts.{Spells, Attempt, IsAttempt, IsReport, marks_of, all_marks, sent_with}
+use Rattle.buslink.specs.Attempts.{all_sent, last_mark}
+use Rattle.buslink.specs.ReadingSteps.{EndsAt, IsRead, ReadsNone, HasNoAttempt}
+use Rattle.buslink.proofs.AttemptLemmas.{same_attempt}
 
 -- nothing is sent with no marks
 pub sent_with_none : (frames : List Frame) (first : ℕ) → sent_with frames first [] ≡ []

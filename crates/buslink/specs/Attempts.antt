@@ -1,13 +1,13 @@
 -- The attempts at a transaction, and the reports of them (profile).
 use Rattle.std.specs.Prelude.{◌≡◌, ℕ, zero, suc, ◌+◌, ◌-◌, ◌*◌, ◌<◌, List, [], ◌∷◌, ◌++◌, length, All}
 use Rattle.daliframe.specs.declared.forward.Frame.{Frame}
-use Rattle.transact.specs.declared.marks.Mark.{Mark}
-use Rattle.transact.specs.declared.marks.Mark.TheVariants.{Quiet, Lost}
-use Rattle.transact.specs.declared.marks.Sent.{Sent}
-use Rattle.transact.specs.declared.marks.Outcome.{Outcome}
+use Rattle.buslink.specs.declared.marks.Mark.{Mark}
+use Rattle.buslink.specs.declared.marks.Mark.TheVariants.{Quiet, Lost}
+use Rattle.buslink.specs.declared.marks.Sent.{Sent}
+use Rattle.buslink.specs.declared.marks.Outcome.{Outcome}
 use Rattle.limits.specs.Limits.{most_tries, AreTries}
 use Rattle.gearcmd.specs.FrameLists.{FrameList, most_frames}
-use Rattle.transact.specs.Marks.{IsBroken, outcome_of}
+use Rattle.buslink.specs.Marks.{IsBroken, outcome_of}
 
 -- an attempt by the marks of its frames: those before the last, and the last
 pub record Attempt : Type 0 where

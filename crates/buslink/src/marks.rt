@@ -1,6 +1,6 @@
 //! What became of a frame, and of a transaction.
 ghost use Rattle.std.specs.Prelude.{◌≡◌, ◌<◌, ◌↔◌, IsTrue};
-ghost use Rattle.transact.specs.Marks.{IsBroken, outcome_of, mark_of};
+ghost use Rattle.buslink.specs.Marks.{IsBroken, outcome_of, mark_of};
 
 use daliframe::Frame;
 use std::fmt;
@@ -56,7 +56,7 @@ impl Mark {
 
 impl fmt::Display for Reply {
     ghost use Rattle.std.specs.Prelude.{Some};
-    ghost use Rattle.transact.specs.Printed.{printed_reply};
+    ghost use Rattle.buslink.specs.Printed.{printed_reply};
 
     ghost output = { λ reply. Some (printed_reply reply) };
 
@@ -121,7 +121,7 @@ impl Outcome {
 
 impl fmt::Display for Outcome {
     ghost use Rattle.std.specs.Prelude.{Some};
-    ghost use Rattle.transact.specs.Printed.{printed_outcome};
+    ghost use Rattle.buslink.specs.Printed.{printed_outcome};
 
     ghost output = { λ outcome. Some (printed_outcome outcome) };
 

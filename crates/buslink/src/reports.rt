@@ -3,9 +3,9 @@ ghost use Rattle.std.specs.Prelude.{◌≡◌, ◌+◌, ◌*◌, ◌<◌, ◌≤
 ghost use Rattle.arrayvec.specs.ArrayVec.{array_vec_len};
 ghost use Rattle.gearcmd.specs.FrameLists.{most_frames};
 ghost use Rattle.limits.specs.Limits.{AreTries};
-ghost use Rattle.transact.specs.Attempts.{sent_with, most_sent};
-ghost use Rattle.transact.specs.Attempts.{ReportParts, Spells, SpellsNone, IsReportParts};
-ghost use Rattle.transact.specs.ReadingSteps.{EndsAt, HasNoAttempt, IsRead, ReadsNone};
+ghost use Rattle.buslink.specs.Attempts.{sent_with, most_sent};
+ghost use Rattle.buslink.specs.Attempts.{ReportParts, Spells, SpellsNone, IsReportParts};
+ghost use Rattle.buslink.specs.ReadingSteps.{EndsAt, HasNoAttempt, IsRead, ReadsNone};
 
 use crate::{Mark, Outcome, Sent, Transaction};
 use arrayvec::ArrayVec;
@@ -28,7 +28,7 @@ pub struct Report {
 }
 
 impl Model for Report {
-    ghost use Rattle.transact.specs.Attempts.{ReportParts, IsReportParts};
+    ghost use Rattle.buslink.specs.Attempts.{ReportParts, IsReportParts};
 
     ghost Value = { ReportParts };
 

@@ -1,9 +1,9 @@
 -- How marks are read as attempts, one after another: what the steps of reading a report find.
 use Rattle.std.specs.Prelude.{◌≡◌, ℕ, ◌<◌, List, ◌++◌, length, slice_index_or, take}
-use Rattle.transact.specs.declared.marks.Mark.{Mark}
-use Rattle.transact.specs.declared.marks.Sent.{Sent}
+use Rattle.buslink.specs.declared.marks.Mark.{Mark}
+use Rattle.buslink.specs.declared.marks.Sent.{Sent}
 use Rattle.gearcmd.specs.FrameLists.{FrameList}
-use Rattle.transact.specs.Attempts.{Attempt, IsAttempt, IsReport, marks_of, all_marks, all_sent, last_mark}
+use Rattle.buslink.specs.Attempts.{Attempt, IsAttempt, IsReport, marks_of, all_marks, all_sent, last_mark}
 
 -- the marks up to the one at end, that one included, are those of an attempt at count frames
 pub record EndsAt (count : ℕ) (marks : List Mark) (end : ℕ) : Type 0 where

@@ -1,10 +1,10 @@
 use Rattle.std.proofs.Common.{◌≡◌, ◌<◌, ◌↔◌, length, true, false, slice_index_or, refl}
 use Rattle.std.specs.Prelude.{IsTrue}
-use Rattle.transact.specs.declared.marks.Mark.TheVariants.{Quiet, Lost}
-use Rattle.transact.specs.ReadingSteps.{HasNoAttempt}
-use Rattle.transact.proofs.ReadingLemmas.{Step, reads_none, step_last, step_none, step_retried, none_left, empty_at}
-use Rattle.transact.proofs.ReadingLemmas.{filled_at}
-use Rattle.transact.proofs.reports.+read_attempts.Goals as goal
+use Rattle.buslink.specs.declared.marks.Mark.TheVariants.{Quiet, Lost}
+use Rattle.buslink.specs.ReadingSteps.{HasNoAttempt}
+use Rattle.buslink.proofs.ReadingLemmas.{Step, reads_none, step_last, step_none, step_retried, none_left, empty_at}
+use Rattle.buslink.proofs.ReadingLemmas.{filled_at}
+use Rattle.buslink.proofs.reports.+read_attempts.Goals as goal
 
 pub returns-in_err-end : goal.returns-in_err-end
 returns-in_err-end t c =

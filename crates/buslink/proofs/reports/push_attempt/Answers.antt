@@ -1,8 +1,8 @@
 use Rattle.std.proofs.Common.{◌≡◌, ◌++◌, [], drop, sym, ◌∙◌, ap, arith}
 use Rattle.std.proofs.lemmas.List.{drop_all, append-nil}
-use Rattle.transact.specs.Attempts.{sent_with}
-use Rattle.transact.proofs.ReadingLemmas.{sent_with_none}
-use Rattle.transact.proofs.reports.push_attempt.Goals as goal
+use Rattle.buslink.specs.Attempts.{sent_with}
+use Rattle.buslink.proofs.ReadingLemmas.{sent_with_none}
+use Rattle.buslink.proofs.reports.push_attempt.Goals as goal
 
 pub returns : goal.returns
 returns c =

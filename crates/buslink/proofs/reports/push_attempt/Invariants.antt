@@ -1,6 +1,6 @@
 use Rattle.std.proofs.Common.{◌≡◌, ◌+◌, ◌++◌, length, drop}
-use Rattle.transact.specs.Attempts.{sent_with}
-use Rattle.transact.proofs.reports.push_attempt.Given as goal
+use Rattle.buslink.specs.Attempts.{sent_with}
+use Rattle.buslink.proofs.reports.push_attempt.Given as goal
 
 -- what is sent so far, and the rest behind it, are the whole
 abbrev pub invariant-loop-i : goal.invariant-loop-i

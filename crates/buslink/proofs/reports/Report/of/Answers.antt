@@ -1,6 +1,6 @@
-use Rattle.transact.proofs.AttemptLemmas.{same_report}
-use Rattle.transact.proofs.ReadingLemmas.{report_of_read}
-use Rattle.transact.proofs.reports.Report.of.Goals as goal
+use Rattle.buslink.proofs.AttemptLemmas.{same_report}
+use Rattle.buslink.proofs.ReadingLemmas.{report_of_read}
+use Rattle.buslink.proofs.reports.Report.of.Goals as goal
 
 pub invariant_of-result : goal.invariant_of-result
 invariant_of-result c = record {

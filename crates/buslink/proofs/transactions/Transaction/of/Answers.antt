@@ -1,4 +1,4 @@
-use Rattle.transact.proofs.transactions.Transaction.of.Goals as goal
+use Rattle.buslink.proofs.transactions.Transaction.of.Goals as goal
 
 pub invariant_of-result : goal.invariant_of-result
 invariant_of-result c = rw c.class.ensures.value (c.frames.ensures.legal c.args.task)

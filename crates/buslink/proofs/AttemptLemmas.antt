@@ -1,14 +1,14 @@
 -- Marks are those of one attempt, and of one list of attempts, at most.
 use Rattle.std.proofs.Common.{◌≡◌, ℕ, zero, suc, ◌+◌, ◌-◌, ◌<◌, List, [], ◌∷◌, ◌++◌, length, refl, sym, ◌∙◌, ap, arith}
 use Rattle.std.specs.Prelude.{All}
-use Rattle.transact.specs.declared.marks.Mark.{Mark}
-use Rattle.transact.specs.declared.marks.Mark.TheVariants.{Lost}
-use Rattle.transact.specs.declared.marks.Sent.{Sent}
-use Rattle.transact.specs.declared.marks.Outcome.{Outcome}
+use Rattle.buslink.specs.declared.marks.Mark.{Mark}
+use Rattle.buslink.specs.declared.marks.Mark.TheVariants.{Lost}
+use Rattle.buslink.specs.declared.marks.Sent.{Sent}
+use Rattle.buslink.specs.declared.marks.Outcome.{Outcome}
 use Rattle.gearcmd.specs.FrameLists.{FrameList}
-use Rattle.transact.specs.Marks.{IsBroken, outcome_of}
-use Rattle.transact.specs.Attempts.{Attempt, IsAttempt, IsReport, ReportParts, Spells, marks_of}
-use Rattle.transact.specs.Attempts.{all_marks, all_sent, last_mark}
+use Rattle.buslink.specs.Marks.{IsBroken, outcome_of}
+use Rattle.buslink.specs.Attempts.{Attempt, IsAttempt, IsReport, ReportParts, Spells, marks_of}
+use Rattle.buslink.specs.Attempts.{all_marks, all_sent, last_mark}
 
 -- a front of count frames with these marks before its last one
 record Front (count : ℕ) (xs : List Mark) (x : Mark) : Type 0 where

@@ -1,2 +1,0 @@
-mod AttemptLemmas
-mod ReadingLemmas

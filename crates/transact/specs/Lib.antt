@@ -1,4 +1,0 @@
-pub mod Attempts
-pub mod Marks
-pub mod Printed
-pub mod ReadingSteps
