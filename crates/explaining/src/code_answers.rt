@@ -12,8 +12,8 @@ use explaincures::{Edit, Example, FaultAnswer, shown_text};
 use ilblocks::PortName;
 use ilcode::Code;
 use illisting::line_at;
-use ilranges::{Cause, Known};
 use iltypes::Range;
+use ilverify::{Cause, Known};
 use std::alloc::{AllocError, Global};
 
 /// What is said of a refused word: with the first of the changes that are tried which helps, where

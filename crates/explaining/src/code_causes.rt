@@ -5,8 +5,8 @@ use crate::refused::{Refused, input_of};
 use Line::{Input, Limited, Nearest, Operand, Text, WithLimits};
 use ilblocks::{BlockKind, PortName};
 use ilcode::{Word, WordOperand};
-use ilranges::{Cause, Known};
 use iltypes::{Function, Operator, Range};
+use ilverify::{Cause, Known};
 
 /// What a cause means, what helps, lines of another text, and the changes that are tried.
 #[derive(Clone, Copy)]

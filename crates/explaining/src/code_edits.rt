@@ -8,9 +8,9 @@ use crate::refused::{Refused, instruction_on};
 use explaincures::{Edit, EditOutcome, Spot, line_number, part, place_of};
 use ilcode::{Code, Word};
 use illisting::line_at;
-use ilranges::Cause;
 use iltokens::{Keyword, keyword_of};
 use iltypes::{Condition, Range};
+use ilverify::Cause;
 use std::alloc::{AllocError, Global};
 
 /// A change of a text; none where it can't be made.

@@ -2,9 +2,8 @@
 
 use ilcode::{Code, Word, WordOperand};
 use illisting::{ValuesText, read_by, written_by};
-use ilranges::{Cause, Entry, Known};
 use iltypes::{Function, Operator};
-use ilverify::{Pass, Passed, Refusal};
+use ilverify::{Cause, Entry, Known, Pass, Passed, Refusal};
 use std::alloc::{AllocError, Global};
 use std::fmt;
 

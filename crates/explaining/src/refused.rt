@@ -14,8 +14,7 @@ use ilcode::{Code, Word};
 use ilcompile::compile;
 use illisting::{TaskNames, functions_in, line_at, print_deepest_calls, print_longest_calls};
 use ilplan::Plan;
-use ilranges::Cause;
-use ilverify::Refusal;
+use ilverify::{Cause, Refusal};
 use page::Page;
 use std::alloc::{AllocError, Global};
 

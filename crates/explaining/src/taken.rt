@@ -1,9 +1,8 @@
 //! Which ways of a code a value goes.
 
 use ilcode::{Code, Word};
-use ilranges::{Change, Entry, Known, after_word};
 use iltypes::Range;
-use ilverify::{Pass, Passed};
+use ilverify::{Change, Entry, Known, Pass, Passed, after_word};
 use std::alloc::{AllocError, Global};
 
 /// A way that a value goes, from one word to another of the same body.

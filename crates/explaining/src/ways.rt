@@ -5,10 +5,9 @@ use crate::taken::{Way, misfit_to, place_before, ways_up_to};
 use explaincures::{Spot, line_of, part, place_of, shown_text};
 use ilcode::{Code, Word};
 use illisting::{KnownText, TaskNames, WordText, line_at};
-use ilranges::Cause;
 use iltokens::Keyword::{Jmp, Jmpc, Jmpcn, Ret, Retc, Retcn};
 use iltokens::{Delimiter, Lexed, What, keyword_of, token};
-use ilverify::{Pass, Passed, Refusal};
+use ilverify::{Cause, Pass, Passed, Refusal};
 use page::Page;
 use std::alloc::{AllocError, Global};
 

@@ -3,7 +3,7 @@
 //!
 //! What crosses the boundary: a setup, and lines on a writer. A [`WordText`] and a [`KnownText`] are
 //! written with the names of the text, which [`TaskNames`] has. What is known before a word
-//! ([`Entry`](ilranges::Entry)) and how long the ways from it are is what `ilverify` found, to be
+//! ([`Entry`](ilverify::Entry)) and how long the ways from it are is what `ilverify` found, to be
 //! read first. All this is for people: the verdict is that of `ilverify`. What is printed is fixed
 //! by worked rows (crates/rows); of the code it is proved that it is safe and ends.
 //!

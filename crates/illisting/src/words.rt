@@ -4,8 +4,8 @@ use crate::task_names::TaskNames;
 use crate::uses::{read_by, written_by};
 use ilcode::{Code, Word, WordOperand};
 use ilplan::{DeclaredName, SlotName};
-use ilranges::{Entry, Known};
 use iltypes::{Condition, Function, Operator, Range};
+use ilverify::{Entry, Known};
 use std::fmt;
 
 /// A word of a task's code, as it could stand in a text; a jump leads to the number of a word, and

@@ -7,9 +7,9 @@ use crate::kinds::{Kind, Rule};
 use ilblocks::BlockKind;
 use ilcode::Word;
 use ilfacts::Driven;
-use ilranges::Known;
 use ilsource::Name;
 use iltypes::Value;
+use ilverify::Known;
 use std::alloc::{AllocError, Global};
 
 /// What was found, as a text of notes names it.

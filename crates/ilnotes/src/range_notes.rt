@@ -9,8 +9,8 @@ use ilcode::{Code, Target, Word, WordOperand};
 use ilfacts::{Driven, House, TaskFacts, constant_of};
 use illisting::line_at;
 use ilplan::Location;
-use ilranges::{Entry, Known, passing};
 use iltypes::{Operator, Range, Value};
+use ilverify::{Entry, Known, passing};
 
 /// What is stored to a level.
 #[derive(Clone, Copy)]

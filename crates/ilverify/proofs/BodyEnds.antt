@@ -8,7 +8,7 @@ use Rattle.ilcode.specs.declared.function.FunctionBody.{FunctionBody}
 use Rattle.ilcode.specs.Listings.{Listing, IsLawful, start_or, start_of, end_of, body_at}
 use Rattle.ilcode.specs.Steps.{is_start}
 use Rattle.ilcode.proofs.Bodies.{end_past, there, within, any_start}
-use Rattle.ilranges.specs.Refusals.{IsClosedAt}
+use Rattle.ilverify.specs.Refusals.{IsClosedAt}
 
 -- a body ends within the code
 pub end_within : (code : Listing) (body : ℕ) → IsLawful code → end_of code body ≤ length code.instructions

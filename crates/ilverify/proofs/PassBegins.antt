@@ -5,8 +5,8 @@ use Rattle.std.specs.Prelude.{slice_get, slice_set, replicate}
 use Rattle.std.proofs.lemmas.Bool.{cases_eq, cases_lt}
 use Rattle.std.proofs.lemmas.List.{length-replicate}
 use Rattle.ilcode.specs.Listings.{Listing, IsLawful, start_of, end_of}
-use Rattle.ilranges.specs.declared.entry.Entry.{Entry}
-use Rattle.ilranges.specs.Entries.{IsInto, opening}
+use Rattle.ilverify.specs.declared.entry.Entry.{Entry}
+use Rattle.ilverify.specs.Entries.{IsInto, opening}
 use Rattle.ilverify.specs.Certificates.{Certificate, Leads}
 use Rattle.ilverify.specs.PassSteps.{CanMeetAt, IsMeetingAt, Meets, HaveBegun, AreTyped, IsFound}
 use Rattle.ilverify.proofs.BodyEnds.{end_within, no_body}

@@ -3,20 +3,20 @@ use Rattle.std.proofs.Common.{◌≡◌, Bool, true, false, cond, List, [], ◌�
 use Rattle.std.proofs.Common.{subst, arith}
 use Rattle.std.proofs.lemmas.Int.{ints}
 use Rattle.iltypes.proofs.Equality.{same_limits}
-use Rattle.ilranges.proofs.OrderMarks.{mark_self}
-use Rattle.ilranges.proofs.Knowns.{known_self}
+use Rattle.ilverify.proofs.OrderMarks.{mark_self}
+use Rattle.ilverify.proofs.Knowns.{known_self}
 use Rattle.std.specs.Prelude.{IsTrue}
 use Rattle.std.specs.List.{AllZip}
 use Rattle.iltypes.specs.declared.range.Range.{Range}
 use Rattle.iltypes.specs.Ranges.{IsWithin}
-use Rattle.ilranges.specs.declared.known.Known.{Known}
-use Rattle.ilranges.specs.declared.known.Known.TheVariants as knowns
-use Rattle.ilranges.specs.Knowns.{IsKnownWithin}
-use Rattle.ilranges.specs.declared.entry.Entry.{Entry}
-use Rattle.ilranges.specs.declared.nesting.KnownOpened.{KnownOpened}
-use Rattle.ilranges.specs.declared.mark.ResultMark.{ResultMark}
-use Rattle.ilranges.specs.Entries.{IsResultInto, IsOpenedInto, IsInto}
-use Rattle.ilranges.specs.Marks.{IsMarkInto}
+use Rattle.ilverify.specs.declared.known.Known.{Known}
+use Rattle.ilverify.specs.declared.known.Known.TheVariants as knowns
+use Rattle.ilverify.specs.Knowns.{IsKnownWithin}
+use Rattle.ilverify.specs.declared.entry.Entry.{Entry}
+use Rattle.ilverify.specs.declared.nesting.KnownOpened.{KnownOpened}
+use Rattle.ilverify.specs.declared.mark.ResultMark.{ResultMark}
+use Rattle.ilverify.specs.Entries.{IsResultInto, IsOpenedInto, IsInto}
+use Rattle.ilverify.specs.Marks.{IsMarkInto}
 use Rattle.ilverify.specs.Certificates.{are_closed}
 
 -- ---- lists, place by place

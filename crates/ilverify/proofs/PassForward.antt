@@ -12,17 +12,17 @@ use Rattle.ilcode.specs.declared.word.Word.TheVariants as words
 use Rattle.ilcode.specs.Listings.{Listing, IsLawful, start_of, end_of, body_at}
 use Rattle.ilcode.specs.Steps.{is_start, is_target}
 use Rattle.ilcode.proofs.Bodies.{target_ahead}
-use Rattle.ilranges.specs.declared.cause.Cause.{Cause}
-use Rattle.ilranges.specs.declared.cause.Cause.TheVariants as causes
-use Rattle.ilranges.specs.declared.entry.Entry.{Entry}
-use Rattle.ilranges.specs.Causes.{IsLeastCause}
-use Rattle.ilranges.specs.Entries.{IsInto, opening, arriving}
-use Rattle.ilranges.specs.Refusals.{IsClosedAt, HasToClose, StaysOpen, open_after, ArisesAtWord}
-use Rattle.ilranges.specs.Rules.{Ways, IsWay, AreWaysOf, IsRule}
-use Rattle.ilranges.specs.Order.{IsWayInto}
-use Rattle.ilranges.proofs.WordParentheses.{IsMetOrClosed, rule_met}
-use Rattle.ilranges.proofs.OrderRefusals.{keeps_refusals}
-use Rattle.ilranges.proofs.OrderWays.{keeps_order}
+use Rattle.ilverify.specs.declared.cause.Cause.{Cause}
+use Rattle.ilverify.specs.declared.cause.Cause.TheVariants as causes
+use Rattle.ilverify.specs.declared.entry.Entry.{Entry}
+use Rattle.ilverify.specs.Causes.{IsLeastCause}
+use Rattle.ilverify.specs.Entries.{IsInto, opening, arriving}
+use Rattle.ilverify.specs.Refusals.{IsClosedAt, HasToClose, StaysOpen, open_after, ArisesAtWord}
+use Rattle.ilverify.specs.Rules.{Ways, IsWay, AreWaysOf, IsRule}
+use Rattle.ilverify.specs.Order.{IsWayInto}
+use Rattle.ilverify.proofs.WordParentheses.{IsMetOrClosed, rule_met}
+use Rattle.ilverify.proofs.OrderRefusals.{keeps_refusals}
+use Rattle.ilverify.proofs.OrderWays.{keeps_order}
 use Rattle.ilverify.specs.Certificates.{Certificate, Leads, are_closed, is_closed, is_met, IsFine, IsConsistentBelow}
 use Rattle.ilverify.specs.Certificates.{IsCertified, Covers, IsClosest, IsRangeRefusal}
 use Rattle.ilverify.specs.PassSteps.{target_of, coming}

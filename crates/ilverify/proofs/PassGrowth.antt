@@ -7,9 +7,8 @@ use Rattle.std.proofs.lemmas.Bool.{cases_eq}
 use Rattle.std.proofs.lemmas.Option.{slice_get_within}
 use Rattle.ilcode.specs.Listings.{Listing}
 use Rattle.ilcode.specs.Steps.{is_start}
-use Rattle.ilranges.specs.declared.entry.Entry.{Entry}
-use Rattle.ilranges.specs.Entries.{IsInto}
-use Rattle.ilranges.specs.Entries.{IsMeeting}
+use Rattle.ilverify.specs.declared.entry.Entry.{Entry}
+use Rattle.ilverify.specs.Entries.{IsInto, IsMeeting}
 use Rattle.ilverify.specs.Certificates.{Certificate, Leads, IsConsistentBelow}
 use Rattle.ilverify.specs.Certificates.{Covers}
 use Rattle.ilverify.proofs.Lists.{set_there, same_set, other_set}

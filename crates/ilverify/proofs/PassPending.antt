@@ -10,13 +10,13 @@ use Rattle.std.proofs.lemmas.List.{set_past}
 use Rattle.ilcode.specs.declared.word.Word.{Word}
 use Rattle.ilcode.specs.Listings.{Listing, IsLawful, end_of, body_at}
 use Rattle.ilcode.specs.Steps.{is_start}
-use Rattle.ilranges.specs.declared.change.Changes.{Changes}
-use Rattle.ilranges.specs.declared.entry.Entry.{Entry}
-use Rattle.ilranges.specs.Changes.{ways_of}
-use Rattle.ilranges.specs.Entries.{IsOpenedInto, IsInto, opening, arriving}
-use Rattle.ilranges.specs.declared.nesting.KnownOpened.{KnownOpened}
-use Rattle.ilranges.specs.Refusals.{HasToClose}
-use Rattle.ilranges.specs.Rules.{Ways, AreWaysOf, IsRule}
+use Rattle.ilverify.specs.declared.change.Changes.{Changes}
+use Rattle.ilverify.specs.declared.entry.Entry.{Entry}
+use Rattle.ilverify.specs.Changes.{ways_of}
+use Rattle.ilverify.specs.Entries.{IsOpenedInto, IsInto, opening, arriving}
+use Rattle.ilverify.specs.declared.nesting.KnownOpened.{KnownOpened}
+use Rattle.ilverify.specs.Refusals.{HasToClose}
+use Rattle.ilverify.specs.Rules.{Ways, AreWaysOf, IsRule}
 use Rattle.ilverify.specs.Certificates.{Certificate, are_closed, is_closed, is_met}
 use Rattle.ilverify.specs.PassSteps.{CanJoin, CanMeetIf, IsMeetingAt, Meets, MeetsIf, coming, target_of, AreFollowed}
 use Rattle.ilverify.specs.PassSteps.{AreTyped}

@@ -19,21 +19,21 @@ use Rattle.ilcode.specs.declared.word.Word.TheVariants as words
 use Rattle.ilcode.specs.declared.word.Target.TheVariants.{Slot, Port}
 use Rattle.ilcode.specs.Listings.{Listing, slots_end}
 use Rattle.ilcode.specs.Steps.{is_start}
-use Rattle.ilranges.specs.declared.cause.Cause.TheVariants as causes
-use Rattle.ilranges.specs.declared.entry.Entry.{Entry}
-use Rattle.ilranges.specs.declared.known.Known.{Known}
-use Rattle.ilranges.specs.declared.known.Known.TheVariants as knowns
-use Rattle.ilranges.specs.declared.mark.ResultMark.{ResultMark}
-use Rattle.ilranges.specs.declared.mark.ResultMark.TheVariants.{Copy, Test}
-use Rattle.ilranges.specs.declared.nesting.KnownOpened.{KnownOpened}
-use Rattle.ilranges.specs.Entries.{IsOpenedInto, IsInto, opening, arriving}
-use Rattle.ilranges.specs.Knowns.{IsKnown, IsKnownWithin, known_of_type}
-use Rattle.ilranges.specs.Refusals.{HasToClose, StaysOpen, open_after}
-use Rattle.ilranges.specs.Operands.{known_of}
-use Rattle.ilranges.specs.Rules.{Ways, IsStored, Opens, Closes, IsEntryAfter, IsTested, IsRefined, AreWaysOf, IsRule}
-use Rattle.ilranges.specs.Rules.{reset}
-use Rattle.ilranges.proofs.Knowns.{known_self}
-use Rattle.ilranges.proofs.WordParentheses.{after_count}
+use Rattle.ilverify.specs.declared.cause.Cause.TheVariants as causes
+use Rattle.ilverify.specs.declared.entry.Entry.{Entry}
+use Rattle.ilverify.specs.declared.known.Known.{Known}
+use Rattle.ilverify.specs.declared.known.Known.TheVariants as knowns
+use Rattle.ilverify.specs.declared.mark.ResultMark.{ResultMark}
+use Rattle.ilverify.specs.declared.mark.ResultMark.TheVariants.{Copy, Test}
+use Rattle.ilverify.specs.declared.nesting.KnownOpened.{KnownOpened}
+use Rattle.ilverify.specs.Entries.{IsOpenedInto, IsInto, opening, arriving}
+use Rattle.ilverify.specs.Knowns.{IsKnown, IsKnownWithin, known_of_type}
+use Rattle.ilverify.specs.Refusals.{HasToClose, StaysOpen, open_after}
+use Rattle.ilverify.specs.Operands.{known_of}
+use Rattle.ilverify.specs.Rules.{Ways, IsStored, Opens, Closes, IsEntryAfter, IsTested, IsRefined, AreWaysOf, IsRule}
+use Rattle.ilverify.specs.Rules.{reset}
+use Rattle.ilverify.proofs.Knowns.{known_self}
+use Rattle.ilverify.proofs.WordParentheses.{after_count}
 use Rattle.ilverify.specs.PassSteps.{AreTyped}
 
 -- ---- slots stay within their types

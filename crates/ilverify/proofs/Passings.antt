@@ -3,8 +3,8 @@ use Rattle.std.proofs.Common.{◌≡◌, ℕ, Option, Some, None, refl, sym, ◌
 use Rattle.std.specs.Prelude.{slice_get, get_or}
 use Rattle.std.proofs.lemmas.Option.{slice_get-get_or, slice_get_within}
 use Rattle.ilcode.specs.Listings.{Listing}
-use Rattle.ilranges.specs.declared.entry.Entry.{Entry}
-use Rattle.ilranges.specs.Entries.{IsInto}
+use Rattle.ilverify.specs.declared.entry.Entry.{Entry}
+use Rattle.ilverify.specs.Entries.{IsInto}
 use Rattle.ilverify.specs.BeforeWords.{IsKnownBefore}
 use Rattle.ilverify.specs.Certificates.{Certificate, IsConsistentBelow, IsClosest}
 use Rattle.ilverify.specs.PassSteps.{IsFound}

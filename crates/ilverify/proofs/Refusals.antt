@@ -4,14 +4,14 @@ use Rattle.std.specs.Prelude.{slice_get}
 use Rattle.std.proofs.lemmas.Bool.{cases_lt}
 use Rattle.ilcode.specs.declared.word.Word.{Word}
 use Rattle.ilcode.specs.Listings.{Listing}
-use Rattle.ilranges.specs.declared.cause.Cause.{Cause}
-use Rattle.ilranges.specs.Causes.{IsLeastCause}
-use Rattle.ilranges.specs.declared.entry.Entry.{Entry}
-use Rattle.ilranges.specs.Entries.{IsInto}
-use Rattle.ilranges.specs.Refusals.{ArisesAtWord}
+use Rattle.ilverify.specs.declared.cause.Cause.{Cause}
+use Rattle.ilverify.specs.Causes.{IsLeastCause}
+use Rattle.ilverify.specs.declared.entry.Entry.{Entry}
+use Rattle.ilverify.specs.Entries.{IsInto}
+use Rattle.ilverify.specs.Refusals.{ArisesAtWord}
 use Rattle.ilverify.specs.declared.refusal.Refusal.{Refusal}
 use Rattle.ilverify.specs.Certificates.{Certificate, Leads, is_closed, is_met, IsClosest, IsRangeRefusal}
-use Rattle.ilranges.proofs.CausesAtWords.{one_cause}
+use Rattle.ilverify.proofs.CausesAtWords.{one_cause}
 use Rattle.ilverify.proofs.PassGrowth.{below}
 use Rattle.ilverify.proofs.PassEntries.{same_entry, closed_wider}
 

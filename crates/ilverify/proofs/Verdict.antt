@@ -6,9 +6,9 @@ use Rattle.std.proofs.lemmas.Option.{slice_get_within}
 use Rattle.limits.specs.Limits.{most_steps}
 use Rattle.ilcode.specs.Listings.{Listing}
 use Rattle.ilcode.specs.Paths.{Standing, IsPath, IsTooLong, IsBound}
-use Rattle.ilranges.specs.declared.cause.Cause.{Cause}
-use Rattle.ilranges.specs.declared.cause.Cause.TheVariants as causes
-use Rattle.ilranges.specs.Causes.{refusal_number}
+use Rattle.ilverify.specs.declared.cause.Cause.{Cause}
+use Rattle.ilverify.specs.declared.cause.Cause.TheVariants as causes
+use Rattle.ilverify.specs.Causes.{refusal_number}
 use Rattle.ilverify.specs.declared.refusal.Refusal.{Refusal}
 use Rattle.ilverify.specs.Calls.{HasGoodCalls, IsFirstBad}
 use Rattle.ilverify.specs.Certificates.{IsCertified, IsRangeRefusal, IsAccepted, MayRefuse, IsNotAfter, IsCallRefusal}

@@ -1,7 +1,7 @@
 -- Before a word of a code: what one pass forward over the words knows there.
 use Rattle.std.specs.Prelude.{◌≡◌, ℕ, Option, Some, slice_get}
 use Rattle.ilcode.specs.Listings.{Listing}
-use Rattle.ilranges.specs.declared.entry.Entry.{Entry}
+use Rattle.ilverify.specs.declared.entry.Entry.{Entry}
 use Rattle.ilverify.specs.Certificates.{Certificate, IsClosest}
 
 -- a pass before a word of a code, with what is known there, or nothing, where no scan reaches it

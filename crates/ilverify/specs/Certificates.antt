@@ -6,13 +6,13 @@ use Rattle.ilcode.specs.declared.word.Word.{Word}
 use Rattle.ilcode.specs.Listings.{Listing, start_of, end_of, body_at}
 use Rattle.ilcode.specs.Paths.{IsTooLong}
 use Rattle.ilcode.specs.Steps.{is_start}
-use Rattle.ilranges.specs.Causes.{refusal_number, IsLeastCause}
-use Rattle.ilranges.specs.declared.cause.Cause.TheVariants.{BadCall, TooLong}
-use Rattle.ilranges.specs.declared.entry.Entry.{Entry}
-use Rattle.ilranges.specs.declared.nesting.KnownOpened.{KnownOpened}
-use Rattle.ilranges.specs.Entries.{IsInto, opening}
-use Rattle.ilranges.specs.Refusals.{ArisesAtWord}
-use Rattle.ilranges.specs.Rules.{Ways, IsWay, IsRule}
+use Rattle.ilverify.specs.Causes.{refusal_number, IsLeastCause}
+use Rattle.ilverify.specs.declared.cause.Cause.TheVariants.{BadCall, TooLong}
+use Rattle.ilverify.specs.declared.entry.Entry.{Entry}
+use Rattle.ilverify.specs.declared.nesting.KnownOpened.{KnownOpened}
+use Rattle.ilverify.specs.Entries.{IsInto, opening}
+use Rattle.ilverify.specs.Refusals.{ArisesAtWord}
+use Rattle.ilverify.specs.Rules.{Ways, IsWay, IsRule}
 use Rattle.ilverify.specs.Calls.{HasGoodCalls, IsFirstBad}
 use Rattle.ilverify.specs.Requests.{HasFewRequests, IsRequestRefusal}
 use Rattle.ilverify.specs.declared.refusal.Refusal.{Refusal}

@@ -6,14 +6,13 @@ use Rattle.std.specs.Option.{option_map}
 use Rattle.ilcode.specs.declared.word.Word.{Word}
 use Rattle.ilcode.specs.declared.word.Word.TheVariants as words
 use Rattle.ilcode.specs.Listings.{Listing, start_of, end_of, body_at}
-use Rattle.ilranges.specs.declared.change.Change.{Change}
-use Rattle.ilranges.specs.declared.change.Changes.{Changes}
-use Rattle.ilranges.specs.declared.entry.Entry.{Entry}
-use Rattle.ilranges.specs.declared.known.Known.{Known}
-use Rattle.ilranges.specs.Changes.{changed}
-use Rattle.ilranges.specs.Entries.{opening, arriving, IsInto}
-use Rattle.ilranges.specs.Entries.{IsMeeting, MayMeet}
-use Rattle.ilranges.specs.Knowns.{known_of_type, IsKnownWithin}
+use Rattle.ilverify.specs.declared.change.Change.{Change}
+use Rattle.ilverify.specs.declared.change.Changes.{Changes}
+use Rattle.ilverify.specs.declared.entry.Entry.{Entry}
+use Rattle.ilverify.specs.declared.known.Known.{Known}
+use Rattle.ilverify.specs.Changes.{changed}
+use Rattle.ilverify.specs.Entries.{opening, arriving, IsInto, IsMeeting, MayMeet}
+use Rattle.ilverify.specs.Knowns.{known_of_type, IsKnownWithin}
 use Rattle.ilverify.specs.Certificates.{Certificate, IsClosest}
 
 -- ---- a way that meets those that led to the place before

@@ -2,9 +2,9 @@
 use Rattle.std.specs.Prelude.{ℕ, List, [], ◌++◌, codes}
 use Rattle.std.specs.Fmt.{decimal, signed_decimal}
 use Rattle.iltypes.specs.declared.range.Range.{Range}
-use Rattle.ilranges.specs.declared.cause.Cause.{Cause}
-use Rattle.ilranges.specs.declared.cause.Cause.TheVariants.{OutOfRange}
-use Rattle.ilranges.specs.Causes.{refusal_number}
+use Rattle.ilverify.specs.declared.cause.Cause.{Cause}
+use Rattle.ilverify.specs.declared.cause.Cause.TheVariants.{OutOfRange}
+use Rattle.ilverify.specs.Causes.{refusal_number}
 use Rattle.ilverify.specs.declared.refusal.Refusal.{Refusal}
 
 -- both limits, with two dots between them

@@ -3,7 +3,7 @@ use Rattle.std.specs.Prelude.{◌≡◌, ℕ, ◌<◌, ◌≤◌, min, List, [],
 use Rattle.limits.specs.Limits.{most_requests}
 use Rattle.ilcode.specs.Listings.{Listing}
 use Rattle.ilcode.specs.Paths.{Standing, IsPath, requests_on}
-use Rattle.ilranges.specs.declared.cause.Cause.TheVariants.{TooManyRequests}
+use Rattle.ilverify.specs.declared.cause.Cause.TheVariants.{TooManyRequests}
 use Rattle.ilverify.specs.declared.refusal.Refusal.{Refusal}
 use Rattle.ilverify.specs.Tables.{cap}
 

@@ -10,17 +10,19 @@ ghost use Rattle.std.specs.Prelude.{◌≡◌, ◌+◌, ◌<◌, length, slice_g
 ghost use Rattle.std.specs.Prelude.{IfOk, IfSome, OnOk, MatchOption};
 ghost use Rattle.limits.specs.Limits.{most_words};
 ghost use Rattle.ilcode.specs.Listings.{IsLawful, start_of, end_of, body_at};
-ghost use Rattle.ilranges.specs.Changes.{changed, ways_of};
-ghost use Rattle.ilranges.specs.Entries.{arriving};
-ghost use Rattle.ilranges.specs.Rules.{IsRule};
+ghost use Rattle.ilverify.specs.Changes.{changed, ways_of};
+ghost use Rattle.ilverify.specs.Entries.{arriving};
+ghost use Rattle.ilverify.specs.Rules.{IsRule};
 ghost use Rattle.ilverify.specs.Certificates.{is_met, IsCertified, IsRangeRefusal};
 ghost use Rattle.ilverify.specs.PassSteps.{CanMeet, CanMeetAt, CanMeetIf, IsMeetingOf, Meets};
 ghost use Rattle.ilverify.specs.PassSteps.{MeetsIf, arrived, target_of, AreTyped, AreBounded};
 ghost use Rattle.ilverify.specs.PassSteps.{HaveBegun, AreFollowed, IsFound};
 
+use crate::change::{Change, Changes};
+use crate::entry::Entry;
 use crate::refusal::Refusal;
+use crate::word::after_word;
 use ilcode::{Code, Word};
-use ilranges::{Change, Changes, Entry, after_word};
 use std::alloc::{AllocError, Global};
 
 /// None of the places is reached.

@@ -1,12 +1,12 @@
 //! The pass as its callers see it: what is known before the word that comes.
 
 ghost use Rattle.std.specs.Prelude.{◌≡◌, ◌<◌, ◌≤◌, length, IfOk, Option, Some, option_copied};
-ghost use Rattle.ilranges.specs.declared.entry.Entry.{Entry};
+ghost use Rattle.ilverify.specs.declared.entry.Entry.{Entry};
 ghost use Rattle.ilverify.specs.BeforeWords.{IsKnownBefore};
 
+use crate::entry::Entry;
 use crate::pass::begin;
 use ilcode::Code;
-use ilranges::Entry;
 use std::alloc::{AllocError, Global};
 use std::marker::Model;
 

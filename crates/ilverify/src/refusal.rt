@@ -3,7 +3,7 @@
 ghost use Rattle.std.specs.Prelude.{◌≡◌, Some};
 ghost use Rattle.ilverify.specs.Certificates.{number_of_error};
 
-use ilranges::Cause;
+use crate::cause::Cause;
 use std::alloc::AllocError;
 use std::fmt;
 use thiserror::Error;

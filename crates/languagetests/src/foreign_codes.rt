@@ -8,9 +8,8 @@ ghost use Rattle.ilcode.specs.Words.{HasWord, IsOldWord};
 
 use ilblocks::BlockKind;
 use ilcode::{Code, PackedWord, Target, Word, WordOperand, pack};
-use ilranges::{Known, Slots};
 use iltypes::{Condition, IlType, Operator, Range, Value};
-use ilverify::{VerifyError, verify};
+use ilverify::{Known, Slots, VerifyError, verify};
 use std::alloc::{AllocError, Global};
 use std::test::Fail;
 

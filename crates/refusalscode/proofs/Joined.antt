@@ -5,10 +5,10 @@ use Rattle.std.proofs.Common.{ℤ, pos, ◌≤ℤ◌, refl, ap, inl, inr, slice_
 use Rattle.iltypes.specs.declared.range.Range.{Range}
 use Rattle.iltypes.specs.declared.value.Value.TheVariants.{Int}
 use Rattle.iltypes.specs.Ranges.{Holds}
-use Rattle.ilranges.specs.declared.known.Known.{Known}
-use Rattle.ilranges.specs.declared.known.Known.TheVariants as knowns
-use Rattle.ilranges.specs.Joins.{AreJoins, IsHeld, IsJoin}
-use Rattle.ilranges.specs.Knowns.{IsKnown}
+use Rattle.ilverify.specs.declared.known.Known.{Known}
+use Rattle.ilverify.specs.declared.known.Known.TheVariants as knowns
+use Rattle.ilverify.specs.Joins.{AreJoins, IsHeld, IsJoin}
+use Rattle.ilverify.specs.Knowns.{IsKnown}
 use Rattle.std.proofs.lemmas.Int.{ints}
 use Rattle.refusalscode.specs.Codes.{few, many}
 

@@ -7,12 +7,12 @@ use Rattle.ilcode.specs.declared.word.Word.{Word}
 use Rattle.ilcode.specs.declared.word.Word.TheVariants as words
 use Rattle.ilcode.specs.declared.word.WordOperand.TheVariants as operands
 use Rattle.ilcode.specs.declared.word.Target.TheVariants as targets
-use Rattle.ilranges.specs.declared.cause.Cause.{Cause}
-use Rattle.ilranges.specs.declared.change.Changes.{Changes}
-use Rattle.ilranges.specs.declared.entry.Entry.{Entry}
-use Rattle.ilranges.specs.declared.known.Known.{Known}
-use Rattle.ilranges.specs.Changes.{ways_of}
-use Rattle.ilranges.specs.Rules.{Ways, AreOnward, AreWaysOf, IsEntryAfter, IsRule, IsStored}
+use Rattle.ilverify.specs.declared.cause.Cause.{Cause}
+use Rattle.ilverify.specs.declared.change.Changes.{Changes}
+use Rattle.ilverify.specs.declared.entry.Entry.{Entry}
+use Rattle.ilverify.specs.declared.known.Known.{Known}
+use Rattle.ilverify.specs.Changes.{ways_of}
+use Rattle.ilverify.specs.Rules.{Ways, AreOnward, AreWaysOf, IsEntryAfter, IsRule, IsStored}
 
 onward_ways : (IsAfter : Entry → Type 0) (P : Entry → Type 0) (ways : Ways) → AreOnward IsAfter ways
     → ((after : Entry) → IsAfter after → P after) → IfSome ways.next P

@@ -14,8 +14,8 @@ use Rattle.ilcode.specs.declared.word.Target.TheVariants as targets
 use Rattle.ilcode.specs.declared.word.Word.{Word}
 use Rattle.ilcode.specs.declared.word.Word.TheVariants as words
 use Rattle.ilcode.specs.Listings.{Listing}
-use Rattle.ilranges.specs.declared.known.Known.{Known}
-use Rattle.ilranges.specs.declared.known.Known.TheVariants as knowns
+use Rattle.ilverify.specs.declared.known.Known.{Known}
+use Rattle.ilverify.specs.declared.known.Known.TheVariants as knowns
 
 abbrev range_of : (lo hi : ℤ) → lo ≤ℤ hi → Range
 range_of lo hi ordered = record { lo = lo; hi = hi; ordered = ordered }

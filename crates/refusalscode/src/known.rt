@@ -3,13 +3,13 @@
 ghost use Rattle.std.specs.Prelude.{◌≡◌, ◌<◌, [], ◌∷◌, length, pos, slice_get, true};
 ghost use Rattle.std.specs.Prelude.{IfOk, IfSome, None, OnOk, Some};
 ghost use Rattle.ilcode.specs.Listings.{slots_end};
-ghost use Rattle.ilranges.specs.Changes.{ways_of};
-ghost use Rattle.ilranges.specs.Knowns.{IsKnown, known_of_type};
+ghost use Rattle.ilverify.specs.Changes.{ways_of};
+ghost use Rattle.ilverify.specs.Knowns.{IsKnown, known_of_type};
 ghost use Rattle.refusalscode.specs.Codes.{few, many};
 
 use ilcode::{Code, Target, Word, WordOperand};
-use ilranges::{Cause, Change, Changes, Entry, Known, Slots, after_word};
 use iltypes::{Function, IlType, IntegerType, Range, Value};
+use ilverify::{Cause, Change, Changes, Entry, Known, Slots, after_word};
 use std::alloc::AllocError;
 
 /// `test_kept_after_a_load`: after a load the mark of the result before was kept.

@@ -13,8 +13,7 @@ ghost use Rattle.refusalscode.specs.Codes.{bad_function, given_after_a_test, loa
 ghost use Rattle.refusalscode.specs.Codes.{meeting, stored_after_a_test};
 
 use ilcode::{Code, Word};
-use ilranges::Cause;
-use ilverify::{Verified, VerifyError, verify};
+use ilverify::{Cause, Verified, VerifyError, verify};
 use std::alloc::Global;
 
 /// Whether the verifier accepts a code.

@@ -1,11 +1,11 @@
 use Rattle.std.proofs.Common.{◌≡◌, ◌∙◌, ◌+◌, ◌<◌, length, Bool, Some, Option, sym, ap, subst, arith}
 use Rattle.std.specs.Prelude.{slice_get, slice_set}
 use Rattle.std.proofs.lemmas.Option.{slice_get-get_or}
-use Rattle.ilranges.specs.declared.entry.Entry.{Entry}
-use Rattle.ilranges.specs.Causes.{IsLeastCause}
-use Rattle.ilranges.specs.Changes.{ways_of}
-use Rattle.ilranges.specs.Refusals.{ArisesAtWord}
-use Rattle.ilranges.specs.Rules.{IsRule}
+use Rattle.ilverify.specs.declared.entry.Entry.{Entry}
+use Rattle.ilverify.specs.Causes.{IsLeastCause}
+use Rattle.ilverify.specs.Changes.{ways_of}
+use Rattle.ilverify.specs.Refusals.{ArisesAtWord}
+use Rattle.ilverify.specs.Rules.{IsRule}
 use Rattle.ilverify.specs.Certificates.{Certificate, is_closed, is_met}
 use Rattle.ilverify.specs.PassSteps.{AreBounded, AreFollowed, IsFound}
 use Rattle.ilverify.proofs.PassForward.{refused}

@@ -1,8 +1,8 @@
 use Rattle.std.proofs.Common.{◌<◌, ℕ, sym, subst, arith}
 use Rattle.std.specs.Prelude.{slice_get}
 use Rattle.ilcode.specs.Listings.{start_of, end_of}
-use Rattle.ilranges.specs.declared.entry.Entry.{Entry}
-use Rattle.ilranges.specs.Entries.{opening}
+use Rattle.ilverify.specs.declared.entry.Entry.{Entry}
+use Rattle.ilverify.specs.Entries.{opening}
 use Rattle.ilverify.specs.PassSteps.{CanMeetAt, Meets}
 use Rattle.ilverify.proofs.PassBegins.{begun_meets, begun_more}
 use Rattle.ilverify.proofs.pass.begin_body.Goals as goal

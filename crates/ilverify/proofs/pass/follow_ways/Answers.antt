@@ -1,7 +1,7 @@
 use Rattle.std.proofs.Common.{◌+◌, ◌∙◌, ℕ, Result, Ok, Err, ap, arith, subst}
 use Rattle.std.specs.Prelude.{slice_get, OnOk}
 use Rattle.ilcode.specs.Listings.{end_of}
-use Rattle.ilranges.specs.Changes.{ways_of}
+use Rattle.ilverify.specs.Changes.{ways_of}
 use Rattle.ilverify.specs.Certificates.{is_met}
 use Rattle.ilverify.specs.PassSteps.{MeetsIf, coming, target_of}
 use Rattle.ilverify.proofs.PassForward.{target_forward}

@@ -1,7 +1,7 @@
 use Rattle.std.proofs.Common.{◌≡◌, ap, slice_get, ◌∙◌}
 use Rattle.ilcode.specs.declared.word.Word.TheVariants as words
 use Rattle.ilcode.specs.declared.word.WordOperand.TheVariants as operands
-use Rattle.ilranges.specs.declared.entry.Entry.{Entry}
+use Rattle.ilverify.specs.declared.entry.Entry.{Entry}
 use Rattle.refusalscode.proofs.Onward.{onward, next_slot_stays}
 use Rattle.refusalscode.proofs.known.give_leaves_the_next_slot.Goals as goal
 

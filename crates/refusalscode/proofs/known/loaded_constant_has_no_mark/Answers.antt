@@ -1,7 +1,7 @@
 use Rattle.std.proofs.Common.{◌≡◌, false, None, ap}
 use Rattle.ilcode.specs.declared.word.Word.TheVariants as words
 use Rattle.ilcode.specs.declared.word.WordOperand.TheVariants as operands
-use Rattle.ilranges.specs.declared.entry.Entry.{Entry}
+use Rattle.ilverify.specs.declared.entry.Entry.{Entry}
 use Rattle.refusalscode.proofs.Onward.{onward}
 use Rattle.refusalscode.proofs.known.loaded_constant_has_no_mark.Goals as goal
 

@@ -1,9 +1,9 @@
 use Rattle.std.proofs.Common.{◌≡◌, ap, false, [], ◌∷◌, List, slice_set, ◌∙◌, sym}
 use Rattle.ilcode.specs.declared.word.Word.TheVariants as words
 use Rattle.ilcode.specs.declared.word.Target.TheVariants as targets
-use Rattle.ilranges.specs.declared.entry.Entry.{Entry}
-use Rattle.ilranges.specs.declared.known.Known.{Known}
-use Rattle.ilranges.specs.Operands.{type_of_variable}
+use Rattle.ilverify.specs.declared.entry.Entry.{Entry}
+use Rattle.ilverify.specs.declared.known.Known.{Known}
+use Rattle.ilverify.specs.Operands.{type_of_variable}
 use Rattle.refusalscode.proofs.Onward.{onward, stored_is}
 use Rattle.refusalscode.proofs.known.stored_slot_is_known_anew.Goals as goal
 

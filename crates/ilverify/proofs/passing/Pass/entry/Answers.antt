@@ -1,5 +1,5 @@
 use Rattle.std.proofs.Common.{◌≡◌, Option, subst}
-use Rattle.ilranges.specs.declared.entry.Entry.{Entry}
+use Rattle.ilverify.specs.declared.entry.Entry.{Entry}
 use Rattle.ilverify.specs.BeforeWords.{BeforeWord, IsKnownBefore}
 use Rattle.ilverify.proofs.Passings.{found_once}
 use Rattle.ilverify.proofs.passing.Pass.entry.Goals as goal

@@ -1,5 +1,0 @@
-use Rattle.ilranges.proofs.CausesAtWords.{one_cause}
-use Rattle.ilranges.proofs.cause.least_cause_is_one.Goals as goal
-
-pub returns : goal.returns
-returns c = one_cause

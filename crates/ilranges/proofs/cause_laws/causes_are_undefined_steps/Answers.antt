@@ -1,5 +1,0 @@
-use Rattle.ilranges.proofs.Undefined.{no_whim}
-use Rattle.ilranges.proofs.cause_laws.causes_are_undefined_steps.Goals as goal
-
-pub returns : goal.returns
-returns c = no_whim

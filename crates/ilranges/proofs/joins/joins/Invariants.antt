@@ -1,6 +1,0 @@
-use Rattle.ilranges.specs.Joins.{IsJoin}
-use Rattle.ilranges.proofs.JoinRows.{EachUpTo}
-use Rattle.ilranges.proofs.joins.joins.Given as goal
-
-abbrev pub invariant-loop-i : goal.invariant-loop-i
-invariant-loop-i l = EachUpTo IsJoin l.i l.ones l.others l.made.items

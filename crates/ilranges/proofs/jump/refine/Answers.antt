@@ -1,5 +1,0 @@
-use Rattle.std.proofs.Common.{rules}
-use Rattle.ilranges.proofs.jump.refine.Goals as goal
-
-pub returns-in-Some-Test : goal.returns-in-Some-Test
-returns-in-Some-Test c = λ code. let tested = c.test.ensures code in search (rules, tested)

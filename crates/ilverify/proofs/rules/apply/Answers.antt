@@ -1,0 +1,15 @@
+use Rattle.std.proofs.lemmas.Result.{err_from_is_err_and}
+use Rattle.ilverify.proofs.RuleNames.{apply_refused, apply_to_others}
+use Rattle.ilverify.proofs.rules.apply.Goals as goal
+
+pub returns-in_err-known : goal.returns-in_err-known
+returns-in_err-known c =
+    let p = err_from_is_err_and c.from_residual.result c.from_residual.ensures.1 in
+    rw (p.1, p.2)
+    (apply_refused c.args.operator c.args.current c.args.operand c.args.named c.in_err-known.field-0.0
+    c.in_err-known.ensures)
+
+pub returns-else-named : goal.returns-else-named
+returns-else-named c =
+    apply_to_others c.args.operator c.args.current c.args.operand c.args.named c.in_ok-known.known c.if-named.false
+    c.in_ok-known.ensures
