@@ -5,11 +5,11 @@ ghost use Rattle.ilmachine.specs.Scans.{IsScan, store_of};
 
 use crate::left::Left;
 use crate::machine::run;
+use crate::snapshot::Snapshot;
 use crate::state::State;
 use gearcmd::Request;
 use ilblocks::BlockState;
 use ilcells::ValueRow;
-use ilimage::Snapshot;
 use std::alloc::AllocError;
 use std::marker::Model;
 
@@ -96,7 +96,7 @@ impl Work {
 impl ScanResult {
     ghost use Rattle.std.specs.Prelude.{◌≡◌, ◌≤◌, length};
     ghost use Rattle.limits.specs.Limits.{most_requests};
-    ghost use Rattle.ilimage.specs.Snapshots.{ScanStart, IsLastingOf};
+    ghost use Rattle.ilmachine.specs.Snapshots.{ScanStart, IsLastingOf};
     ghost use Rattle.ilmachine.specs.Scans.{Scan, IsScan, store_of, next_start};
 
     /// The number of the scan.

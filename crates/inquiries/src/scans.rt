@@ -8,8 +8,7 @@ ghost use Rattle.ilcode.specs.Listings.{lasting_types};
 ghost use Rattle.inquiries.specs.Stepping.{IsScanAt, ScansTo, lasting};
 
 use gearcmd::Request;
-use ilimage::Snapshot;
-use ilmachine::{ScanResult, scan};
+use ilmachine::{ScanResult, Snapshot, scan};
 use iltypes::Value;
 use ilverify::Verified;
 use std::alloc::{AllocError, Global};

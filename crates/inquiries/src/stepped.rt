@@ -6,7 +6,7 @@ use crate::lines::{ScanLine, TaskLine, VariableLine};
 use crate::scans::{Scans, Taken};
 use gearcmd::{Request, TaskKind};
 use ilcompile::Setup;
-use ilimage::Snapshot;
+use ilmachine::Snapshot;
 use std::marker::Model;
 
 /// Scans of one task of a setup.

@@ -9,7 +9,7 @@ use Rattle.buslink.specs.declared.marks.Outcome.{Outcome}
 use Rattle.buslink.specs.Attempts.{ReportParts}
 use Rattle.ilplan.specs.declared.global.Global.{Global as GlobalVariable}
 use Rattle.ilplan.specs.Plans.{Planned}
-use Rattle.ilimage.specs.Images.{ProcessImage, ImageVariable, Global, Own, layout_of, value_of, blocks_of}
+use Rattle.ilmachine.specs.Images.{ProcessImage, ImageVariable, Global, Own, layout_of, value_of, blocks_of}
 use Rattle.plantevents.specs.declared.event.Origin.{Origin}
 use Rattle.plantevents.specs.declared.event.Event.{Event}
 use Rattle.plantevents.specs.declared.event.Event.TheVariants.{Done}

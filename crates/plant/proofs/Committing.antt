@@ -12,9 +12,9 @@ use Rattle.ilblocks.specs.Stores.{Store}
 use Rattle.ilcode.specs.Listings.{Listing}
 use Rattle.ilplan.specs.Plans.{PlannedTask}
 use Rattle.ilplan.specs.PlanMeaning.{plan_scan}
-use Rattle.ilimage.specs.Verdicts.{Accepted}
-use Rattle.ilimage.specs.Images.{ProcessImage, TaskImage, TaskLayout}
-use Rattle.ilimage.specs.Snapshots.{ScanStart}
+use Rattle.ilmachine.specs.Verdicts.{Accepted}
+use Rattle.ilmachine.specs.Images.{ProcessImage, TaskImage, TaskLayout}
+use Rattle.ilmachine.specs.Snapshots.{ScanStart}
 use Rattle.plantevents.specs.Scans.{Scan, IsScan, store_of}
 use Rattle.ilcompile.specs.Loaded.{AreCodes, IsCodeOf}
 use Rattle.ilcompile.proofs.CodeLemmas.{zipped_at}

@@ -18,10 +18,9 @@ use Rattle.ilplan.specs.Plans as plans
 use Rattle.ilplan.specs.Plans.{PlannedTask, Planned, Precedes, AreOrdered, IsDeclared, type_and_initial}
 use Rattle.ilplan.specs.Plans.{HasStates, KeepsLimits, IsTaskOf, kinds_of}
 use Rattle.ilcode.specs.Listings.{Listing, lasting_types}
-use Rattle.ilimage.specs.Verdicts.{Accepted}
-use Rattle.ilimage.specs.declared.external.External.{External}
-use Rattle.ilimage.specs.Images.{IsImage, image_of}
-use Rattle.ilimage.specs.Images.{AreTyped, AreApart, IsLawfulTask, TaskImage, first_task}
+use Rattle.ilmachine.specs.Verdicts.{Accepted}
+use Rattle.ilmachine.specs.declared.external.External.{External}
+use Rattle.ilmachine.specs.Images.{IsImage, image_of, AreTyped, AreApart, IsLawfulTask, TaskImage, first_task}
 use Rattle.ilcompile.proofs.CodeLemmas.{all_last}
 use Rattle.ilcompile.specs.Loaded.{Loaded, IsCodeOf}
 use Rattle.plantevents.specs.Plants.{external_in, externals_from, externals_of, own_by, own_initials, first_tasks}

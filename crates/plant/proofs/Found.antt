@@ -14,7 +14,7 @@ use Rattle.ilplan.specs.declared.global.Global.{Global as GlobalVariable}
 use Rattle.ilplan.specs.declared.global.Location.{Location}
 use Rattle.ilplan.specs.declared.global.Location.TheVariants.{Level, GearAnswer, DeviceAnswer, Information, Count}
 use Rattle.ilplan.specs.declared.global.Location.TheVariants.{Trigger}
-use Rattle.ilimage.specs.Images.{ImageVariable, Global, Own}
+use Rattle.ilmachine.specs.Images.{ImageVariable, Global, Own}
 use Rattle.plantevents.specs.declared.event.Event.{Event}
 use Rattle.plantevents.specs.declared.event.Event.TheVariants.{Heard}
 use Rattle.plantevents.specs.Plants.{Plant, location, first_count}

@@ -7,7 +7,7 @@ use Rattle.std.specs.Prelude.{slice_index_or}
 use Rattle.std.specs.List.{Any}
 use Rattle.iltypes.specs.declared.value.Value.{Value}
 use Rattle.ilplan.specs.Plans.{Planned}
-use Rattle.ilimage.specs.Images.{ProcessImage, ImageVariable, Global, Own, layout_of, value_of, blocks_of}
+use Rattle.ilmachine.specs.Images.{ProcessImage, ImageVariable, Global, Own, layout_of, value_of, blocks_of}
 use Rattle.plantevents.specs.Variables.{newest}
 use Rattle.plant.specs.IndexSteps.{AreInputsOf, comes_from, place_of}
 

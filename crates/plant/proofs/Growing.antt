@@ -8,7 +8,7 @@ use Rattle.plantevents.specs.declared.event.Event.TheVariants.{Tick, Heard, Take
 use Rattle.plantevents.specs.declared.role.Role.TheVariants.{Bus, Clock}
 use Rattle.plantevents.specs.Histories.{moment, is_down, heards}
 use Rattle.taskset.specs.TaskSets.{TaskSet, Follows}
-use Rattle.ilimage.specs.Images.{ProcessImage, ImageVariable, layout_of, value_of, blocks_of}
+use Rattle.ilmachine.specs.Images.{ProcessImage, ImageVariable, layout_of, value_of, blocks_of}
 use Rattle.plantevents.specs.Plants.{Plant}
 use Rattle.plantevents.specs.Variables.{newest, write_of}
 use Rattle.plantevents.specs.Legal.{IsUp, IsBack}

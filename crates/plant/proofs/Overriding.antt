@@ -6,8 +6,8 @@ use Rattle.std.proofs.lemmas.List.Elements.{All-push}
 use Rattle.std.specs.Prelude.{All, IfSome, if◌then◌else◌, option_map, option_to_list, slice_index_or}
 use Rattle.iltypes.specs.declared.value.Value.{Value}
 use Rattle.ilplan.specs.Plans.{Planned}
-use Rattle.ilimage.specs.declared.overriding.Override.{Override}
-use Rattle.ilimage.specs.Images.{overridden}
+use Rattle.ilmachine.specs.declared.overriding.Override.{Override}
+use Rattle.ilmachine.specs.Images.{overridden}
 use Rattle.plantevents.specs.declared.activator.PendingEvent.{PendingEvent}
 use Rattle.plantevents.specs.Variables.{newest}
 use Rattle.plant.specs.IndexSteps.{AreInputsOf, comes_from, place_of}

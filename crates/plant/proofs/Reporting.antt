@@ -5,7 +5,7 @@ use Rattle.std.proofs.lemmas.Bool.{eq-eqb, ne_eqb}
 use Rattle.std.specs.Prelude.{if◌then◌else◌}
 use Rattle.gearcmd.specs.FrameLists.{FrameList, most_frames}
 use Rattle.buslink.specs.Attempts.{ReportParts, IsReportParts}
-use Rattle.ilimage.specs.Images.{ProcessImage}
+use Rattle.ilmachine.specs.Images.{ProcessImage}
 use Rattle.plantevents.specs.declared.event.Event.{Event}
 use Rattle.plantevents.specs.declared.event.Event.TheVariants.{Tick, Heard, Take, Commit, Hand, Done, Down, Up}
 use Rattle.plantevents.specs.Histories.{OpenHand, hand}

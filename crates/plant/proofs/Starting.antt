@@ -4,7 +4,7 @@ use Rattle.std.proofs.Common.{replicate, Option, refl, sym, subst, arith}
 use Rattle.std.proofs.lemmas.List.{get_or-replicate, length-replicate}
 use Rattle.limits.specs.Limits.{most_buses}
 use Rattle.ilcompile.specs.Loaded.{Loaded}
-use Rattle.ilimage.specs.Images.{ProcessImage}
+use Rattle.ilmachine.specs.Images.{ProcessImage}
 use Rattle.plantevents.specs.declared.event.Event.{Event}
 use Rattle.plantevents.specs.Plants.{Plant, opening}
 use Rattle.plantevents.specs.Histories.{OpenScan}

@@ -13,10 +13,10 @@ use Rattle.ilplan.specs.declared.instance.FunctionBlock.{FunctionBlock}
 use Rattle.ilplan.specs.declared.slot.Slot.{Slot}
 use Rattle.ilplan.specs.Beginnings.{HasEach}
 use Rattle.ilcode.specs.Listings.{Listing, lasting_types}
-use Rattle.ilimage.specs.Verdicts.{Accepted}
+use Rattle.ilmachine.specs.Verdicts.{Accepted}
 use Rattle.ilcompile.specs.Loaded.{AreCodes}
 use Rattle.ilcompile.proofs.CodeLemmas.{all_last, code_at}
-use Rattle.ilimage.specs.Images.{ProcessImage, Layout, layout_of, verified_of}
+use Rattle.ilmachine.specs.Images.{ProcessImage, Layout, layout_of, verified_of}
 use Rattle.plantevents.specs.declared.event.Event.{Event}
 use Rattle.plantevents.specs.Plants.{Plant}
 use Rattle.plantbuses.specs.KeptSteps.{ImageFollows}

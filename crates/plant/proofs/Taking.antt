@@ -10,11 +10,11 @@ use Rattle.ilplan.specs.Plans.{PlannedTask}
 use Rattle.ilplan.specs.declared.global.Location.{Location}
 use Rattle.ilplan.specs.declared.global.Location.TheVariants.{Level, GearAnswer, DeviceAnswer, Information, Count}
 use Rattle.ilplan.specs.declared.global.Location.TheVariants.{Trigger}
-use Rattle.ilimage.specs.Verdicts.{Accepted}
-use Rattle.ilimage.specs.declared.overriding.Override.{Override}
-use Rattle.ilimage.specs.Images.{ProcessImage, TaskImage, TaskLayout, ImageVariable, Global, Own, layout_of, value_of}
-use Rattle.ilimage.specs.Images.{verified_of, blocks_of, variable_in, overridden, value_under}
-use Rattle.ilimage.specs.Snapshots.{ScanStart}
+use Rattle.ilmachine.specs.Verdicts.{Accepted}
+use Rattle.ilmachine.specs.declared.overriding.Override.{Override}
+use Rattle.ilmachine.specs.Images.{ProcessImage, TaskImage, TaskLayout, ImageVariable, Global, Own, layout_of, value_of}
+use Rattle.ilmachine.specs.Images.{verified_of, blocks_of, variable_in, overridden, value_under}
+use Rattle.ilmachine.specs.Snapshots.{ScanStart}
 use Rattle.plantevents.specs.declared.activator.PendingEvent.{PendingEvent}
 use Rattle.plantevents.specs.declared.event.Event.{Event}
 use Rattle.plantevents.specs.declared.event.Event.TheVariants.{Tick, Heard, Take, Commit, Hand, Done, Down, Up}

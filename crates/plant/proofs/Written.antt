@@ -10,10 +10,10 @@ use Rattle.iltypes.specs.Values.{AreOf}
 use Rattle.ilblocks.specs.Calls.{Block}
 use Rattle.ilblocks.proofs.Blocks.{as_long}
 use Rattle.ilcode.specs.Listings.{lasting_types}
-use Rattle.ilimage.specs.Images.{ProcessImage, TaskImage, TaskLayout, Layout, ImageVariable, Own, IsImage, layout_of}
-use Rattle.ilimage.specs.Images.{value_of, blocks_of, own_types, written_at, written_in}
-use Rattle.ilimage.proofs.Places.{externals_fit, layout_at}
-use Rattle.ilimage.proofs.Commits.{past_end, lawful_task}
+use Rattle.ilmachine.specs.Images.{ProcessImage, TaskImage, TaskLayout, Layout, ImageVariable, Own, IsImage, layout_of}
+use Rattle.ilmachine.specs.Images.{value_of, blocks_of, own_types, written_at, written_in}
+use Rattle.ilmachine.proofs.ImagePlaces.{externals_fit, layout_at}
+use Rattle.ilmachine.proofs.Commits.{past_end, lawful_task}
 use Rattle.plantevents.specs.Scans.{Scan}
 use Rattle.plantevents.specs.declared.event.Event.{Event}
 use Rattle.plantevents.specs.declared.event.Event.TheVariants.{Commit}

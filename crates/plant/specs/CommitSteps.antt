@@ -1,7 +1,7 @@
 -- What private functions commit.
 use Rattle.std.specs.Prelude.{◌≡◌, ℕ, ◌<◌, ◌≤◌, All, length, Some}
 use Rattle.limits.specs.Limits.{most_requests}
-use Rattle.ilimage.specs.Images.{verified_of}
+use Rattle.ilmachine.specs.Images.{verified_of}
 use Rattle.plantevents.specs.Scans.{Scan}
 use Rattle.plantevents.specs.Plants.{layout}
 use Rattle.plantevents.specs.Legal.{IsCommit}

@@ -7,7 +7,7 @@ use Rattle.wordlines.specs.declared.sources.BoundSource.{BoundSource}
 use Rattle.ilplan.specs.declared.global.Location.{Location}
 use Rattle.ilplan.specs.declared.global.Location.TheVariants.{Information, Count}
 use Rattle.ilplan.specs.Plans.{Planned}
-use Rattle.ilimage.specs.Images.{ImageVariable, Global, Own}
+use Rattle.ilmachine.specs.Images.{ImageVariable, Global, Own}
 use Rattle.dalievent.specs.Messages.{is_message, information}
 use Rattle.plantevents.specs.Variables.{whole}
 use Rattle.plant.specs.KeptSteps.{source_in}

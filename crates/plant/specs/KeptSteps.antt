@@ -5,7 +5,7 @@ use Rattle.limits.specs.Limits.{most_total}
 use Rattle.wordlines.specs.declared.sources.BoundSource.{BoundSource}
 use Rattle.daliframe.specs.declared.schemes.EventScheme.TheVariants.{Instance}
 use Rattle.ilplan.specs.declared.global.Global.{Global as GlobalVariable}
-use Rattle.ilimage.specs.Images.{ProcessImage}
+use Rattle.ilmachine.specs.Images.{ProcessImage}
 use Rattle.plantevents.specs.declared.event.Event.{Event}
 use Rattle.plantevents.specs.Plants.{first_count}
 use Rattle.plantevents.specs.Histories.{OpenScan, moment, message_count}

@@ -2,8 +2,8 @@
 use Rattle.std.specs.Prelude.{◌≡◌, ℕ, List, All, map, slice_get, Some}
 use Rattle.iltypes.specs.declared.value.IlType.{IlType}
 use Rattle.ilplan.specs.Plans.{PlannedTask, Planned}
-use Rattle.ilimage.specs.Verdicts.{Accepted}
-use Rattle.ilimage.specs.Images.{TaskImage, first_task, IsLawfulTask}
+use Rattle.ilmachine.specs.Verdicts.{Accepted}
+use Rattle.ilmachine.specs.Images.{TaskImage, first_task, IsLawfulTask}
 use Rattle.ilcompile.specs.Loaded.{Loaded}
 use Rattle.plantevents.specs.Plants.{Plant, externals_of, own_initials}
 use Rattle.plant.specs.Shown.{plant_of}

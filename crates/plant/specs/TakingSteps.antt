@@ -4,8 +4,8 @@ use Rattle.iltypes.specs.declared.value.Value.{Value}
 use Rattle.ilplan.specs.declared.global.Location.{Location}
 use Rattle.ilplan.specs.declared.global.Location.TheVariants.{Trigger}
 use Rattle.ilplan.specs.Plans.{Planned}
-use Rattle.ilimage.specs.declared.overriding.Override.{Override}
-use Rattle.ilimage.specs.Snapshots.{MayHave}
+use Rattle.ilmachine.specs.declared.overriding.Override.{Override}
+use Rattle.ilmachine.specs.Snapshots.{MayHave}
 use Rattle.plantevents.specs.declared.activator.PendingEvent.{PendingEvent}
 use Rattle.plantevents.specs.declared.event.Event.{Event}
 use Rattle.plantevents.specs.Plants.{Plant, location, trigger_of, activator}

@@ -1,14 +1,14 @@
 //! What reports of transactions write to the process image.
 
 ghost use Rattle.std.specs.Prelude.{◌≡◌, ℕ, map};
-ghost use Rattle.ilimage.specs.Images.{ImageVariable, layout_of, value_of, blocks_of};
+ghost use Rattle.ilmachine.specs.Images.{ImageVariable, layout_of, value_of, blocks_of};
 ghost use Rattle.plantevents.specs.Variables.{newest};
 ghost use Rattle.plantbuses.specs.AnswerSteps.{answer_at};
 ghost use Rattle.plant.specs.IndexSteps.{AreInputsOf};
 
 use crate::inputs::give;
 use buslink::Outcome;
-use ilimage::Image;
+use ilmachine::Image;
 use ilplan::Plan;
 use plantbuses::answer_to;
 use plantevents::Origin;

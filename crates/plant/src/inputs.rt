@@ -4,9 +4,9 @@ ghost use Rattle.std.specs.Prelude.{◌≡◌, ◌≢◌, ℕ, ◌+◌, ◌<◌,
 ghost use Rattle.std.specs.Prelude.{IfSome};
 ghost use Rattle.std.specs.List.{position};
 ghost use Rattle.iltypes.specs.declared.value.IlType.{IlType};
-ghost use Rattle.ilimage.specs.Images.{ImageVariable, layout_of, value_of, blocks_of};
-ghost use Rattle.ilimage.specs.Images.{Global as GlobalVariable};
-ghost use Rattle.ilimage.specs.Snapshots.{MayHave};
+ghost use Rattle.ilmachine.specs.Images.{ImageVariable, layout_of, value_of, blocks_of};
+ghost use Rattle.ilmachine.specs.Images.{Global as GlobalVariable};
+ghost use Rattle.ilmachine.specs.Snapshots.{MayHave};
 ghost use Rattle.plantevents.specs.Variables.{newest};
 ghost use Rattle.plantbuses.specs.AnswerSteps.{IsWrittenAs};
 ghost use Rattle.plant.specs.IndexSteps.{IsFromBus, numbers_on, sources_on};
@@ -14,7 +14,7 @@ ghost use Rattle.plant.specs.InputSteps.{is_bound_at, written_by, input_at};
 
 use crate::index::BusInputs;
 use daliframe::Frame24;
-use ilimage::Image;
+use ilmachine::Image;
 use ilplan::{Location, Plan};
 use iltypes::Value;
 use wordlines::BoundSource;

@@ -7,15 +7,15 @@ ghost use Rattle.std.specs.Prelude.{IfSome};
 ghost use Rattle.std.specs.Arc.{arc_value};
 ghost use Rattle.ilplan.specs.Plans.{PlannedTask, HasStates, KeepsLimits, IsTaskOf};
 ghost use Rattle.ilcompile.specs.Loaded.{IsCodeOf};
-ghost use Rattle.ilimage.specs.Verdicts.{Accepted};
-ghost use Rattle.ilimage.specs.Images.{first_task, IsLawfulTask};
+ghost use Rattle.ilmachine.specs.Verdicts.{Accepted};
+ghost use Rattle.ilmachine.specs.Images.{first_task, IsLawfulTask};
 ghost use Rattle.plantevents.specs.Plants.{externals_of, external_in, own_by, own_initials};
 ghost use Rattle.plantevents.specs.Plants.{first_tasks, opening};
 ghost use Rattle.plant.specs.OpeningSteps.{IsFirstImage, AreLawfulTasks, global_types, as_planned};
 
 use ilblocks::BlockState;
 use ilcompile::Setup;
-use ilimage::{External, Image, TaskImage, Verified};
+use ilmachine::{External, Image, TaskImage, Verified};
 use ilplan::{Plan, Slot, SlotOwner, Task};
 use iltypes::{IlType, Value};
 use std::alloc::{AllocError, Global};

@@ -4,14 +4,14 @@ ghost use Rattle.std.specs.Prelude.{◌≡◌, ◌≤◌, ◌<◌, ℕ, All, Lis
 ghost use Rattle.std.specs.Prelude.{IfOk, IfSome};
 ghost use Rattle.iltypes.specs.declared.value.IlType.{IlType};
 ghost use Rattle.iltypes.specs.declared.value.Value.{Value as AnyValue};
-ghost use Rattle.ilimage.specs.Images.{overridden};
+ghost use Rattle.ilmachine.specs.Images.{overridden};
 ghost use Rattle.plantevents.specs.Variables.{event_value, newest};
 ghost use Rattle.plantbuses.specs.AnswerSteps.{IsWrittenAs};
 ghost use Rattle.plant.specs.IndexSteps.{AreInputsOf};
 ghost use Rattle.plant.specs.TakingSteps.{event_at, given_to, IsInType};
 
 use crate::opening::push_some;
-use ilimage::Override;
+use ilmachine::Override;
 use ilplan::{Location, Plan};
 use iltypes::Value;
 use plantevents::PendingEvent;

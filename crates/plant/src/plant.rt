@@ -33,7 +33,7 @@ use daliframe::Frame24;
 use ghosts::Trace;
 pub use handing::Handed;
 use ilcompile::Setup;
-use ilimage::Image;
+use ilmachine::Image;
 use limits::{FEW_BUSES, LEAST_EVENTS_OF_MANY};
 pub use limits::{LEAST_EVENTS as LEAST_LIMIT, MOST_EVENTS as MOST_LIMIT, MOST_WORKERS};
 use plantbuses::{

@@ -1,7 +1,7 @@
 //! What scans write to the process image.
 
 ghost use Rattle.std.specs.Prelude.{◌≡◌, ℕ, ◌∷◌, List, Some};
-ghost use Rattle.ilimage.specs.Images.{layout_of, verified_of};
+ghost use Rattle.ilmachine.specs.Images.{layout_of, verified_of};
 ghost use Rattle.plantevents.specs.declared.event.Event.{Event};
 ghost use Rattle.plantevents.specs.declared.event.Event.TheVariants.{Commit};
 ghost use Rattle.plantevents.specs.Plants.{Plant as Made};
@@ -9,7 +9,7 @@ ghost use Rattle.plantevents.specs.Histories.{OpenScan};
 ghost use Rattle.plantevents.specs.Histories as histories;
 ghost use Rattle.plantbuses.specs.KeptSteps.{ImageFollows};
 
-use ilimage::Image;
+use ilmachine::Image;
 use plantevents::{ScanResult, what_a_scan_writes};
 
 /// Writes what a scan of a task came to: the global variables that the task stores, its own

@@ -13,7 +13,7 @@ use Rattle.wordlines.specs.Wirings.{Wiring}
 use Rattle.ilplan.specs.declared.global.Global.{Global as GlobalVariable}
 use Rattle.ilplan.specs.declared.global.Location.{Location}
 use Rattle.ilplan.specs.Plans.{Planned, HasUpTo, IsLawful, IsLocatedIn, IsAddressIn, Suits, wiring_of}
-use Rattle.ilimage.specs.Snapshots.{MayHave}
+use Rattle.ilmachine.specs.Snapshots.{MayHave}
 use Rattle.plantevents.specs.Variables.{whole}
 use Rattle.plantbuses.specs.AnswerSteps.{IsWrittenAs}
 

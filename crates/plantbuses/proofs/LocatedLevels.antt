@@ -19,7 +19,7 @@ use Rattle.ilplan.specs.declared.global.Location.TheVariants.{Level, GearAnswer,
 use Rattle.ilplan.specs.declared.global.Location.TheVariants.{Trigger}
 use Rattle.ilplan.specs.declared.slot.Slot.{Slot}
 use Rattle.ilplan.specs.Plans.{PlannedTask}
-use Rattle.ilimage.specs.declared.external.External.{External}
+use Rattle.ilmachine.specs.declared.external.External.{External}
 use Rattle.plantevents.specs.Plants.{Plant, is_level, first_number, kind_by, stores_global, external_in}
 use Rattle.plantevents.specs.Plants.{externals_from}
 use Rattle.plantbuses.specs.declared.outputs.LevelOutput.{LevelOutput}

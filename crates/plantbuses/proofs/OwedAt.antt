@@ -17,7 +17,7 @@ use Rattle.ilplan.specs.declared.global.Location.{Location}
 use Rattle.ilplan.specs.declared.global.Location.TheVariants.{Level, GearAnswer, DeviceAnswer, Information, Count}
 use Rattle.ilplan.specs.declared.global.Location.TheVariants.{Trigger}
 use Rattle.ilplan.specs.Plans.{IsLawful, AreLevels, wiring_of, IsLocatedIn}
-use Rattle.ilimage.specs.Snapshots.{MayHave}
+use Rattle.ilmachine.specs.Snapshots.{MayHave}
 use Rattle.plantevents.specs.declared.event.Event.{Event}
 use Rattle.plantevents.specs.Plants.{Plant, location, is_level, first_number, output_at, storing_kind}
 use Rattle.plantevents.specs.Waiting.{owed_by, owed_at}

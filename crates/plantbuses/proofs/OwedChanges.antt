@@ -19,8 +19,8 @@ use Rattle.ilplan.specs.declared.global.Global.{Global as GlobalVariable}
 use Rattle.ilplan.specs.declared.global.Location.{Location}
 use Rattle.ilplan.specs.declared.global.Location.TheVariants.{Level}
 use Rattle.ilplan.specs.Plans.{Planned}
-use Rattle.ilimage.specs.declared.external.External.{External}
-use Rattle.ilimage.specs.Images.{TaskLayout, Global}
+use Rattle.ilmachine.specs.declared.external.External.{External}
+use Rattle.ilmachine.specs.Images.{TaskLayout, Global}
 use Rattle.plantevents.specs.Scans.{Scan}
 use Rattle.plantevents.specs.declared.event.Origin.{Origin}
 use Rattle.plantevents.specs.declared.event.Origin.TheVariants.{Queued, Output}

@@ -14,13 +14,13 @@ use Rattle.ilplan.specs.declared.global.Location.{Location}
 use Rattle.ilplan.specs.declared.global.Location.TheVariants.{Level, GearAnswer, DeviceAnswer, Information, Count}
 use Rattle.ilplan.specs.declared.global.Location.TheVariants.{Trigger}
 use Rattle.ilplan.specs.Plans.{Planned, IsLawful, IsLocatedIn, IsAddressIn, Suits, wiring_of}
-use Rattle.ilimage.specs.declared.external.External.{External}
-use Rattle.ilimage.specs.declared.slots.StoredSlot.{StoredSlot}
-use Rattle.ilimage.specs.Images.{ProcessImage, TaskImage, IsImage, layout_of}
-use Rattle.ilimage.specs.Images.{TaskLayout, stored_slot, stored_from, stored_slots}
-use Rattle.ilimage.proofs.Commits.{named_there}
-use Rattle.ilimage.proofs.Places.{layout_at}
-use Rattle.ilimage.proofs.StoredSlots.{all_stores}
+use Rattle.ilmachine.specs.declared.external.External.{External}
+use Rattle.ilmachine.specs.declared.slots.StoredSlot.{StoredSlot}
+use Rattle.ilmachine.specs.Images.{ProcessImage, TaskImage, IsImage, layout_of}
+use Rattle.ilmachine.specs.Images.{TaskLayout, stored_slot, stored_from, stored_slots}
+use Rattle.ilmachine.proofs.Commits.{named_there}
+use Rattle.ilmachine.proofs.ImagePlaces.{layout_at}
+use Rattle.ilmachine.proofs.StoredSlots.{all_stores}
 use Rattle.plantevents.specs.declared.event.Event.{Event}
 use Rattle.plantevents.specs.Plants.{Plant}
 use Rattle.plantbuses.specs.declared.outputs.LevelOutput.{LevelOutput}

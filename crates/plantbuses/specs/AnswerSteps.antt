@@ -7,7 +7,7 @@ use Rattle.gearcmd.specs.declared.requests.Answerer.{Answerer}
 use Rattle.buslink.specs.declared.marks.Outcome.{Outcome}
 use Rattle.ilplan.specs.declared.global.Location.{Location}
 use Rattle.ilplan.specs.Plans.{Planned, HasUpTo, Suits}
-use Rattle.ilimage.specs.Images.{ImageVariable, Global, Own}
+use Rattle.ilmachine.specs.Images.{ImageVariable, Global, Own}
 use Rattle.plantevents.specs.declared.event.Origin.{Origin}
 use Rattle.plantevents.specs.Variables.{answerer_by, is_answer_of, outcome_value}
 

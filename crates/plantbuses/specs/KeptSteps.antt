@@ -4,7 +4,7 @@ use Rattle.std.specs.Prelude.{Option, None}
 use Rattle.gearcmd.specs.declared.requests.Request.{Request}
 use Rattle.busqueue.specs.declared.class.Class.{Class}
 use Rattle.busqueue.specs.Queues.{BusQueues, queue, queue_of, class_number}
-use Rattle.ilimage.specs.Images.{ProcessImage, ImageVariable, layout_of, value_of, blocks_of}
+use Rattle.ilmachine.specs.Images.{ProcessImage, ImageVariable, layout_of, value_of, blocks_of}
 use Rattle.plantevents.specs.declared.event.Event.{Event}
 use Rattle.plantevents.specs.Plants.{Plant, layout}
 use Rattle.plantevents.specs.Histories.{OpenScan, OpenHand, scan, hand, is_down}

@@ -6,7 +6,7 @@ use Rattle.gearcmd.specs.declared.requests.TaskKind.TheVariants.{Cyclic}
 use Rattle.ilplan.specs.declared.global.Location.{Location}
 use Rattle.ilplan.specs.declared.global.Location.TheVariants.{Level}
 use Rattle.ilplan.specs.Plans.{Planned}
-use Rattle.ilimage.specs.declared.external.External.{External}
+use Rattle.ilmachine.specs.declared.external.External.{External}
 use Rattle.plantevents.specs.Plants.{Plant, output_at, storing_kind}
 use Rattle.plantbuses.specs.declared.outputs.LevelOutput.{LevelOutput}
 

@@ -4,9 +4,9 @@ use Rattle.std.specs.Prelude.{if◌then◌else◌}
 use Rattle.std.specs.List.{list_any}
 use Rattle.busqueue.specs.declared.class.Class.{Class}
 use Rattle.ilplan.specs.Plans.{Planned}
-use Rattle.ilimage.specs.declared.external.External.{External}
-use Rattle.ilimage.specs.declared.slots.StoredSlot.{StoredSlot}
-use Rattle.ilimage.specs.Images.{TaskLayout, Layout}
+use Rattle.ilmachine.specs.declared.external.External.{External}
+use Rattle.ilmachine.specs.declared.slots.StoredSlot.{StoredSlot}
+use Rattle.ilmachine.specs.Images.{TaskLayout, Layout}
 use Rattle.plantevents.specs.declared.event.Event.{Event}
 use Rattle.plantevents.specs.Plants.{Plant}
 use Rattle.plantbuses.specs.declared.outputs.LevelOutput.{LevelOutput}

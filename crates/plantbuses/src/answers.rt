@@ -2,8 +2,8 @@
 
 ghost use Rattle.std.specs.Prelude.{◌≡◌, ◌<◌, length, map, Some, IfSome};
 ghost use Rattle.iltypes.specs.declared.value.IlType.{IlType};
-ghost use Rattle.ilimage.specs.Images.{Global as GlobalVariable};
-ghost use Rattle.ilimage.specs.Snapshots.{MayHave};
+ghost use Rattle.ilmachine.specs.Images.{Global as GlobalVariable};
+ghost use Rattle.ilmachine.specs.Snapshots.{MayHave};
 ghost use Rattle.plantevents.specs.Variables.{reply_value, outcome_value, answerer_by};
 ghost use Rattle.plantevents.specs.Variables.{is_answer_of};
 ghost use Rattle.plantbuses.specs.AnswerSteps.{FitsAnswers, IsWrittenAs, answer_write, answer_at};

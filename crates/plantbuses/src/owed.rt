@@ -23,7 +23,7 @@ use crate::next::Next;
 use crate::outputs::{BusOutputs, LEVELS};
 use busqueue::Class;
 use gearcmd::TaskKind;
-use ilimage::Image;
+use ilmachine::Image;
 use iltypes::Value;
 use plantevents::Origin;
 use std::alloc::{AllocError, Global};

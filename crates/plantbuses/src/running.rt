@@ -2,7 +2,7 @@
 
 ghost use Rattle.std.specs.Prelude.{◌≡◌, ◌↔◌, ℕ, ◌+◌, ◌<◌, ◌^◌, ◌∷◌, List, IfOk, IsTrue, length};
 ghost use Rattle.std.specs.Prelude.{slice_index_or};
-ghost use Rattle.ilimage.specs.Snapshots.{ScanStart};
+ghost use Rattle.ilmachine.specs.Snapshots.{ScanStart};
 ghost use Rattle.plantevents.specs.Scans.{Scan};
 ghost use Rattle.plantevents.specs.declared.event.Event.{Event};
 ghost use Rattle.plantevents.specs.declared.event.Event.TheVariants.{Take, Commit};

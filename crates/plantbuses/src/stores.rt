@@ -3,7 +3,7 @@
 ghost use Rattle.std.specs.Prelude.{◌≡◌, ℕ, ◌<◌, List, length, map, true, false};
 ghost use Rattle.std.specs.Int.{bit_at};
 ghost use Rattle.busqueue.specs.declared.class.Class.{Class as RequestClass};
-ghost use Rattle.ilimage.specs.Images.{layout_of};
+ghost use Rattle.ilmachine.specs.Images.{layout_of};
 ghost use Rattle.plantevents.specs.declared.event.Event.{Event};
 ghost use Rattle.plantevents.specs.Plants.{Plant as Made};
 ghost use Rattle.plantbuses.specs.KeptSteps.{BusesFollow, ImageFollows};
@@ -15,7 +15,7 @@ use crate::bus::BusState;
 use crate::levels::level_of;
 use crate::outputs::BusOutputs;
 use crate::owed::{OwedLevels, note_level};
-use ilimage::Image;
+use ilmachine::Image;
 use ilplan::Plan;
 
 /// Notes whether the level is owed at which a global variable is located.

@@ -11,7 +11,7 @@ use Rattle.ilplan.specs.declared.slot.SlotOwner as slots
 use Rattle.ilplan.specs.declared.slot.SlotOwner.TheVariants as slot
 use Rattle.ilplan.specs.Plans.{PlannedTask, stores, Precedes, AreOrdered}
 use Rattle.ilmachine.specs.Verdicts.{Accepted}
-use Rattle.ilmachine.specs.External.{External}
+use Rattle.ilmachine.specs.declared.external.External.{External}
 use Rattle.ilmachine.specs.Images.{TaskLayout, first_task, variable_at}
 use Rattle.ilmachine.specs.Images.{written_at}
 use Rattle.plantevents.specs.Plants.{Plant, task_at, external_in, externals_from, externals_of, own_by, own_initials}

@@ -6,7 +6,7 @@ use Rattle.std.proofs.lemmas.Bool.Decides.{eqb_tells}
 use Rattle.std.proofs.lemmas.Option.{slice_get_past}
 use Rattle.std.specs.Prelude.{if◌then◌else◌, ◌==◌, slice_get}
 use Rattle.iltypes.specs.declared.value.Value.{Value}
-use Rattle.ilmachine.specs.External.{External}
+use Rattle.ilmachine.specs.declared.external.External.{External}
 use Rattle.ilmachine.specs.Images.{Layout, TaskLayout, ImageVariable, Global, Own, written_at, written_in}
 use Rattle.plantevents.specs.Variables.{stored_value}
 use Rattle.plantevents.specs.Writes.{IsWrittenFrom, IsNotWritten}

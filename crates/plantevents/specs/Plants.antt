@@ -19,7 +19,7 @@ use Rattle.ilplan.specs.declared.slot.SlotOwner as slots
 use Rattle.ilplan.specs.declared.slot.SlotOwner.TheVariants as slot
 use Rattle.ilplan.specs.Plans.{Planned, PlannedTask, stores, task_kind}
 use Rattle.ilmachine.specs.Verdicts.{Accepted}
-use Rattle.ilmachine.specs.External.{External}
+use Rattle.ilmachine.specs.declared.external.External.{External}
 use Rattle.ilmachine.specs.Images.{ProcessImage, TaskImage, Layout, image_of, layout_of, first_task}
 use Rattle.plantevents.specs.declared.activator.Activator.{Activator}
 use Rattle.plantevents.specs.declared.activator.Activator.TheVariants.{Interval, Messages}

@@ -14,7 +14,7 @@ use Rattle.buslink.specs.declared.marks.Outcome.TheVariants as outcome
 use Rattle.ilplan.specs.Calls.{Block}
 use Rattle.ilplan.specs.declared.global.Location.{Location}
 use Rattle.ilplan.specs.declared.global.Location.TheVariants.{GearAnswer, DeviceAnswer, Information, Count, Trigger}
-use Rattle.ilmachine.specs.External.{External}
+use Rattle.ilmachine.specs.declared.external.External.{External}
 use Rattle.ilmachine.specs.Images.{TaskLayout, ImageVariable, Global, Own, value_of, blocks_of, variable_in}
 use Rattle.ilmachine.specs.Snapshots.{ScanStart}
 use Rattle.plantevents.specs.declared.activator.PendingEvent.{PendingEvent}

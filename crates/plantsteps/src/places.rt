@@ -2,7 +2,7 @@
 
 ghost use Rattle.std.specs.Prelude.{◌≡◌, ◌<◌, ◌∷◌, ℕ, List, None, Some, length, IfOk, IfSome, slice_index_or};
 ghost use Rattle.buslink.specs.Attempts.{ReportParts};
-ghost use Rattle.ilimage.specs.Snapshots.{ScanStart};
+ghost use Rattle.ilmachine.specs.Snapshots.{ScanStart};
 ghost use Rattle.ilmachine.specs.Scans.{Scan, task_of};
 ghost use Rattle.plantevents.specs.declared.event.Event.{Event};
 ghost use Rattle.plantevents.specs.declared.event.Event.TheVariants as event;

@@ -4,7 +4,7 @@ use Rattle.buslink.specs.declared.marks.Outcome.TheVariants as outcome
 use Rattle.buslink.specs.Attempts.{ReportParts}
 use Rattle.buslink.specs.BusLog.{BusLog, after_mend, after_resume, with_spare}
 use Rattle.buslink.specs.Performing.{after_report}
-use Rattle.ilimage.specs.Snapshots.{ScanStart}
+use Rattle.ilmachine.specs.Snapshots.{ScanStart}
 use Rattle.ilmachine.specs.Scans.{Scan}
 use Rattle.plantevents.specs.declared.event.Event.TheVariants.{Take, Commit, Hand, Done, Down, Up}
 use Rattle.plantevents.specs.declared.event.Origin.{Origin}

@@ -2,8 +2,8 @@
 use Rattle.std.proofs.Common.{◌≡◌, ℕ, ◌<◌, List, [], ◌∷◌, length, map, Option, Some, option_and_then, refl, ap, subst, ◌∙◌, arith}
 use Rattle.std.proofs.lemmas.List.{length-map}
 use Rattle.iltypes.specs.declared.value.Value.{Value}
-use Rattle.ilimage.specs.declared.overriding.Override.{Override}
-use Rattle.ilimage.specs.Images.{ImageVariable, Global, ProcessImage, TaskImage, layout_of, value_of, value_under}
+use Rattle.ilmachine.specs.declared.overriding.Override.{Override}
+use Rattle.ilmachine.specs.Images.{ImageVariable, Global, ProcessImage, TaskImage, layout_of, value_of, value_under}
 
 -- a global variable in a slot has the value that is given for it
 pub has_override : (image : ProcessImage) (overrides : List Override) (given : Override)

@@ -8,7 +8,7 @@ use Rattle.ilcode.specs.Lasting.{begun, left_of}
 use Rattle.ilcode.specs.Listings.{Listing}
 use Rattle.ilcode.specs.Steps.{Ends}
 use Rattle.ilcode.proofs.RunPaths.{one_end}
-use Rattle.ilimage.specs.Snapshots.{ScanStart}
+use Rattle.ilmachine.specs.Snapshots.{ScanStart}
 use Rattle.ilmachine.specs.Scans.{IsScan, store_of}
 use Rattle.refusalscode.specs.Scans.{calling, calling_inside, calling_second, closing, jumping, no_blocks, one_block}
 use Rattle.refusalscode.specs.Scans.{requesting}

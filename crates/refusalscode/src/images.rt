@@ -2,13 +2,13 @@
 
 ghost use Rattle.std.specs.Prelude.{◌≡◌, ◌≢◌, ◌<◌, [], ◌∷◌, ℕ, All, IfOk, IsSomeAnd, Some};
 ghost use Rattle.std.specs.Prelude.{length, slice_get};
-ghost use Rattle.ilimage.specs.Images.{Global as GlobalVariable, Own, layout_of, value_of};
-ghost use Rattle.ilimage.specs.Images.{variable_in, verified_of, written_in};
-ghost use Rattle.ilimage.specs.Snapshots.{IsLastingOf, MayHave};
+ghost use Rattle.ilmachine.specs.Images.{Global as GlobalVariable, Own, layout_of, value_of};
+ghost use Rattle.ilmachine.specs.Images.{variable_in, verified_of, written_in};
+ghost use Rattle.ilmachine.specs.Snapshots.{IsLastingOf, MayHave};
 
 use ilblocks::BlockState;
 use ilcells::ValueRow;
-use ilimage::{Image, Override, Snapshot};
+use ilmachine::{Image, Override, Snapshot};
 use iltypes::Value;
 use std::alloc::AllocError;
 

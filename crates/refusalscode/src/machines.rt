@@ -5,8 +5,7 @@ ghost use Rattle.std.specs.Prelude.{◌≡◌, [], ◌∷◌, IfOk, length, pos}
 ghost use Rattle.refusalscode.specs.Scans.{calling, calling_inside, calling_second, closing, jumping};
 ghost use Rattle.refusalscode.specs.Scans.{no_blocks, one_block, requesting};
 
-use ilimage::Snapshot;
-use ilmachine::{ScanResult, scan};
+use ilmachine::{ScanResult, Snapshot, scan};
 use iltypes::Value;
 use std::alloc::AllocError;
 

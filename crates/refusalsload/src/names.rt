@@ -2,7 +2,7 @@
 
 ghost use Rattle.std.specs.Prelude.{◌≡◌, ◌<◌, ℕ, [], Some, codes, false, length, pos, true};
 ghost use Rattle.iltypes.specs.declared.value.Value.TheVariants as values;
-ghost use Rattle.ilimage.specs.Images.{Global as GlobalVariable};
+ghost use Rattle.ilmachine.specs.Images.{Global as GlobalVariable};
 ghost use Rattle.ilplan.specs.Plans.{instance_name, variable_name};
 ghost use Rattle.ilplan.specs.declared.slot.SlotOwner.{SlotOwner as Owner};
 ghost use Rattle.plantevents.specs.Variables.{value};

@@ -3,7 +3,7 @@ use Rattle.std.proofs.Common.{◌≡◌, ◌≢◌, ◌<◌, ◌+◌, ℕ, Bool,
 use Rattle.std.proofs.Common.{refl, ap, sym, subst, arith, lit≤}
 use Rattle.std.proofs.lemmas.Bool.{ne_eqb}
 use Rattle.std.specs.Prelude.{flat_map, if◌then◌else◌}
-use Rattle.ilimage.specs.Images.{Global}
+use Rattle.ilmachine.specs.Images.{Global}
 use Rattle.plantevents.specs.declared.event.Event.{Event}
 use Rattle.plantevents.specs.declared.event.Event.TheVariants.{Up}
 use Rattle.plantevents.specs.Histories.{is_down}

@@ -5,7 +5,7 @@ use Rattle.iltypes.specs.declared.value.Value.{Value}
 use Rattle.gearcmd.specs.FrameLists.{FrameList}
 use Rattle.busqueue.specs.declared.class.Class.{Class}
 use Rattle.busqueue.specs.Queues.{class_number}
-use Rattle.ilimage.specs.Images.{Global}
+use Rattle.ilmachine.specs.Images.{Global}
 use Rattle.plantevents.specs.declared.event.Event.{Event}
 use Rattle.plantevents.specs.declared.event.Event.TheVariants.{Hand}
 use Rattle.plantevents.specs.declared.event.Origin.{Origin}

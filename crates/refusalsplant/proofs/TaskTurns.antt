@@ -5,7 +5,7 @@ use Rattle.std.specs.Prelude.{if◌then◌else◌, nat_lt}
 use Rattle.dalievent.specs.declared.messages.EventSource.{EventSource}
 use Rattle.dalievent.specs.Messages.{is_message}
 use Rattle.circular_buffer.specs.Buffer.{keep_last}
-use Rattle.ilimage.specs.Snapshots.{ScanStart}
+use Rattle.ilmachine.specs.Snapshots.{ScanStart}
 use Rattle.ilmachine.specs.Scans.{Scan}
 use Rattle.plantevents.specs.declared.activator.Activator.{Activator}
 use Rattle.plantevents.specs.declared.activator.Activator.TheVariants.{Interval, Messages}

@@ -1,6 +1,6 @@
 -- Scans of the first task.
 use Rattle.std.specs.Prelude.{List, ◌∷◌, length}
-use Rattle.ilimage.specs.Snapshots.{ScanStart}
+use Rattle.ilmachine.specs.Snapshots.{ScanStart}
 use Rattle.ilmachine.specs.Scans.{Scan}
 use Rattle.plantevents.specs.declared.event.Event.{Event}
 use Rattle.plantevents.specs.declared.event.Event.TheVariants.{Take, Commit}

@@ -1,7 +1,7 @@
 //! Buses that come up again.
 
 ghost use Rattle.std.specs.Prelude.{◌≡◌, ◌≢◌, ◌+◌, ◌<◌, [], Err, IfOk, Some, false, length, true};
-ghost use Rattle.ilimage.specs.Images.{Global as GlobalVariable};
+ghost use Rattle.ilmachine.specs.Images.{Global as GlobalVariable};
 ghost use Rattle.plantevents.specs.Histories.{hand, is_down};
 ghost use Rattle.plantevents.specs.Plants.{output_at};
 ghost use Rattle.plantevents.specs.Variables.{value, whole};

@@ -1,7 +1,7 @@
 //! What a plant takes, refuses and keeps.
 
 ghost use Rattle.std.specs.Prelude.{◌≡◌, ◌<◌, Err, IfErr, IfOk, Some, slice_get, true};
-ghost use Rattle.ilimage.specs.Images.{Global as GlobalVariable, variable_in};
+ghost use Rattle.ilmachine.specs.Images.{Global as GlobalVariable, variable_in};
 ghost use Rattle.plantevents.specs.Plants.{activator, layout, location, tries_of, trigger_of};
 ghost use Rattle.plantevents.specs.Readiness.{pending};
 ghost use Rattle.plantevents.specs.Variables.{value, whole};

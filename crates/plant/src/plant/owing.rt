@@ -3,7 +3,7 @@
 ghost use Rattle.std.specs.Prelude.{◌≡◌, ◌<◌, ◌≤◌, slice_get, map, IfSome};
 ghost use Rattle.std.specs.Prelude.{Some, option_map};
 ghost use Rattle.busqueue.specs.Queues.{class_number};
-ghost use Rattle.ilimage.specs.Images.{Global as GlobalVariable};
+ghost use Rattle.ilmachine.specs.Images.{Global as GlobalVariable};
 ghost use Rattle.plantevents.specs.Variables.{value, whole};
 ghost use Rattle.plantevents.specs.Waiting.{owed, level_handout};
 ghost use Rattle.plantbuses.specs.OutputSteps.{level_output};

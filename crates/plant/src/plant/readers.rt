@@ -4,7 +4,7 @@ ghost use Rattle.std.specs.Prelude.{◌≡◌, ℕ, ◌+◌, ◌≤◌, ◌<◌,
 ghost use Rattle.std.specs.Prelude.{IfOk, IfSome, option_and_then, slice_get};
 ghost use Rattle.limits.specs.Limits.{AreTries, most_total};
 ghost use Rattle.ilplan.specs.Beginnings.{HasEach};
-ghost use Rattle.ilimage.specs.Images.{Global as GlobalVariable, variable_in};
+ghost use Rattle.ilmachine.specs.Images.{Global as GlobalVariable, variable_in};
 ghost use Rattle.busqueue.specs.Queues.{class_number};
 ghost use Rattle.plantevents.specs.Plants.{activator, layout, tries_of};
 ghost use Rattle.plantevents.specs.Histories.{frames, hand, heards, is_down, scans};

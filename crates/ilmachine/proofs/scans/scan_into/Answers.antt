@@ -1,5 +1,5 @@
 use Rattle.std.proofs.Common.{subst, ap, ◌∙◌}
-use Rattle.ilimage.specs.Verdicts.{Accepted}
+use Rattle.ilverify.specs.Verdicts.{Accepted}
 use Rattle.ilmachine.specs.Scans.{IsScan, Task, store_of}
 use Rattle.ilmachine.proofs.Prepared.{made_scan}
 use Rattle.ilmachine.proofs.scans.scan_into.Goals as goal

@@ -1,6 +1,6 @@
 use Rattle.std.proofs.Common.{refl, ap, ◌∙◌, arith}
 use Rattle.std.specs.Prelude.{slice_index_or}
-use Rattle.ilimage.specs.Images.{Global, value_of}
+use Rattle.ilmachine.specs.Images.{Global, value_of}
 use Rattle.plantevents.specs.Variables.{answerer_by, newest}
 use Rattle.plantbuses.specs.AnswerSteps.{answer_at}
 use Rattle.plant.specs.IndexSteps.{place_of}

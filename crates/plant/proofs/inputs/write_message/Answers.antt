@@ -1,6 +1,6 @@
 use Rattle.std.proofs.Common.{refl, sym, ap, subst, ◌∙◌, arith}
 use Rattle.std.specs.Prelude.{slice_index_or}
-use Rattle.ilimage.specs.Images.{Global, value_of}
+use Rattle.ilmachine.specs.Images.{Global, value_of}
 use Rattle.plantevents.specs.Variables.{newest}
 use Rattle.plant.specs.IndexSteps.{AreInputsOf, place_of}
 use Rattle.plant.specs.InputSteps.{input_at}

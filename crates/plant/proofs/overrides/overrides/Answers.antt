@@ -1,6 +1,6 @@
 use Rattle.std.proofs.Common.{◌∙◌, ◌++◌, List, ap, sym, subst, arith, below_more}
 use Rattle.std.specs.Prelude.{All, option_map, option_to_list, slice_index_or}
-use Rattle.ilimage.specs.declared.overriding.Override.{Override}
+use Rattle.ilmachine.specs.declared.overriding.Override.{Override}
 use Rattle.plant.specs.TakingSteps.{event_at, given_to, IsInType}
 use Rattle.plant.proofs.Overriding.{HasEither, HasEvent, all_given, either_still, event_here, event_still, typed_more}
 use Rattle.plant.proofs.overrides.overrides.Goals as goal

@@ -4,10 +4,10 @@ use Rattle.std.specs.Option.{IsSomeAnd}
 use Rattle.iltypes.specs.declared.value.Value.{Value}
 use Rattle.iltypes.specs.Values.{AreOf}
 use Rattle.ilcode.specs.Listings.{lasting_types}
-use Rattle.ilimage.specs.Verdicts.{Accepted}
+use Rattle.ilmachine.specs.Verdicts.{Accepted}
 use Rattle.ilblocks.specs.Calls.{Block}
-use Rattle.ilimage.specs.Images.{TaskImage, IsTaskImage, layout_of}
-use Rattle.ilimage.proofs.Places.{with_task, layout_at}
+use Rattle.ilmachine.specs.Images.{TaskImage, IsTaskImage, layout_of}
+use Rattle.ilmachine.proofs.ImagePlaces.{with_task, layout_at}
 use Rattle.plant.proofs.Written.{IsCommitted, is_ended, image_committed}
 use Rattle.plant.proofs.writes.write_scan.Goals as goal
 

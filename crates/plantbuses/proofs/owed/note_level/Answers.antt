@@ -2,7 +2,7 @@ use Rattle.std.proofs.Common.{◌≡◌, ◌<◌, ℕ, false, None, Some, length
 use Rattle.std.proofs.lemmas.Bool.{and_right}
 use Rattle.std.proofs.lemmas.List.{get_or_read}
 use Rattle.std.specs.Prelude.{slice_index_or}
-use Rattle.ilimage.specs.Images.{Global}
+use Rattle.ilmachine.specs.Images.{Global}
 use Rattle.plantevents.specs.Waiting.{handed_level}
 use Rattle.plantbuses.specs.AddressSets.{one_if}
 use Rattle.plantbuses.specs.KeptSteps.{KeptBus}

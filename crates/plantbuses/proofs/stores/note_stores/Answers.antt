@@ -2,8 +2,8 @@ use Rattle.std.proofs.Common.{◌≡◌, ◌≤◌, ◌+◌, ◌∷◌, true, fa
 use Rattle.std.proofs.Common.{get_or, subst, arith}
 use Rattle.std.proofs.lemmas.List.{drop_more, drop_all}
 use Rattle.ilplan.specs.Plans.{Planned}
-use Rattle.ilimage.specs.declared.slots.StoredSlot.{StoredSlot}
-use Rattle.ilimage.proofs.StoredSlots.{no_store}
+use Rattle.ilmachine.specs.declared.slots.StoredSlot.{StoredSlot}
+use Rattle.ilmachine.proofs.StoredSlots.{no_store}
 use Rattle.plantbuses.specs.OutputSteps.{is_at, level_of}
 use Rattle.plantbuses.specs.StoreSteps.{OwedBesideSlots, has_store_at}
 use Rattle.plantbuses.proofs.StoredLevels.{storing, store_there, beside_slots, beside_turn}

@@ -1,5 +1,5 @@
 use Rattle.std.proofs.Common.{◌≡◌, ◌∙◌, ℕ, Option, Some, option_and_then, slice_get, ap}
-use Rattle.ilimage.specs.Images.{ImageVariable, Layout, layout_of, value_of, variable_in}
+use Rattle.ilmachine.specs.Images.{ImageVariable, Layout, layout_of, value_of, variable_in}
 use Rattle.refusalscode.proofs.ImageSlots.{as_many}
 use Rattle.refusalscode.proofs.Results.{if_ok}
 use Rattle.refusalscode.proofs.images.input_reaches_each_task.Goals as goal

@@ -1,5 +1,5 @@
 use Rattle.std.proofs.Common.{◌≡◌, ◌∙◌, ℕ, Some, option_and_then, slice_get}
-use Rattle.ilimage.specs.Images.{layout_of, value_under, variable_in}
+use Rattle.ilmachine.specs.Images.{layout_of, value_under, variable_in}
 use Rattle.refusalscode.proofs.ImageSlots.{has_override}
 use Rattle.refusalscode.proofs.Results.{if_ok}
 use Rattle.refusalscode.proofs.images.override_reaches_the_task.Goals as goal

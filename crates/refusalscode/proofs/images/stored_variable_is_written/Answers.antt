@@ -1,4 +1,4 @@
-use Rattle.ilimage.specs.Images.{Global}
+use Rattle.ilmachine.specs.Images.{Global}
 use Rattle.refusalscode.proofs.images.stored_variable_is_written.Goals as goal
 
 pub returns : goal.returns

@@ -1,4 +1,4 @@
-use Rattle.ilimage.specs.Images.{Global}
+use Rattle.ilmachine.specs.Images.{Global}
 use Rattle.refusalscode.proofs.images.variable_that_is_only_read_stays.Goals as goal
 
 pub returns : goal.returns

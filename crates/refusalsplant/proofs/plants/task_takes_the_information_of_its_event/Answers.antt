@@ -3,8 +3,8 @@ use Rattle.std.specs.Prelude.{option_and_then}
 use Rattle.iltypes.specs.declared.value.Value.{Value}
 use Rattle.ilplan.specs.declared.global.Location.{Location}
 use Rattle.ilplan.specs.declared.global.Location.TheVariants.{Information, Trigger}
-use Rattle.ilimage.specs.Images.{ImageVariable, Global, variable_in}
-use Rattle.ilimage.specs.Snapshots.{ScanStart}
+use Rattle.ilmachine.specs.Images.{ImageVariable, Global, variable_in}
+use Rattle.ilmachine.specs.Snapshots.{ScanStart}
 use Rattle.plantevents.specs.declared.activator.PendingEvent.{PendingEvent}
 use Rattle.plantevents.specs.declared.event.Event.{Event}
 use Rattle.plantevents.specs.Legal.{IsTake}

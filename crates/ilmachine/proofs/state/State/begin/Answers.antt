@@ -1,7 +1,7 @@
 use Rattle.std.proofs.Common.{◌++◌, Some, sym, ap, ◌∙◌, subst}
 use Rattle.ilblocks.specs.Stores.{Store}
 use Rattle.ilcode.specs.Listings.{Listing}
-use Rattle.ilimage.specs.Verdicts.{Accepted}
+use Rattle.ilverify.specs.Verdicts.{Accepted}
 use Rattle.ilmachine.specs.MachineSteps.{IsPrepared}
 use Rattle.ilcode.specs.Lasting.{least_values}
 use Rattle.ilmachine.proofs.Prepared.{prepared_whole}

@@ -5,7 +5,7 @@ use Rattle.gearcmd.specs.declared.requests.TaskKind.{TaskKind}
 use Rattle.gearcmd.specs.declared.requests.TaskKind.TheVariants.{Cyclic}
 use Rattle.ilplan.specs.declared.global.Global.{Global as GlobalVariable}
 use Rattle.ilplan.specs.Plans.{Planned}
-use Rattle.ilimage.specs.Images.{Layout}
+use Rattle.ilmachine.specs.Images.{Layout}
 use Rattle.plantevents.specs.declared.event.Event.TheVariants.{Commit}
 use Rattle.plantevents.specs.Plants.{kind_by, kind_of}
 use Rattle.plantbuses.specs.KeptSteps.{BusesFollow}

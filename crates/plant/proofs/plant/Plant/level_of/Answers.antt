@@ -4,7 +4,7 @@ use Rattle.ilblocks.proofs.Blocks.{as_long}
 use Rattle.iltypes.specs.declared.value.IlType.{IlType}
 use Rattle.ilplan.specs.declared.global.Global.{Global as GlobalVariable}
 use Rattle.ilplan.specs.Plans.{IsLawful}
-use Rattle.ilimage.specs.Snapshots.{MayHave}
+use Rattle.ilmachine.specs.Snapshots.{MayHave}
 use Rattle.plantbuses.specs.HandingSteps.{IsOutput}
 use Rattle.plantbuses.proofs.OwedAt.{value_is, output_below}
 use Rattle.plant.specs.Shown.{Shown, plant_of}

@@ -8,7 +8,7 @@ use Rattle.plant.proofs.Growing.{heard_says, image_heard, hear_room, place_count
 use Rattle.plant.proofs.Found.{writes_same}
 use Rattle.wordlines.specs.declared.sources.BoundSource.{BoundSource}
 use Rattle.ilplan.specs.Plans.{Planned}
-use Rattle.ilimage.specs.Images.{value_of}
+use Rattle.ilmachine.specs.Images.{value_of}
 use Rattle.plantevents.specs.Variables.{newest}
 use Rattle.plant.specs.IndexSteps.{numbers_on}
 use Rattle.plant.specs.InputSteps.{input_at}

@@ -1,7 +1,7 @@
 use Rattle.std.proofs.Common.{◌≡◌, Some, refl, sym, subst, ap, ◌∙◌}
 use Rattle.buslink.specs.declared.marks.Outcome.{Outcome}
 use Rattle.ilplan.specs.Plans.{Planned}
-use Rattle.ilimage.specs.Images.{value_of}
+use Rattle.ilmachine.specs.Images.{value_of}
 use Rattle.std.specs.Prelude.{slice_index_or}
 use Rattle.plantevents.specs.Histories.{OpenHand, hand}
 use Rattle.plantevents.specs.Variables.{newest}

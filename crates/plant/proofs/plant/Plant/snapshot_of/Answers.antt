@@ -1,8 +1,8 @@
 use Rattle.std.proofs.Common.{◌≡◌, ◌<◌, ℕ, List, Option, length, sym, subst}
 use Rattle.std.specs.Prelude.{IfOk}
 use Rattle.iltypes.specs.declared.value.Value.{Value}
-use Rattle.ilimage.specs.declared.overriding.Override.{Override}
-use Rattle.ilimage.specs.Images.{overridden}
+use Rattle.ilmachine.specs.declared.overriding.Override.{Override}
+use Rattle.ilmachine.specs.Images.{overridden}
 use Rattle.plantevents.specs.Variables.{IsSnapshot, newest}
 use Rattle.plant.specs.Shown.{Shown, plant_of}
 use Rattle.plant.specs.TakingSteps.{taken_at}

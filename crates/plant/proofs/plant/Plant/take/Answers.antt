@@ -1,5 +1,5 @@
 use Rattle.std.proofs.Common.{◌≡◌, ◌<◌, ◌∷◌, false, None, sym, subst}
-use Rattle.ilimage.specs.Snapshots.{ScanStart}
+use Rattle.ilmachine.specs.Snapshots.{ScanStart}
 use Rattle.plantevents.specs.declared.event.Event.TheVariants.{Take}
 use Rattle.plantevents.specs.Histories.{scan}
 use Rattle.plantevents.specs.Choices.{IsNextTask}

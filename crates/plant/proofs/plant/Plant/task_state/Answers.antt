@@ -3,7 +3,7 @@ use Rattle.std.specs.Prelude.{IfSome, option_and_then, slice_get}
 use Rattle.iltypes.specs.declared.value.Value.{Value}
 use Rattle.ilblocks.specs.Stores.{Lasting}
 use Rattle.ilplan.specs.Beginnings.{HasEach}
-use Rattle.ilimage.specs.Images.{ImageVariable, Layout, value_of, variable_in}
+use Rattle.ilmachine.specs.Images.{ImageVariable, Layout, value_of, variable_in}
 use Rattle.plantevents.specs.Plants.{layout}
 use Rattle.plantevents.specs.Variables.{blocks, value}
 use Rattle.plant.specs.Shown.{Shown, plant_of}

@@ -1,7 +1,0 @@
-use Rattle.std.proofs.Common.{◌≡◌, [], replicate, Vec, Global}
-use Rattle.ilimage.specs.declared.slots.TaskSlot.{TaskSlot}
-use Rattle.ilimage.specs.RowSteps.{lists_of}
-use Rattle.ilimage.proofs.index.empty_index.Given as goal
-
-abbrev pub invariant-loop-global : goal.invariant-loop-global
-invariant-loop-global l = lists_of (λ (v : Vec TaskSlot Global). v.items) l.index.items ≡ replicate l._global []

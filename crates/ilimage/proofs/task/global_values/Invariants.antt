@@ -1,6 +1,0 @@
-use Rattle.std.proofs.Common.{◌≡◌, map, take}
-use Rattle.ilimage.specs.ImageSteps.{global_value}
-use Rattle.ilimage.proofs.task.global_values.Given as goal
-
-abbrev pub invariant-loop-external : goal.invariant-loop-external
-invariant-loop-external l = l.values.items ≡ map (global_value l.globals) (take l.external-index l.externals)

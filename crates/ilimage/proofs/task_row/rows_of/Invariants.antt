@@ -1,6 +1,0 @@
-use Rattle.std.proofs.Common.{◌≡◌, map, take}
-use Rattle.ilimage.specs.TaskRows.{ready_task}
-use Rattle.ilimage.proofs.task_row.rows_of.Given as goal
-
-abbrev pub invariant-loop-task : goal.invariant-loop-task
-invariant-loop-task l = l.rows.items ≡ map (ready_task l.globals) (take l.task-index l.tasks)

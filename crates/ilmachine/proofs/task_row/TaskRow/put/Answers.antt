@@ -1,0 +1,30 @@
+use Rattle.std.proofs.Common.{List, sym, subst}
+use Rattle.std.specs.Arc.{arc_value}
+use Rattle.iltypes.specs.declared.value.Value.{Value}
+use Rattle.iltypes.specs.Values.{AreOf}
+use Rattle.ilverify.specs.Listings.{lasting_types}
+use Rattle.ilmachine.specs.Snapshots.{MayHave}
+use Rattle.ilmachine.specs.TaskRows.{TaskRow}
+use Rattle.ilmachine.proofs.RowKinds.{may_set, set_slot}
+use Rattle.ilmachine.proofs.task_row.TaskRow.put.Goals as goal
+
+pub set-requires : goal.set-requires
+set-requires c =
+    let f = c.self.inside in
+    let may = subst (λ (t : TaskRow). MayHave (lasting_types t.layout.verified.code) c.args.slot c.args.value)
+    (sym c.self.view_is) c.requires in
+    may_set f.row (lasting_types (arc_value f.prepared).code) c.args.slot c.args.value c.self.invariant.0.values may
+
+pub invariant_of-self : goal.invariant_of-self
+invariant_of-self c =
+    let f = c.self.inside in
+    let slots = lasting_types (arc_value f.prepared).code in
+    let may = subst (λ (t : TaskRow). MayHave (lasting_types t.layout.verified.code) c.args.slot c.args.value)
+    (sym c.self.view_is) c.requires in (
+      record {
+        values = subst (λ (r : List Value). AreOf r slots) (sym c.set.ensures)
+            (set_slot f.row slots c.args.slot c.args.value c.self.invariant.0.values may);
+        blocks = c.self.invariant.0.blocks;
+      },
+      c.self.invariant.1,
+    )
