@@ -4,12 +4,12 @@ use Rattle.std.proofs.lemmas.Bool.{false≢true}
 use Rattle.iltokens.specs.declared.keyword.Keyword.{Keyword}
 use Rattle.iltokens.specs.declared.lexed.Delimiter.TheVariants as delimiters
 use Rattle.iltokens.specs.declared.lexed.What.TheVariants as whats
-use Rattle.illines.specs.declared.token.TokenKind.{TokenKind}
-use Rattle.illines.specs.declared.token.TokenKind.TheVariants as kinds
-use Rattle.illines.specs.declared.token.Token.{Token}
-use Rattle.illines.specs.Terminals.{word, delimiter}
-use Rattle.illines.proofs.Delimiters.{token_of, apart_word, apart_delimiter}
-use Rattle.illines.proofs.Ends.{NoEnd}
+use Rattle.iltext.specs.declared.token.TokenKind.{TokenKind}
+use Rattle.iltext.specs.declared.token.TokenKind.TheVariants as kinds
+use Rattle.iltext.specs.declared.token.Token.{Token}
+use Rattle.iltext.specs.Terminals.{word, delimiter}
+use Rattle.iltext.proofs.Delimiters.{token_of, apart_word, apart_delimiter}
+use Rattle.iltext.proofs.Ends.{NoEnd}
 
 unless : (a b : Bool) → b ≡ true → (a ≡ true → b ≡ false) → a ≡ false
 unless false b is other = refl

@@ -7,10 +7,10 @@ use Rattle.iltokens.specs.declared.keyword.Keyword.TheVariants as words
 use Rattle.iltokens.specs.declared.lexed.Delimiter.TheVariants as delimiters
 use Rattle.iltokens.specs.declared.lexed.LexicalCause.TheVariants as lexical
 use Rattle.iltokens.specs.declared.lexed.What.TheVariants as whats
-use Rattle.illines.specs.declared.token.TokenKind.{TokenKind}
-use Rattle.illines.specs.declared.token.TokenKind.TheVariants as kinds
-use Rattle.illines.specs.declared.token.Token.{Token}
-use Rattle.illines.specs.Roles.{is_inner}
+use Rattle.iltext.specs.declared.token.TokenKind.{TokenKind}
+use Rattle.iltext.specs.declared.token.TokenKind.TheVariants as kinds
+use Rattle.iltext.specs.declared.token.Token.{Token}
+use Rattle.iltext.specs.Roles.{is_inner}
 use Rattle.iltext.specs.declared.fault.TextCause.TheVariants.{NotNested, TooDeep, Unexpected}
 use Rattle.iltext.specs.Faults.{cause_at, cause_of_kind, open_after_all}
 use Rattle.iltext.specs.Texts.{text}

@@ -9,12 +9,12 @@ use Rattle.ilsource.specs.declared.configuration.TaskDeclaration.{TaskDeclaratio
 use Rattle.iltokens.specs.declared.keyword.Keyword.{Keyword}
 use Rattle.iltokens.specs.declared.keyword.Keyword.TheVariants as words
 use Rattle.iltokens.specs.declared.lexed.What.TheVariants as whats
-use Rattle.illines.specs.declared.token.TokenKind.{TokenKind}
-use Rattle.illines.specs.declared.token.TokenKind.TheVariants as kinds
-use Rattle.illines.specs.declared.token.Token.{Token}
-use Rattle.illines.specs.Terminals.{Seen, word, delimiter, spaced}
-use Rattle.illines.proofs.Delimiters.{token_of, Firm-word, apart_word}
-use Rattle.illines.proofs.Ends.{NoEnd, Firm-name, Firm-spaced, word_no_end, name_no_end}
+use Rattle.iltext.specs.declared.token.TokenKind.{TokenKind}
+use Rattle.iltext.specs.declared.token.TokenKind.TheVariants as kinds
+use Rattle.iltext.specs.declared.token.Token.{Token}
+use Rattle.iltext.specs.Terminals.{Seen, word, delimiter, spaced}
+use Rattle.iltext.proofs.Delimiters.{token_of, Firm-word, apart_word}
+use Rattle.iltext.proofs.Ends.{NoEnd, Firm-name, Firm-spaced, word_no_end, name_no_end}
 use Rattle.iltext.specs.Configurations.{body, resource_head, resource, end, contents, configuration}
 use Rattle.iltext.specs.Globals.{global_blocks, var_global}
 use Rattle.iltext.specs.Tasks.{tasks, task, program_instances, program_instance}

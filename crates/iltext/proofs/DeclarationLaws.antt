@@ -20,13 +20,13 @@ use Rattle.iltokens.specs.declared.keyword.Keyword.{Keyword}
 use Rattle.iltokens.specs.declared.keyword.Keyword.TheVariants as words
 use Rattle.iltokens.specs.declared.lexed.Delimiter.TheVariants as delimiters
 use Rattle.iltokens.specs.declared.lexed.What.TheVariants as whats
-use Rattle.illines.specs.declared.token.TokenKind.{TokenKind}
-use Rattle.illines.specs.declared.token.TokenKind.TheVariants as kinds
-use Rattle.illines.specs.declared.token.Token.{Token}
-use Rattle.illines.specs.Terminals.{word, delimiter, name, spaced}
-use Rattle.illines.proofs.Delimiters.{Anything, token_of, Firm-word, Firm-delimiter, apart_word, apart_delimiter}
-use Rattle.illines.proofs.Ends.{NoEnd, NoComma, NoOpen, Firm-name, Firm-number, Firm-constant, Firm-spaced}
-use Rattle.illines.proofs.Ends.{word_no_end, delimiter_no_end, name_no_end, number_no_end, constant_no_end}
+use Rattle.iltext.specs.declared.token.TokenKind.{TokenKind}
+use Rattle.iltext.specs.declared.token.TokenKind.TheVariants as kinds
+use Rattle.iltext.specs.declared.token.Token.{Token}
+use Rattle.iltext.specs.Terminals.{word, delimiter, name, spaced}
+use Rattle.iltext.proofs.Delimiters.{Anything, token_of, Firm-word, Firm-delimiter, apart_word, apart_delimiter}
+use Rattle.iltext.proofs.Ends.{NoEnd, NoComma, NoOpen, Firm-name, Firm-number, Firm-constant, Firm-spaced}
+use Rattle.iltext.proofs.Ends.{word_no_end, delimiter_no_end, name_no_end, number_no_end, constant_no_end}
 use Rattle.iltext.specs.Declarations.{integer_word, integer, simple_word, simple, interval, range, specification}
 use Rattle.iltext.specs.Declarations.{initial, typing, type_declaration, block_of_word, block, instances, declared}
 use Rattle.iltext.specs.Declarations.{next_name, more_names, names_after, names, declaration, declarations, vars}

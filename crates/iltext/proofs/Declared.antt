@@ -4,11 +4,11 @@ use Rattle.iltokens.specs.declared.keyword.Keyword.{Keyword}
 use Rattle.iltokens.specs.declared.keyword.Keyword.TheVariants as words
 use Rattle.iltokens.specs.declared.lexed.Delimiter.TheVariants as delimiters
 use Rattle.iltokens.specs.declared.lexed.What.TheVariants as whats
-use Rattle.illines.specs.declared.token.TokenKind.{TokenKind}
-use Rattle.illines.specs.declared.token.TokenKind.TheVariants as kinds
-use Rattle.illines.specs.declared.token.Token.{Token}
-use Rattle.illines.specs.Roles.{role_of_word}
-use Rattle.illines.specs.Terminals.{word, delimiter, name, spaced}
+use Rattle.iltext.specs.declared.token.TokenKind.{TokenKind}
+use Rattle.iltext.specs.declared.token.TokenKind.TheVariants as kinds
+use Rattle.iltext.specs.declared.token.Token.{Token}
+use Rattle.iltext.specs.Roles.{role_of_word}
+use Rattle.iltext.specs.Terminals.{word, delimiter, name, spaced}
 use Rattle.iltext.specs.Faults.{defers}
 use Rattle.iltext.specs.Declarations.{integer_word, integer_at, integer, simple_word, simple_at, simple, interval}
 use Rattle.iltext.specs.Declarations.{range}

@@ -3,11 +3,11 @@ use Rattle.std.proofs.Common.{◌≡◌, ◌⊎◌, ℕ, zero, suc, ◌+◌, ◌
 use Rattle.std.proofs.Common.{sym, ap, inl, inr, ◌∙◌, append_assoc, arith}
 use Rattle.iltypes.specs.declared.operator.Operator.{Operator}
 use Rattle.iltypes.specs.Operators.{may_defer}
-use Rattle.illines.specs.declared.roles.OperatorRole.{OperatorRole}
-use Rattle.illines.specs.declared.roles.OperatorRole.TheVariants as roles
-use Rattle.illines.specs.declared.token.Token.{Token}
-use Rattle.illines.specs.Roles.{role_of}
-use Rattle.illines.specs.Instructions.{content}
+use Rattle.iltext.specs.declared.roles.OperatorRole.{OperatorRole}
+use Rattle.iltext.specs.declared.roles.OperatorRole.TheVariants as roles
+use Rattle.iltext.specs.declared.token.Token.{Token}
+use Rattle.iltext.specs.Roles.{role_of}
+use Rattle.iltext.specs.Instructions.{content}
 use Rattle.iltext.specs.Faults.{is_deferrable, defers, open_after_all}
 use Rattle.iltext.specs.Nested.{IsOpen}
 use Rattle.iltext.proofs.Counts.{Opens, opened_after}

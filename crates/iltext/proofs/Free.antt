@@ -8,14 +8,14 @@ use Rattle.iltokens.specs.declared.keyword.Keyword.TheVariants as words
 use Rattle.iltokens.specs.declared.lexed.Delimiter.{Delimiter}
 use Rattle.iltokens.specs.declared.lexed.Delimiter.TheVariants as delimiters
 use Rattle.iltokens.specs.declared.lexed.What.TheVariants as whats
-use Rattle.illines.specs.declared.token.TokenKind.{TokenKind}
-use Rattle.illines.specs.declared.token.TokenKind.TheVariants as kinds
-use Rattle.illines.specs.declared.token.Token.{Token}
-use Rattle.illines.specs.Roles.{role_of_word}
-use Rattle.illines.specs.Terminals.{word, delimiter, name, number_at, number, constant_word, constant_at, constant}
-use Rattle.illines.specs.Terminals.{spaced}
-use Rattle.illines.specs.Operands.{spaced_dot_port, spaced_symbol, spaced_operand}
-use Rattle.illines.specs.Calls.{argument, next_argument, more_arguments, arguments, passed, call}
+use Rattle.iltext.specs.declared.token.TokenKind.{TokenKind}
+use Rattle.iltext.specs.declared.token.TokenKind.TheVariants as kinds
+use Rattle.iltext.specs.declared.token.Token.{Token}
+use Rattle.iltext.specs.Roles.{role_of_word}
+use Rattle.iltext.specs.Terminals.{word, delimiter, name, number_at, number, constant_word, constant_at, constant}
+use Rattle.iltext.specs.Terminals.{spaced}
+use Rattle.iltext.specs.Operands.{spaced_dot_port, spaced_symbol, spaced_operand}
+use Rattle.iltext.specs.Calls.{argument, next_argument, more_arguments, arguments, passed, call}
 use Rattle.iltext.specs.Faults.{defers, open_after, open_after_all}
 use Rattle.iltext.proofs.Counts.{ends}
 use Rattle.iltext.proofs.Tame.{Nil, Level, Tame}

@@ -8,15 +8,15 @@ use Rattle.ilsource.specs.Programs.{DeclaredNames, WrittenFunction}
 use Rattle.iltokens.specs.declared.keyword.Keyword.TheVariants as words
 use Rattle.iltokens.specs.declared.lexed.Delimiter.TheVariants as delimiters
 use Rattle.iltokens.specs.declared.lexed.What.TheVariants as whats
-use Rattle.illines.specs.declared.token.TokenKind.{TokenKind}
-use Rattle.illines.specs.declared.token.TokenKind.TheVariants as kinds
-use Rattle.illines.specs.declared.token.Token.{Token}
-use Rattle.illines.specs.Roles.{role_of_word}
-use Rattle.illines.specs.Terminals.{Seen, word, delimiter, name, spaced}
-use Rattle.illines.specs.Instructions.{TextLine, operation, named_line, line, lines}
-use Rattle.illines.proofs.Delimiters.{Anything, token_of, Firm-word, Firm-delimiter, apart_word}
-use Rattle.illines.proofs.Ends.{NoEnd, NoOpen, Firm-name, Firm-spaced, word_no_end, name_no_end}
-use Rattle.illines.proofs.InstructionLaws.{NoLine, Lawful-lines}
+use Rattle.iltext.specs.declared.token.TokenKind.{TokenKind}
+use Rattle.iltext.specs.declared.token.TokenKind.TheVariants as kinds
+use Rattle.iltext.specs.declared.token.Token.{Token}
+use Rattle.iltext.specs.Roles.{role_of_word}
+use Rattle.iltext.specs.Terminals.{Seen, word, delimiter, name, spaced}
+use Rattle.iltext.specs.Instructions.{TextLine, operation, named_line, line, lines}
+use Rattle.iltext.proofs.Delimiters.{Anything, token_of, Firm-word, Firm-delimiter, apart_word}
+use Rattle.iltext.proofs.Ends.{NoEnd, NoOpen, Firm-name, Firm-spaced, word_no_end, name_no_end}
+use Rattle.iltext.proofs.InstructionLaws.{NoLine, Lawful-lines}
 use Rattle.iltext.specs.declared.functions.FunctionHead.{FunctionHead}
 use Rattle.iltext.specs.Declarations.{names, vars}
 use Rattle.iltext.specs.Functions.{input, inputs, var_input, function_word, head, own_variables, function}

@@ -4,7 +4,7 @@ use Rattle.std.specs.Prelude.{⊤, unwrap_or}
 use Rattle.iltokens.specs.Items.{opt_whole, many_whole}
 use Rattle.ilsource.specs.declared.declaration.Declared.{Declared}
 use Rattle.ilsource.specs.Programs.{DeclaredNames, IsInput, IsInFunction, AreInputs, AreInFunction}
-use Rattle.illines.specs.declared.token.Token.{Token}
+use Rattle.iltext.specs.declared.token.Token.{Token}
 use Rattle.iltext.specs.Declarations.{declared, declaration, declarations, vars}
 use Rattle.iltext.specs.Functions.{input, inputs, var_input, own_variables}
 use Rattle.iltext.proofs.FunctionLaws.{Firm-var_input, Lawful-own_variables}

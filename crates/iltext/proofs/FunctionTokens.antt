@@ -3,9 +3,9 @@ use Rattle.std.proofs.Common.{◌≡◌, ℕ, false, Some, refl}
 use Rattle.iltokens.specs.declared.keyword.Keyword.TheVariants as words
 use Rattle.iltokens.specs.declared.lexed.Delimiter.TheVariants as delimiters
 use Rattle.iltokens.specs.declared.lexed.What.TheVariants as whats
-use Rattle.illines.specs.declared.token.TokenKind.{TokenKind}
-use Rattle.illines.specs.declared.token.TokenKind.TheVariants as kinds
-use Rattle.illines.specs.Roles.{role_of_word}
+use Rattle.iltext.specs.declared.token.TokenKind.{TokenKind}
+use Rattle.iltext.specs.declared.token.TokenKind.TheVariants as kinds
+use Rattle.iltext.specs.Roles.{role_of_word}
 use Rattle.iltext.specs.Faults.{defers}
 use Rattle.iltext.specs.Functions.{input, inputs, var_input, function_at, function_word, head, own_variables}
 use Rattle.iltext.proofs.Tokens.{Holds, Holds-one, Holds-map, Holds-seq, Holds-lead, Holds-opt, Holds-many}

@@ -12,12 +12,12 @@ use Rattle.iltokens.specs.declared.keyword.Keyword.TheVariants as words
 use Rattle.iltokens.specs.declared.lexed.AddressKind.TheVariants as addresses
 use Rattle.iltokens.specs.declared.lexed.Delimiter.TheVariants as delimiters
 use Rattle.iltokens.specs.declared.lexed.What.TheVariants as whats
-use Rattle.illines.specs.declared.token.TokenKind.{TokenKind}
-use Rattle.illines.specs.declared.token.TokenKind.TheVariants as kinds
-use Rattle.illines.specs.declared.token.Token.{Token}
-use Rattle.illines.specs.Terminals.{word, delimiter, name, spaced}
-use Rattle.illines.proofs.Delimiters.{Anything, token_of, Firm-word, Firm-delimiter}
-use Rattle.illines.proofs.Ends.{NoEnd, Firm-name, Firm-spaced, word_no_end, delimiter_no_end, name_no_end}
+use Rattle.iltext.specs.declared.token.TokenKind.{TokenKind}
+use Rattle.iltext.specs.declared.token.TokenKind.TheVariants as kinds
+use Rattle.iltext.specs.declared.token.Token.{Token}
+use Rattle.iltext.specs.Terminals.{word, delimiter, name, spaced}
+use Rattle.iltext.proofs.Delimiters.{Anything, token_of, Firm-word, Firm-delimiter}
+use Rattle.iltext.proofs.Ends.{NoEnd, Firm-name, Firm-spaced, word_no_end, delimiter_no_end, name_no_end}
 use Rattle.iltext.specs.Declarations.{typing, next_name, more_names, names_after}
 use Rattle.iltext.specs.Globals.{address, located, unlocated, global_named, global, globals, var_global, global_blocks}
 use Rattle.iltext.proofs.DeclarationLaws.{NoName, specification_no_end, Firm-typing, colon_apart, Lawful-names_after}

@@ -10,15 +10,15 @@ use Rattle.iltokens.specs.declared.lexed.Delimiter.TheVariants as delimiters
 use Rattle.iltokens.specs.declared.lexed.What.TheVariants as whats
 use Rattle.iltokens.specs.contracts.keyword.Keyword.{the_type as all_words}
 use Rattle.iltokens.specs.contracts.lexed.Delimiter.{the_type as all_delimiters}
-use Rattle.illines.specs.declared.token.TokenKind.{TokenKind}
-use Rattle.illines.specs.declared.token.TokenKind.TheVariants as kinds
-use Rattle.illines.specs.declared.token.Token.{Token}
-use Rattle.illines.specs.Roles.{role_of, role_of_word, is_inner}
-use Rattle.illines.specs.Terminals.{Seen, same_word, word_at, same_delimiter, delimiter_at, delimiter, name_at, name}
-use Rattle.illines.specs.Terminals.{line_ends, line_break, ended, closing_at}
-use Rattle.illines.specs.Operands.{port_at, port, dot_port, symbol, literal_word, literal_at, literal, operand}
-use Rattle.illines.specs.Invocations.{next_operand, more_operands, some_operands, handed}
-use Rattle.illines.specs.Instructions.{bounds, invoked, invocation, load_of, load, beginning}
+use Rattle.iltext.specs.declared.token.TokenKind.{TokenKind}
+use Rattle.iltext.specs.declared.token.TokenKind.TheVariants as kinds
+use Rattle.iltext.specs.declared.token.Token.{Token}
+use Rattle.iltext.specs.Roles.{role_of, role_of_word, is_inner}
+use Rattle.iltext.specs.Terminals.{Seen, same_word, word_at, same_delimiter, delimiter_at, delimiter, name_at, name}
+use Rattle.iltext.specs.Terminals.{line_ends, line_break, ended, closing_at}
+use Rattle.iltext.specs.Operands.{port_at, port, dot_port, symbol, literal_word, literal_at, literal, operand}
+use Rattle.iltext.specs.Invocations.{next_operand, more_operands, some_operands, handed}
+use Rattle.iltext.specs.Instructions.{bounds, invoked, invocation, load_of, load, beginning}
 use Rattle.iltext.specs.Faults.{defers, open_after}
 use Rattle.iltext.proofs.Counts.{MayNest}
 use Rattle.iltext.proofs.Tokens.{Holds, Holds-one, Holds-map, Holds-seq, Holds-select, Holds-alt, Holds-opt, Holds-many}

@@ -9,16 +9,16 @@ use Rattle.iltokens.specs.declared.keyword.Keyword.{Keyword}
 use Rattle.iltokens.specs.declared.keyword.Keyword.TheVariants as words
 use Rattle.iltokens.specs.declared.lexed.Delimiter.TheVariants as delimiters
 use Rattle.iltokens.specs.declared.lexed.What.TheVariants as whats
-use Rattle.illines.specs.declared.roles.OperatorRole.{OperatorRole}
-use Rattle.illines.specs.declared.roles.OperatorRole.TheVariants as roles
-use Rattle.illines.specs.declared.token.TokenKind.{TokenKind}
-use Rattle.illines.specs.declared.token.TokenKind.TheVariants as kinds
-use Rattle.illines.specs.declared.token.Token.{Token}
-use Rattle.illines.specs.Roles.{role_of, role_of_word, may_nest, nesting, role_at, inner_role_of, inner_role_at}
-use Rattle.illines.specs.Roles.{is_inner}
-use Rattle.illines.specs.Terminals.{ended}
-use Rattle.illines.specs.Calls.{call}
-use Rattle.illines.specs.Instructions.{TextLine, operands, inner_operation, inner_of, content_of, applied, content}
+use Rattle.iltext.specs.declared.roles.OperatorRole.{OperatorRole}
+use Rattle.iltext.specs.declared.roles.OperatorRole.TheVariants as roles
+use Rattle.iltext.specs.declared.token.TokenKind.{TokenKind}
+use Rattle.iltext.specs.declared.token.TokenKind.TheVariants as kinds
+use Rattle.iltext.specs.declared.token.Token.{Token}
+use Rattle.iltext.specs.Roles.{role_of, role_of_word, may_nest, nesting, role_at, inner_role_of, inner_role_at}
+use Rattle.iltext.specs.Roles.{is_inner}
+use Rattle.iltext.specs.Terminals.{ended}
+use Rattle.iltext.specs.Calls.{call}
+use Rattle.iltext.specs.Instructions.{TextLine, operands, inner_operation, inner_of, content_of, applied, content}
 use Rattle.iltext.specs.Faults.{is_deferrable, defers, open_after, open_after_all}
 use Rattle.iltext.proofs.Counts.{AreInner, ends, MayNest}
 use Rattle.iltext.proofs.Tame.{Any, Level, Level-nil, Below, Opened, Tame, Level-same, Tame-map, Tame-seq, Tame-many}

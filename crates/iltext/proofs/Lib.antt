@@ -1,11 +1,16 @@
 mod Apart
+mod CallLaws
 mod Causes
 mod ConfigurationLaws
+mod Contents
 mod Counts
 mod Cut
 mod DeclarationLaws
 mod Declared
+mod Delimiters
 mod Depths
+mod Ends
+mod Extends
 mod Following
 mod Free
 mod FunctionLaws
@@ -13,9 +18,14 @@ mod FunctionParts
 mod FunctionTokens
 mod GlobalLaws
 mod Inner
+mod InstructionLaws
 mod Instructions
+mod InvocationLaws
 mod Laws
+mod LineEnds
+mod OperandLaws
 mod Operators
+mod Shallow
 mod Sorted
 pub mod Sources
 mod Tame

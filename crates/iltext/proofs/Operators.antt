@@ -7,11 +7,11 @@ use Rattle.iltypes.specs.declared.operator.Operator.{Operator}
 use Rattle.iltokens.specs.Items.{Item, map, seq}
 use Rattle.iltokens.proofs.Laws.{Solid}
 use Rattle.iltokens.specs.declared.lexed.Delimiter.TheVariants as delimiters
-use Rattle.illines.specs.declared.token.Token.{Token}
-use Rattle.illines.specs.Terminals.{delimiter, closing, line_break, ended}
-use Rattle.illines.specs.Instructions.{TextLine, on_operand, on_content, on_either, beginning, inner_operation}
-use Rattle.illines.specs.Instructions.{inner_of, content_of, applied, content}
-use Rattle.illines.proofs.OperandLaws.{Firm-operand}
+use Rattle.iltext.specs.declared.token.Token.{Token}
+use Rattle.iltext.specs.Terminals.{delimiter, closing, line_break, ended}
+use Rattle.iltext.specs.Instructions.{TextLine, on_operand, on_content, on_either, beginning, inner_operation}
+use Rattle.iltext.specs.Instructions.{inner_of, content_of, applied, content}
+use Rattle.iltext.proofs.OperandLaws.{Firm-operand}
 use Rattle.iltext.specs.Faults.{defers, open_after_all}
 use Rattle.iltext.proofs.Counts.{AreInner, closed, Closes, closes_none, counted-append, delimiter_nests, ends}
 use Rattle.iltext.proofs.Counts.{ends_last, inner-append, no_operator, opened, Opens}

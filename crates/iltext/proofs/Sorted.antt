@@ -24,18 +24,18 @@ use Rattle.iltokens.specs.Items.{Item, alt, opt_whole, many_whole}
 use Rattle.ilsource.specs.declared.name.Name.{Name}
 use Rattle.ilsource.specs.declared.symbol.Symbol.{Symbol}
 use Rattle.ilsource.specs.Programs.{MayStand, MayBeUsed, AreSorted}
-use Rattle.illines.specs.declared.roles.OperatorRole.{OperatorRole}
-use Rattle.illines.specs.declared.roles.OperatorRole.TheVariants as roles
-use Rattle.illines.specs.Calls.{argument, arguments, call, called, more_arguments, next_argument, passed}
-use Rattle.illines.specs.Instructions.{after_label, after_name, applied, beginning, bounds, content_of, grown, grows}
-use Rattle.illines.specs.Instructions.{grows_by, inner_of, inner_operation, instruction, invocation, invoked, labelled}
-use Rattle.illines.specs.Instructions.{line, lines, load, named_line, on_content, on_either, on_operand, operands}
-use Rattle.illines.specs.Instructions.{operation, TextInstruction, TextLine}
-use Rattle.illines.specs.Invocations.{handed, more_operands, next_operand, some_operands}
-use Rattle.illines.specs.Operands.{literal, named_or, operand, spaced_operand, spaced_symbol, symbol, symbol_of}
-use Rattle.illines.specs.Terminals.{ended, spaced}
-use Rattle.illines.specs.declared.token.Token.{Token}
-use Rattle.illines.proofs.InstructionLaws.{Lawful-lines}
+use Rattle.iltext.specs.declared.roles.OperatorRole.{OperatorRole}
+use Rattle.iltext.specs.declared.roles.OperatorRole.TheVariants as roles
+use Rattle.iltext.specs.Calls.{argument, arguments, call, called, more_arguments, next_argument, passed}
+use Rattle.iltext.specs.Instructions.{after_label, after_name, applied, beginning, bounds, content_of, grown, grows}
+use Rattle.iltext.specs.Instructions.{grows_by, inner_of, inner_operation, instruction, invocation, invoked, labelled}
+use Rattle.iltext.specs.Instructions.{line, lines, load, named_line, on_content, on_either, on_operand, operands}
+use Rattle.iltext.specs.Instructions.{operation, TextInstruction, TextLine}
+use Rattle.iltext.specs.Invocations.{handed, more_operands, next_operand, some_operands}
+use Rattle.iltext.specs.Operands.{literal, named_or, operand, spaced_operand, spaced_symbol, symbol, symbol_of}
+use Rattle.iltext.specs.Terminals.{ended, spaced}
+use Rattle.iltext.specs.declared.token.Token.{Token}
+use Rattle.iltext.proofs.InstructionLaws.{Lawful-lines}
 
 abbrev MayAll : List (Use Symbol) → Type 0
 MayAll uses = AllByRecursion MayBeUsed uses

@@ -11,7 +11,7 @@ use Rattle.limits.specs.Limits.{most_bytes}
 use Rattle.ilsource.specs.Configurations.{Configured}
 use Rattle.ilsource.specs.declared.source.Element.{Element}
 use Rattle.ilsource.specs.SourceTrees.{Tree}
-use Rattle.illines.specs.declared.token.Token.{Token}
+use Rattle.iltext.specs.declared.token.Token.{Token}
 use Rattle.iltext.specs.declared.fault.TextFault.{TextFault}
 use Rattle.iltext.specs.declared.fault.TextFault.TheVariants as faults
 use Rattle.iltext.specs.Cutting.{Cuts}

@@ -4,8 +4,8 @@ use Rattle.std.proofs.Common.{◌≡◌, ℕ, zero, suc, Bool, true, false, List
 use Rattle.std.proofs.Common.{◌⊎◌, inl, inr, sym, ap, subst, ◌∙◌, append_assoc}
 use Rattle.iltokens.specs.Items.{Item, map, seq, lead, select, opt, opt_whole, alt, many}
 use Rattle.iltokens.specs.Items.{many_whole}
-use Rattle.illines.specs.declared.token.Token.{Token}
-use Rattle.illines.specs.Instructions.{content}
+use Rattle.iltext.specs.declared.token.Token.{Token}
+use Rattle.iltext.specs.Instructions.{content}
 use Rattle.iltext.specs.Faults.{defers, open_after_all}
 use Rattle.iltext.proofs.Counts.{AreInner, counted-append, ends, ends-append, inner-append, Opens}
 

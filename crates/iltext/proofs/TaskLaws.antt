@@ -10,13 +10,13 @@ use Rattle.ilsource.specs.declared.name.Name.{Name}
 use Rattle.iltokens.specs.declared.keyword.Keyword.TheVariants as words
 use Rattle.iltokens.specs.declared.lexed.Delimiter.TheVariants as delimiters
 use Rattle.iltokens.specs.declared.lexed.What.TheVariants as whats
-use Rattle.illines.specs.declared.token.TokenKind.{TokenKind}
-use Rattle.illines.specs.declared.token.TokenKind.TheVariants as kinds
-use Rattle.illines.specs.declared.token.Token.{Token}
-use Rattle.illines.specs.Terminals.{word, delimiter}
-use Rattle.illines.proofs.Delimiters.{Anything, token_of, Firm-word, Firm-delimiter, apart_word, apart_delimiter}
-use Rattle.illines.proofs.Ends.{NoEnd, Firm-name, Firm-number, Firm-spaced, word_no_end, delimiter_no_end}
-use Rattle.illines.proofs.Ends.{name_no_end, number_no_end}
+use Rattle.iltext.specs.declared.token.TokenKind.{TokenKind}
+use Rattle.iltext.specs.declared.token.TokenKind.TheVariants as kinds
+use Rattle.iltext.specs.declared.token.Token.{Token}
+use Rattle.iltext.specs.Terminals.{word, delimiter}
+use Rattle.iltext.proofs.Delimiters.{Anything, token_of, Firm-word, Firm-delimiter, apart_word, apart_delimiter}
+use Rattle.iltext.proofs.Ends.{NoEnd, Firm-name, Firm-number, Firm-spaced, word_no_end, delimiter_no_end}
+use Rattle.iltext.proofs.Ends.{name_no_end, number_no_end}
 use Rattle.iltext.specs.Tasks.{duration, single, interval, priority, inputs, task, tasks}
 use Rattle.iltext.specs.Tasks.{with_task, program_instance, program_instances}
 use Rattle.iltext.proofs.Apart.{no_word, no_end}

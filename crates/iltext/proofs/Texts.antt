@@ -3,10 +3,10 @@ use Rattle.std.proofs.Common.{◌≡◌, ◌⊎◌, ℕ, zero, suc, ◌+◌, ◌
 use Rattle.std.proofs.Common.{inl, inr, ◌∙◌, arith}
 use Rattle.iltokens.specs.declared.keyword.Keyword.TheVariants as words
 use Rattle.iltokens.specs.declared.lexed.Delimiter.TheVariants as delimiters
-use Rattle.illines.specs.declared.token.Token.{Token}
-use Rattle.illines.specs.Roles.{role_of_word, role_at}
-use Rattle.illines.specs.Instructions.{operands, applied, content, operation, instruction, after_label, after_name}
-use Rattle.illines.specs.Instructions.{named_line, line, lines}
+use Rattle.iltext.specs.declared.token.Token.{Token}
+use Rattle.iltext.specs.Roles.{role_of_word, role_at}
+use Rattle.iltext.specs.Instructions.{operands, applied, content, operation, instruction, after_label, after_name}
+use Rattle.iltext.specs.Instructions.{named_line, line, lines}
 use Rattle.iltext.specs.Faults.{open_after_all}
 use Rattle.iltext.specs.Functions.{function}
 use Rattle.iltext.specs.Texts.{blocks, program, derived_type, derived_types, types, function_unit, program_unit, unit}

@@ -4,7 +4,7 @@ use Rattle.std.proofs.Common.{inl, inr}
 use Rattle.std.specs.List.{AllByRecursion}
 use Rattle.iltokens.specs.Items.{Item, one, one_whole, one_part, map, seq, lead, select, opt, opt_whole, alt, many}
 use Rattle.iltokens.specs.Items.{many_whole}
-use Rattle.illines.specs.declared.token.Token.{Token}
+use Rattle.iltext.specs.declared.token.Token.{Token}
 
 pub all_append : (P : Token → Type 0) (u v : List Token) → AllByRecursion P u → AllByRecursion P v
     → AllByRecursion P (u ++ v)

@@ -6,8 +6,8 @@ use Rattle.ilsource.specs.Configurations.{Configured, DeclaredGlobals, configure
 use Rattle.ilsource.specs.declared.configuration.InstanceDeclaration.{InstanceDeclaration}
 use Rattle.ilsource.specs.declared.configuration.TaskDeclaration.{TaskDeclaration}
 use Rattle.iltokens.specs.declared.keyword.Keyword.TheVariants as words
-use Rattle.illines.specs.declared.token.Token.{Token}
-use Rattle.illines.specs.Terminals.{Seen, word, name, spaced}
+use Rattle.iltext.specs.declared.token.Token.{Token}
+use Rattle.iltext.specs.Terminals.{Seen, word, name, spaced}
 use Rattle.iltext.specs.Globals.{global_blocks}
 use Rattle.iltext.specs.Tasks.{tasks, program_instances}
 

@@ -2,9 +2,9 @@
 use Rattle.std.specs.Prelude.{◌≡◌, ℕ, List, [], ◌∷◌}
 use Rattle.iltokens.specs.declared.lexed.Lexed.TheVariants as lexed
 use Rattle.iltokens.specs.Tokens.{StandsNext}
-use Rattle.illines.specs.declared.token.TokenKind.{TokenKind}
-use Rattle.illines.specs.declared.token.TokenKind.TheVariants as kinds
-use Rattle.illines.specs.declared.token.Token.{Token}
+use Rattle.iltext.specs.declared.token.TokenKind.{TokenKind}
+use Rattle.iltext.specs.declared.token.TokenKind.TheVariants as kinds
+use Rattle.iltext.specs.declared.token.Token.{Token}
 
 -- At a place of the text stands what is of this kind, next after blanks and comments. A bad token has no bytes.
 abbrev pub Stands : List ℕ → ℕ → Token → TokenKind → Type 0

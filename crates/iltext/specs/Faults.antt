@@ -8,12 +8,12 @@ use Rattle.iltokens.specs.declared.lexed.LexicalCause.{LexicalCause}
 use Rattle.iltokens.specs.declared.lexed.LexicalCause.TheVariants as lexical
 use Rattle.iltokens.specs.declared.lexed.Delimiter.TheVariants as delimiters
 use Rattle.iltokens.specs.declared.lexed.What.TheVariants as whats
-use Rattle.illines.specs.declared.roles.OperatorRole.{OperatorRole}
-use Rattle.illines.specs.declared.roles.OperatorRole.TheVariants as roles
-use Rattle.illines.specs.declared.token.TokenKind.{TokenKind}
-use Rattle.illines.specs.declared.token.TokenKind.TheVariants as kinds
-use Rattle.illines.specs.declared.token.Token.{Token}
-use Rattle.illines.specs.Roles.{role_of, is_inner}
+use Rattle.iltext.specs.declared.roles.OperatorRole.{OperatorRole}
+use Rattle.iltext.specs.declared.roles.OperatorRole.TheVariants as roles
+use Rattle.iltext.specs.declared.token.TokenKind.{TokenKind}
+use Rattle.iltext.specs.declared.token.TokenKind.TheVariants as kinds
+use Rattle.iltext.specs.declared.token.Token.{Token}
+use Rattle.iltext.specs.Roles.{role_of, is_inner}
 use Rattle.iltext.specs.declared.fault.TextCause.{TextCause}
 use Rattle.iltext.specs.declared.fault.TextCause.TheVariants.{NotAscii, BadToken, Unexpected, BadNumber, TooDeep}
 use Rattle.iltext.specs.declared.fault.TextCause.TheVariants.{NotNested, CommentOpen, TooLong}

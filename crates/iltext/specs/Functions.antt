@@ -6,11 +6,11 @@ use Rattle.ilsource.specs.declared.declaration.Declared.TheVariants as declareds
 use Rattle.iltokens.specs.declared.keyword.Keyword.TheVariants as words
 use Rattle.iltokens.specs.declared.lexed.Delimiter.TheVariants as delimiters
 use Rattle.iltokens.specs.declared.lexed.What.TheVariants as whats
-use Rattle.illines.specs.declared.token.TokenKind.{TokenKind}
-use Rattle.illines.specs.declared.token.TokenKind.TheVariants as kinds
-use Rattle.illines.specs.declared.token.Token.{Token}
-use Rattle.illines.specs.Terminals.{word, delimiter, name, spaced}
-use Rattle.illines.specs.Instructions.{lines}
+use Rattle.iltext.specs.declared.token.TokenKind.{TokenKind}
+use Rattle.iltext.specs.declared.token.TokenKind.TheVariants as kinds
+use Rattle.iltext.specs.declared.token.Token.{Token}
+use Rattle.iltext.specs.Terminals.{word, delimiter, name, spaced}
+use Rattle.iltext.specs.Instructions.{lines}
 use Rattle.iltext.specs.declared.functions.FunctionHead.{FunctionHead}
 use Rattle.iltext.specs.Declarations.{specification, names, vars}
 

@@ -6,11 +6,11 @@ use Rattle.iltypes.specs.declared.operator.Operator.{Operator}
 use Rattle.iltypes.specs.Operators.{may_defer}
 use Rattle.iltokens.specs.declared.lexed.Delimiter.TheVariants as delimiters
 use Rattle.iltokens.specs.declared.lexed.What.TheVariants as whats
-use Rattle.illines.specs.declared.roles.OperatorRole.TheVariants as roles
-use Rattle.illines.specs.declared.token.TokenKind.TheVariants as kinds
-use Rattle.illines.specs.declared.token.Token.{Token}
-use Rattle.illines.specs.Instructions.{content}
-use Rattle.illines.specs.Roles.{role_of}
+use Rattle.iltext.specs.declared.roles.OperatorRole.TheVariants as roles
+use Rattle.iltext.specs.declared.token.TokenKind.TheVariants as kinds
+use Rattle.iltext.specs.declared.token.Token.{Token}
+use Rattle.iltext.specs.Instructions.{content}
+use Rattle.iltext.specs.Roles.{role_of}
 use Rattle.iltext.specs.Texts.{text}
 
 -- A parenthesis is open where the tokens end: it stands right after an operator that may be deferred, and all that

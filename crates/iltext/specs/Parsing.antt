@@ -3,7 +3,7 @@ use Rattle.std.specs.Prelude.{◌≡◌, ℕ, ◌≤◌, ◌<◌, List, ◌⊎�
 use Rattle.iltokens.specs.Stops.{StopsBefore}
 use Rattle.limits.specs.Limits.{most_bytes}
 use Rattle.ilsource.specs.SourceTrees.{Tree}
-use Rattle.illines.specs.declared.token.Token.{Token}
+use Rattle.iltext.specs.declared.token.Token.{Token}
 use Rattle.iltext.specs.declared.fault.TextFault.{TextFault}
 use Rattle.iltext.specs.declared.fault.TextFault.TheVariants as faults
 use Rattle.iltext.specs.declared.fault.TextCause.TheVariants.{TooLong}

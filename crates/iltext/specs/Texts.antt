@@ -7,9 +7,9 @@ use Rattle.ilsource.specs.Programs.{DeclaredNames, Written}
 use Rattle.ilsource.specs.declared.source.Element.{Element}
 use Rattle.ilsource.specs.declared.source.Element.TheVariants as elements
 use Rattle.iltokens.specs.declared.keyword.Keyword.TheVariants as words
-use Rattle.illines.specs.declared.token.Token.{Token}
-use Rattle.illines.specs.Terminals.{word, name, line_ends, spaced}
-use Rattle.illines.specs.Instructions.{lines}
+use Rattle.iltext.specs.declared.token.Token.{Token}
+use Rattle.iltext.specs.Terminals.{word, name, line_ends, spaced}
+use Rattle.iltext.specs.Instructions.{lines}
 use Rattle.iltext.specs.Configurations.{configuration}
 use Rattle.iltext.specs.Declarations.{type_declaration, variables, flat}
 use Rattle.iltext.specs.Functions.{function}

@@ -5,8 +5,8 @@ ghost use Rattle.iltokens.specs.Items.{begins};
 ghost use Rattle.iltokens.specs.Results.{Gives};
 ghost use Rattle.iltext.specs.Declarations.{block_of_word, block_at, block, instances};
 
+use crate::token::{Token, TokenKind};
 use ilblocks::BlockKind;
-use illines::{Token, TokenKind};
 use iltokens::{Keyword, ReadError, What};
 
 /// The kind of block that a word is.

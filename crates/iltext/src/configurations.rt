@@ -8,8 +8,9 @@ ghost use Rattle.iltext.specs.Configurations.{body, resource_head, resource};
 ghost use Rattle.iltext.specs.Configurations.{contents, configuration};
 
 use crate::globals::global_blocks;
+use crate::reading::{begins_word, spaced_name, spaced_word};
 use crate::tasks::{program_instances, tasks};
-use illines::{Token, begins_word, spaced_name, spaced_word};
+use crate::token::Token;
 use ilsource::{Configuration, GlobalDeclaration, InstanceDeclaration, TaskDeclaration};
 use iltokens::{Keyword, ReadError};
 use std::alloc::Global;

@@ -3,7 +3,7 @@
 ghost use Rattle.std.specs.Prelude.{◌≡◌, ◌≤◌, length, IfOk, All};
 ghost use Rattle.iltext.specs.Cutting.{Cuts};
 
-use illines::{Token, TokenKind};
+use crate::token::{Token, TokenKind};
 use iltokens::{Lexed, token};
 use std::alloc::{AllocError, Global};
 

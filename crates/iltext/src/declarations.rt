@@ -3,7 +3,7 @@
 ghost use Rattle.std.specs.Prelude.{◌≡◌, List, length};
 ghost use Rattle.iltokens.specs.Items.{begins};
 ghost use Rattle.iltokens.specs.Results.{Gives};
-ghost use Rattle.illines.specs.Terminals.{spaced};
+ghost use Rattle.iltext.specs.Terminals.{spaced};
 ghost use Rattle.iltext.specs.Declarations.{integer, simple, interval, range, specification};
 ghost use Rattle.iltext.specs.Declarations.{initial, typing, type_declaration, instances, declared};
 ghost use Rattle.iltext.specs.Declarations.{next_name, names_after, names};
@@ -13,11 +13,12 @@ ghost use Rattle.iltext.specs.Globals.{global};
 ghost use Rattle.iltext.specs.Texts.{derived_type};
 
 use crate::block_kinds::{begins_instances, block};
-use ilblocks::BlockKind;
-use illines::{
-    Token, TokenKind, begins_name, begins_word, line_ends, spaced_constant, spaced_delimiter,
-    spaced_name, spaced_number, spaced_word,
+use crate::reading::{
+    begins_name, begins_word, line_ends, spaced_constant, spaced_delimiter, spaced_name,
+    spaced_number, spaced_word,
 };
+use crate::token::{Token, TokenKind};
+use ilblocks::BlockKind;
 use ilsource::{Constant, Declaration, Declared, Name, Specification, TypeDeclaration};
 use iltokens::{Delimiter, Keyword, ReadError, What};
 use iltypes::IntegerType;
@@ -81,7 +82,7 @@ fn interval<'a>(ts: &'a [Token]) -> Result<((i64, i64), &'a [Token]), ReadError<
 }
 
 /// An integer type, or a subrange of one.
-#[tactic(auto, unfolding(crate::specs::Declarations::range, crate::specs::Declarations::interval, illines::specs::Terminals::delimiter))]
+#[tactic(auto, unfolding(crate::specs::Declarations::range, crate::specs::Declarations::interval, crate::specs::Terminals::delimiter))]
 fn range<'a>(ts: &'a [Token]) -> Result<(Specification, &'a [Token]), ReadError<'a, Token>>
     ensures { Gives (λ x. (x.0, x.1.now)) result (range.read ts.now) }
 {
@@ -136,7 +137,7 @@ pub(crate) fn specification<'a>(
 }
 
 /// `[":=" constant]`
-#[tactic(auto, unfolding(crate::specs::Declarations::initial, illines::specs::Terminals::delimiter))]
+#[tactic(auto, unfolding(crate::specs::Declarations::initial, crate::specs::Terminals::delimiter))]
 fn initial<'a>(ts: &'a [Token]) -> Result<(Option<Constant>, &'a [Token]), ReadError<'a, Token>>
     ensures { Gives (λ x. (x.0, x.1.now)) result (initial.read ts.now) }
 {
@@ -187,7 +188,7 @@ pub(crate) fn type_declaration<'a>(
     Ok((declaration, rest))
 }
 
-#[tactic(auto, unfolding(crate::specs::Declarations::next_name, illines::specs::Terminals::delimiter))]
+#[tactic(auto, unfolding(crate::specs::Declarations::next_name, crate::specs::Terminals::delimiter))]
 fn begins_next_name(ts: &[Token]) -> bool
     ensures { result ≡ begins next_name ts.now }
 {
@@ -381,7 +382,7 @@ fn var_external<'a>(
 }
 
 /// Whether a VAR block stands first.
-#[tactic(auto, unfolding(crate::specs::Declarations::vars, illines::specs::Terminals::word))]
+#[tactic(auto, unfolding(crate::specs::Declarations::vars, crate::specs::Terminals::word))]
 pub(crate) fn begins_vars(ts: &[Token]) -> bool
     ensures { result ≡ begins vars ts.now }
 {
@@ -404,7 +405,7 @@ pub(crate) fn variables<'a>(
 }
 
 /// Whether a VAR or VAR_EXTERNAL block stands first.
-#[tactic(auto, unfolding(crate::specs::Declarations::variables, crate::specs::Declarations::vars, crate::specs::Declarations::var_external, illines::specs::Terminals::word))]
+#[tactic(auto, unfolding(crate::specs::Declarations::variables, crate::specs::Declarations::vars, crate::specs::Declarations::var_external, crate::specs::Terminals::word))]
 pub(crate) fn begins_variables(ts: &[Token]) -> bool
     ensures { result ≡ begins variables ts.now }
 {

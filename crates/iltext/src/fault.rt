@@ -5,7 +5,8 @@ ghost use Rattle.iltext.specs.Faults.{text_fault_number, number_of_cause, cause_
 ghost use Rattle.iltext.specs.Faults.{is_deferrable, defers, open_after, open_after_all};
 ghost use Rattle.iltext.specs.Faults.{place_at, Reports};
 
-use illines::{OperatorRole, Token, TokenKind, is_inner, role_of};
+use crate::roles::{OperatorRole, is_inner, role_of};
+use crate::token::{Token, TokenKind};
 use ilsource::LineColumn;
 use iltokens::{Delimiter, LexicalCause, What};
 use limits::MOST_NESTING;

@@ -7,9 +7,9 @@ ghost use Rattle.iltext.specs.Functions.{input, inputs, var_input, function_word
 ghost use Rattle.iltext.specs.Functions.{own_variables, function};
 
 use crate::declarations::{begins_vars, names, specification, vars};
-use illines::{
-    Token, TokenKind, begins_name, line_ends, lines, spaced_delimiter, spaced_name, spaced_word,
-};
+use crate::instructions::lines;
+use crate::reading::{begins_name, line_ends, spaced_delimiter, spaced_name, spaced_word};
+use crate::token::{Token, TokenKind};
 use ilsource::{Declaration, Declared, Name, SourceFunction, Specification};
 use iltokens::{Delimiter, Keyword, ReadError, What};
 use std::alloc::Global;

@@ -8,9 +8,8 @@ ghost use Rattle.iltext.specs.Globals.{address, located, unlocated, global_named
 ghost use Rattle.iltext.specs.Globals.{globals, var_global, global_blocks};
 
 use crate::declarations::{begins_declaration, names_after, typing};
-use illines::{
-    Token, TokenKind, begins_word, line_ends, spaced_delimiter, spaced_name, spaced_word,
-};
+use crate::reading::{begins_word, line_ends, spaced_delimiter, spaced_name, spaced_word};
+use crate::token::{Token, TokenKind};
 use ilsource::{DirectAddress, GlobalDeclaration, Name};
 use iltokens::{Delimiter, Keyword, ReadError, What};
 use std::alloc::Global;

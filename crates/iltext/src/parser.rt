@@ -10,7 +10,7 @@ ghost use Rattle.iltext.specs.declared.fault.TextFault.{TextFault};
 use crate::cutting::tokens;
 use crate::fault::{TextCause, TextFault, fault_at};
 use crate::programs::whole_text;
-use illines::Token;
+use crate::token::Token;
 use ilsource::{Configuration, Element, Source};
 use iltokens::ReadError;
 use limits::is_too_long;

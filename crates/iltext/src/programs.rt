@@ -11,7 +11,9 @@ ghost use Rattle.iltext.specs.Texts.{types, function_unit, program_unit, unit, u
 use crate::configurations::optional_configuration;
 use crate::declarations::{begins_declaration, begins_variables, type_declaration, variables};
 use crate::functions::function;
-use illines::{Token, TokenKind, end, line_ends, lines, spaced_name, spaced_word};
+use crate::instructions::lines;
+use crate::reading::{end, line_ends, spaced_name, spaced_word};
+use crate::token::{Token, TokenKind};
 use ilsource::{Configuration, Declaration, Element, Program};
 use iltokens::{Keyword, ReadError, What};
 use std::alloc::Global;
@@ -90,7 +92,7 @@ fn types<'a>(
     Ok((all, rest))
 }
 
-#[tactic(auto, unfolding(crate::specs::Texts::types, illines::specs::Terminals::word))]
+#[tactic(auto, unfolding(crate::specs::Texts::types, crate::specs::Terminals::word))]
 fn begins_types(ts: &[Token]) -> bool
     ensures { result ≡ begins types ts.now }
 {
@@ -167,7 +169,7 @@ fn unit<'a>(
     }
 }
 
-#[tactic(auto, unfolding(crate::specs::Texts::unit, crate::specs::Texts::types, crate::specs::Texts::function_unit, crate::specs::Functions::function, crate::specs::Functions::head, crate::specs::Functions::function_word, crate::specs::Texts::program_unit, crate::specs::Texts::program, illines::specs::Terminals::word))]
+#[tactic(auto, unfolding(crate::specs::Texts::unit, crate::specs::Texts::types, crate::specs::Texts::function_unit, crate::specs::Functions::function, crate::specs::Functions::head, crate::specs::Functions::function_word, crate::specs::Texts::program_unit, crate::specs::Texts::program, crate::specs::Terminals::word))]
 fn begins_unit(ts: &[Token]) -> bool
     ensures { result ≡ begins unit ts.now }
 {

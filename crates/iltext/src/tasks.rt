@@ -6,10 +6,10 @@ ghost use Rattle.iltokens.specs.Results.{Gives};
 ghost use Rattle.iltext.specs.Tasks.{duration, single, interval, priority, inputs, task, tasks};
 ghost use Rattle.iltext.specs.Tasks.{with_task, program_instance, program_instances};
 
-use illines::{
-    Token, TokenKind, begins_word, line_ends, spaced_delimiter, spaced_name, spaced_number,
-    spaced_word,
+use crate::reading::{
+    begins_word, line_ends, spaced_delimiter, spaced_name, spaced_number, spaced_word,
 };
+use crate::token::{Token, TokenKind};
 use ilsource::{InstanceDeclaration, Name, TaskDeclaration};
 use iltokens::{Delimiter, Keyword, ReadError, What};
 use std::alloc::Global;

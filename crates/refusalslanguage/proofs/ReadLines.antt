@@ -9,14 +9,14 @@ use Rattle.iltokens.specs.Items.{many_read}
 use Rattle.iltokens.specs.Results.{Gives}
 use Rattle.iltokens.specs.declared.read_error.ReadError.{ReadError}
 use Rattle.iltokens.specs.declared.read_error.ReadError.TheVariants.{Memory, Fault}
-use Rattle.illines.specs.declared.token.Token.{Token}
-use Rattle.illines.specs.Terminals.{delimiter, name, closing, line_ends, line_break}
-use Rattle.illines.specs.Operands.{symbol, port, dot_port, literal, operand}
-use Rattle.illines.specs.Invocations.{next_operand, more_operands, some_operands, handed}
-use Rattle.illines.specs.Roles.{role_of_word}
-use Rattle.illines.specs.Instructions.{TextLine, on_operand, on_content, bounds, invoked, invocation, load, beginning}
-use Rattle.illines.specs.Instructions.{inner_operation, inner_of, content_of, applied, operation, instruction}
-use Rattle.illines.specs.Instructions.{after_label, after_name, named_line, line, lines}
+use Rattle.iltext.specs.declared.token.Token.{Token}
+use Rattle.iltext.specs.Terminals.{delimiter, name, closing, line_ends, line_break}
+use Rattle.iltext.specs.Operands.{symbol, port, dot_port, literal, operand}
+use Rattle.iltext.specs.Invocations.{next_operand, more_operands, some_operands, handed}
+use Rattle.iltext.specs.Roles.{role_of_word}
+use Rattle.iltext.specs.Instructions.{TextLine, on_operand, on_content, bounds, invoked, invocation, load, beginning}
+use Rattle.iltext.specs.Instructions.{inner_operation, inner_of, content_of, applied, operation, instruction}
+use Rattle.iltext.specs.Instructions.{after_label, after_name, named_line, line, lines}
 use Rattle.refusalslanguage.specs.Texts.{called, limited, opened}
 
 -- ---- what a function returns that reads

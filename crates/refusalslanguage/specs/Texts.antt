@@ -5,8 +5,8 @@ use Rattle.iltokens.specs.declared.lexed.Delimiter.{Delimiter}
 use Rattle.iltokens.specs.declared.lexed.Delimiter.TheVariants as delimiters
 use Rattle.iltokens.specs.declared.lexed.What.{What}
 use Rattle.iltokens.specs.declared.lexed.What.TheVariants as whats
-use Rattle.illines.specs.declared.token.Token.{Token}
-use Rattle.illines.specs.declared.token.TokenKind.TheVariants.{Good}
+use Rattle.iltext.specs.declared.token.Token.{Token}
+use Rattle.iltext.specs.declared.token.TokenKind.TheVariants.{Good}
 
 abbrev pub token : What → Token
 token what = record { kind = Good what; from = 0; to = 1 }

@@ -4,8 +4,8 @@ ghost use Rattle.std.specs.Prelude.{◌≡◌, [], ◌∷◌, IfErr, IfOk, None,
 ghost use Rattle.ilsource.specs.Trees.{Apply, Load};
 ghost use Rattle.refusalslanguage.specs.Texts.{called, limited, opened};
 
-use illines::{Token, lines};
 use ilsource::{Instruction, Line, Name, Operand, Symbol};
+use iltext::{Token, lines};
 use iltokens::ReadError;
 use iltypes::{Operator, Value};
 use std::alloc::Global;

@@ -2,7 +2,7 @@
 
 ghost use Rattle.std.specs.Prelude.{◌≡◌, [], ◌∷◌, Some, false};
 
-use illines::{OperatorRole, Token, TokenKind, end, role_of};
+use iltext::{OperatorRole, Token, TokenKind, end, role_of};
 use iltokens::{Keyword, What};
 use iltypes::{Function, IntegerType};
 

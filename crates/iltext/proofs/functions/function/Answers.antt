@@ -1,4 +1,4 @@
-use Rattle.illines.proofs.Shallow.{are_shallow}
+use Rattle.iltext.proofs.Shallow.{are_shallow}
 use Rattle.iltext.proofs.FunctionParts.{are_inputs, are_own}
 use Rattle.iltext.proofs.Sorted.{are_sorted}
 use Rattle.iltext.proofs.functions.function.Goals as goal

@@ -1,4 +1,4 @@
-use Rattle.illines.proofs.Shallow.{are_shallow}
+use Rattle.iltext.proofs.Shallow.{are_shallow}
 use Rattle.iltext.proofs.Sorted.{are_sorted}
 use Rattle.iltext.proofs.programs.program.Goals as goal
 

@@ -3,7 +3,7 @@ use Rattle.std.proofs.lemmas.Result.{err_from_is_err_and}
 use Rattle.iltokens.specs.Items.{begins}
 use Rattle.iltokens.specs.Results.{extend}
 use Rattle.iltokens.proofs.Loops.{adds_on, adds_none, all_added, shrinks}
-use Rattle.illines.proofs.Extends.{fails_extended}
+use Rattle.iltext.proofs.Extends.{fails_extended}
 use Rattle.iltext.specs.Texts.{unit, units}
 use Rattle.iltext.proofs.Laws.{Firm-unit}
 use Rattle.iltext.proofs.programs.units.Goals as goal

@@ -1,6 +1,6 @@
 use Rattle.std.proofs.Common.{◌≡◌, ◌∙◌, List, true, ap, is_ok}
-use Rattle.illines.specs.declared.token.Token.{Token}
-use Rattle.illines.specs.Instructions.{lines}
+use Rattle.iltext.specs.declared.token.Token.{Token}
+use Rattle.iltext.specs.Instructions.{lines}
 use Rattle.refusalslanguage.proofs.ReadLines.{no_fault, of_call}
 use Rattle.refusalslanguage.proofs.lines.call_takes_each_operand.Goals as goal
 

@@ -1,6 +1,6 @@
 use Rattle.std.proofs.Common.{◌≡◌, ◌∙◌, List, [], ◌∷◌, ap}
-use Rattle.illines.specs.declared.token.Token.{Token}
-use Rattle.illines.specs.Instructions.{TextLine, lines}
+use Rattle.iltext.specs.declared.token.Token.{Token}
+use Rattle.iltext.specs.Instructions.{TextLine, lines}
 use Rattle.refusalslanguage.proofs.ReadLines.{least, of_limit, value_read}
 use Rattle.refusalslanguage.proofs.Results.{if_ok}
 use Rattle.refusalslanguage.proofs.lines.limit_is_at_least_its_first_bound.Goals as goal

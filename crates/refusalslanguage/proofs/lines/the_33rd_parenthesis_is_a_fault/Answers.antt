@@ -1,6 +1,6 @@
 use Rattle.std.proofs.Common.{◌≡◌, ◌∙◌, List, false, ap, is_ok}
-use Rattle.illines.specs.declared.token.Token.{Token}
-use Rattle.illines.specs.Instructions.{lines}
+use Rattle.iltext.specs.declared.token.Token.{Token}
+use Rattle.iltext.specs.Instructions.{lines}
 use Rattle.refusalslanguage.proofs.ReadLines.{not_read, of_33}
 use Rattle.refusalslanguage.proofs.lines.the_33rd_parenthesis_is_a_fault.Goals as goal
 

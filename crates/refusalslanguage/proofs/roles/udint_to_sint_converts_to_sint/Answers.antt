@@ -1,4 +1,4 @@
-use Rattle.illines.specs.Roles.{role_of_word}
+use Rattle.iltext.specs.Roles.{role_of_word}
 use Rattle.refusalslanguage.proofs.roles.udint_to_sint_converts_to_sint.Goals as goal
 
 pub returns : goal.returns
