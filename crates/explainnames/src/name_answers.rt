@@ -10,10 +10,9 @@ use crate::standing::FaultPlace;
 use crate::tokens::{Role, next_same, token_at, type_behind};
 use crate::unknown_names::said_of_unknown;
 use explaincures::{AskedText, FaultAnswer, Surroundings};
-use ilscope::{NameCause, Scope};
+use ilscope::{NameCause, Scope, stored_globals, uses_of};
 use ilsource::{Name, Operand, Purpose, Source, Symbol, Use};
 use iltokens::Keyword;
-use iluses::{stored_globals, uses_of};
 use limits::{MOST_CALLS, MOST_FUNCTIONS, MOST_INPUTS};
 use std::alloc::{AllocError, Global};
 

@@ -5,13 +5,12 @@ ghost use Rattle.std.specs.Prelude.{◌≡◌, IfOk};
 use crate::tokens::what_at;
 use explaincures::{AskedText, Spot, Surroundings};
 use ilblocks::BlockKind;
-use ilscope::{DeclaredGlobal, DeclaredVariable, FunctionScope, Scope};
+use ilscope::{DeclaredGlobal, DeclaredVariable, FunctionScope, Scope, uses_of};
 use ilsource::{
     Configuration, Constant, Declaration, Declared, DirectAddress, Element, InstanceDeclaration,
     Line, Name, Operand, Purpose, Source, Specification, Symbol, TaskDeclaration, Use,
 };
 use iltokens::{Keyword, What};
-use iluses::uses_of;
 use std::alloc::{AllocError, Global};
 
 /// The place of a text at which a fault of names stands.

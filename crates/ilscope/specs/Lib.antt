@@ -1,7 +1,15 @@
+pub mod CallSteps
+pub mod Calls
 pub mod Configured
 pub mod Declarations
 pub mod Faults
+pub mod JumpSteps
+pub mod LabelSteps
+pub mod Labels
 pub mod Reports
+pub mod SameNames
 pub mod ScopeSteps
 pub mod Scoped
 pub mod Tables
+pub mod UseFaults
+pub mod Uses

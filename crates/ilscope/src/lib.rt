@@ -15,9 +15,23 @@
 //! let scope = Scope::of(alloc, &source, &binding)?;
 //! if let Some(fault) = scope.fault() { /* name fault 3 at 4:9 */ }
 //! ```
+//!
+//! What the lines of a source program name, and what stands against each line.
+//!
+//! What crosses the boundary: of a [`Scope`](ilscope::Scope), what lines use, the numbers of their
+//! labels and ports and of a task's trigger, the global variables that they store to, and the next
+//! fault at what lines use ([`fault_at_uses`]) and of lines as such ([`fault_of_lines`]). The
+//! definitions to be read first are `IsFaultAtUses` and `IsFaultOfLines` (specs/Faults.antt).
+//!
+//! ```text
+//! let used = fault_at_uses(alloc, &scope, None)?; // or None
+//! let (labels, _) = number_labels(alloc, &scope, program.lines(), None)?;
+//! ```
 #![tactic(auto)]
 
+mod arguments;
 mod body_number;
+mod calls;
 mod configuration;
 mod configuration_faults;
 mod configuration_tables;
@@ -26,20 +40,35 @@ mod function_scope;
 mod function_tables;
 mod functions;
 mod gathering;
+mod jumps;
+mod labels;
+mod lines;
 mod numbers;
 mod other_types;
+mod ports;
 mod program_scope;
 mod program_tables;
 mod scope;
+mod stored;
 mod tables;
 mod tasks;
+mod triggers;
 mod unknown;
+mod unknown_uses;
+mod uses;
 
 pub use body_number::BodyNumber;
+pub use calls::{FunctionCall, function_called};
 pub use function_scope::FunctionScope;
 pub use ildeclared::{
     DeclaredBlock, DeclaredExternal, DeclaredGlobal, DeclaredVariable, Found, NameCause, NameFault,
     Names, found_where, lesser_of,
 };
+pub use labels::number_labels;
+pub use lines::fault_of_lines;
+pub use ports::port_of;
 pub use program_scope::ProgramScope;
 pub use scope::{Scope, report_of};
+pub use stored::stored_globals;
+pub use triggers::trigger_number;
+pub use uses::{fault_at_uses, uses_of};

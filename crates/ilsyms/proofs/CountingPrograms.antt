@@ -15,7 +15,7 @@ use Rattle.ildeclared.specs.Faults.{SomeOf}
 use Rattle.ildeclared.proofs.Least.{some_front, some_last}
 use Rattle.ilscope.specs.Declarations.{declared_programs, DeclaredProgram}
 use Rattle.ilplan.specs.Constants.{constants_used, same_value}
-use Rattle.iluses.specs.Uses.{uses_of}
+use Rattle.ilscope.specs.Uses.{uses_of}
 use Rattle.ilsyms.specs.CountingSteps.{AreCounted, AreSeen}
 use Rattle.ilsyms.specs.TaskSteps.{AreThere, instances_of}
 use Rattle.ilsyms.specs.Tasks.{NamedProgram, instance_named}

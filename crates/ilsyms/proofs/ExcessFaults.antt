@@ -20,7 +20,7 @@ use Rattle.ildeclared.specs.declared.found.Found.{Found}
 use Rattle.ildeclared.proofs.FoundOrder.{or_else}
 use Rattle.ilscope.specs.Configured.{task_declarations}
 use Rattle.ilscope.specs.Declarations.{declared_functions}
-use Rattle.iluses.specs.Uses.{uses_of}
+use Rattle.ilscope.specs.Uses.{uses_of}
 use Rattle.ildeclared.proofs.Least.{either_next}
 use Rattle.ilplan.specs.declared.slot.Slot.{Slot}
 use Rattle.ilsyms.specs.Faults.{AreTooDeep, IsTooMany, IsTooManyIn, IsTooManyOfFunctions, MakesTooManyConstants}

@@ -18,11 +18,11 @@ use Rattle.ildeclared.proofs.Least.{both_next}
 use Rattle.ilscope.specs.Declarations.{bodies_of, DeclaredProgram}
 use Rattle.ilscope.specs.Faults.{IsTwiceIn}
 use Rattle.ilscope.proofs.LeastOfDeclarations.{some_of}
-use Rattle.iluses.specs.Faults.{IsUnknownUse, StoresToInput, WritesOutput, JumpsBack, JumpsNowhere, labels_of}
-use Rattle.iluses.specs.Calls.{calls_of}
-use Rattle.iluses.specs.Faults.{IsFaultAtUse, IsFaultAtUses, IsFaultOfBody, IsFaultOfLabels, IsFaultOfUses}
-use Rattle.iluses.specs.Faults.{IsGivenTwiceIn, IsWrongIn}
-use Rattle.iluses.specs.Uses.{uses_of}
+use Rattle.ilscope.specs.UseFaults.{IsUnknownUse, StoresToInput, WritesOutput, JumpsBack, JumpsNowhere, labels_of}
+use Rattle.ilscope.specs.Calls.{calls_of}
+use Rattle.ilscope.specs.UseFaults.{IsFaultAtUse, IsFaultAtUses, IsFaultOfBody, IsFaultOfLabels, IsFaultOfUses}
+use Rattle.ilscope.specs.UseFaults.{IsGivenTwiceIn, IsWrongIn}
+use Rattle.ilscope.specs.Uses.{uses_of}
 use Rattle.ilsyms.specs.Faults.{IsFaultOfUse, IsTooMany, IsWrittenTwice}
 
 -- ---- faults of one cause

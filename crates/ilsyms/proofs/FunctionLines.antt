@@ -14,7 +14,7 @@ use Rattle.ilscope.specs.Configured.{globals_of}
 use Rattle.ilscope.specs.Declarations.{DeclaredFunction, as_program}
 use Rattle.ilplan.specs.declared.place.Place.{Place}
 use Rattle.ilplan.specs.declared.slot.Slot.{Slot}
-use Rattle.iluses.specs.Labels.{AreNumbered}
+use Rattle.ilscope.specs.Labels.{AreNumbered}
 use Rattle.ilsyms.specs.Meaning.{is_global}
 use Rattle.ilsyms.specs.NumberingSteps.{AreGlobalSlots, numbering_of}
 use Rattle.ilsyms.specs.Resolved.{planned_instance}

@@ -14,9 +14,9 @@ use Rattle.ildeclared.specs.Faults.{SomeLater, SomeOf}
 use Rattle.ildeclared.specs.declared.fault.NameCause.TheVariants.{Twice}
 use Rattle.ilscope.specs.Declarations.{DeclaredFunction, declared_function, declared_functions, name_of, standing}
 use Rattle.ilscope.specs.Tables.{first_at}
-use Rattle.iluses.specs.Faults.{function_called, functions_above}
-use Rattle.iluses.specs.SameNames.{same_name}
-use Rattle.iluses.proofs.SameNames.{alike}
+use Rattle.ilscope.specs.UseFaults.{function_called, functions_above}
+use Rattle.ilscope.specs.SameNames.{same_name}
+use Rattle.ilscope.proofs.SameNames.{alike}
 use Rattle.ilscope.specs.Declarations.{DeclaredProgram}
 use Rattle.ilsyms.specs.Faults.{IsWellNamed}
 use Rattle.ilsyms.specs.Meaning.{function_in_text}

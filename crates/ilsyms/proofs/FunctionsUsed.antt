@@ -17,7 +17,7 @@ use Rattle.ilsource.specs.Uses.{uses_in}
 use Rattle.ilsource.specs.declared.instruction.Line.{Line}
 use Rattle.ildeclared.proofs.Least.{take_more}
 use Rattle.ilscope.specs.Declarations.{DeclaredFunction, DeclaredProgram, declared_functions, declared_programs}
-use Rattle.iluses.specs.Uses.{uses_of}
+use Rattle.ilscope.specs.Uses.{uses_of}
 use Rattle.ilplan.specs.declared.instance.FunctionBlock.{FunctionBlock}
 use Rattle.ilplan.specs.declared.place.Place.{Place}
 use Rattle.ilplan.specs.declared.slot.Slot.{Slot}

@@ -20,12 +20,12 @@ use Rattle.ilscope.specs.Configured.{global_number}
 use Rattle.ilscope.specs.Declarations.{as_program, bodies_of, declared_functions, declared_programs}
 use Rattle.ilscope.specs.Declarations.{DeclaredFunction, DeclaredProgram}
 use Rattle.ilscope.specs.Faults.{IsUnknownName}
-use Rattle.iluses.specs.Faults.{IsUnknownOperand, IsUnknownSymbol, IsUnknownUse, functions_above, place_of_port}
-use Rattle.iluses.specs.Faults.{port_number}
-use Rattle.iluses.specs.SameNames.{same_name}
-use Rattle.iluses.specs.Uses.{uses_of}
-use Rattle.iluses.proofs.Lists.{at_some, some_at}
-use Rattle.iluses.proofs.SameNames.{alike, same_as}
+use Rattle.ilscope.specs.UseFaults.{IsUnknownOperand, IsUnknownSymbol, IsUnknownUse, functions_above, place_of_port}
+use Rattle.ilscope.specs.UseFaults.{port_number}
+use Rattle.ilscope.specs.SameNames.{same_name}
+use Rattle.ilscope.specs.Uses.{uses_of}
+use Rattle.ilscope.proofs.Lists.{at_some, some_at}
+use Rattle.ilscope.proofs.SameNames.{alike, same_as}
 use Rattle.ilsyms.specs.Faults.{IsWellNamed}
 use Rattle.ilsyms.specs.Tasks.{NamedProgram}
 use Rattle.ilsyms.proofs.Lists.{either}

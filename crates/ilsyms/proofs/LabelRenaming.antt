@@ -12,8 +12,8 @@ use Rattle.ilsource.specs.declared.name.Name.{Name}
 use Rattle.ilsource.specs.declared.symbol.Symbol.{Symbol}
 use Rattle.ilsource.specs.Names.{folded}
 use Rattle.ilplan.specs.PlanMeaning.{number_same}
-use Rattle.iluses.specs.SameNames.{same_name}
-use Rattle.iluses.proofs.SameNames.{alike, same_as}
+use Rattle.ilscope.specs.SameNames.{same_name}
+use Rattle.ilscope.proofs.SameNames.{alike, same_as}
 use Rattle.ilsyms.specs.Resolved.{label_number}
 use Rattle.ilsyms.proofs.Lists.{either, or_true}
 

@@ -13,7 +13,7 @@ use Rattle.ilsource.specs.SourceTrees.{Tree}
 use Rattle.ilsource.specs.Uses.{uses_in}
 use Rattle.ilsource.specs.declared.instruction.Line.{Line}
 use Rattle.ilsource.specs.declared.uses.Use.{Use}
-use Rattle.iluses.specs.Uses.{uses_of}
+use Rattle.ilscope.specs.Uses.{uses_of}
 use Rattle.ilplan.specs.declared.function.FunctionInput.{FunctionInput}
 use Rattle.ilplan.specs.declared.function.FunctionVariable.{FunctionVariable}
 use Rattle.ilplan.specs.declared.place.Place.{Place}

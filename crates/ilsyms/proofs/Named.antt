@@ -26,9 +26,9 @@ use Rattle.ilplan.specs.Plans.{HasPort, Nameable}
 use Rattle.ilplan.specs.declared.instance.FunctionBlock.{FunctionBlock}
 use Rattle.ilplan.specs.declared.slot.Slot.{Slot}
 use Rattle.ilsyms.proofs.Lists.{first_below}
-use Rattle.iluses.specs.Faults.{IsNoBlock, IsNoVariable}
-use Rattle.iluses.specs.SameNames.{same_name}
-use Rattle.iluses.proofs.SameNames.{alike, same_as}
+use Rattle.ilscope.specs.UseFaults.{IsNoBlock, IsNoVariable}
+use Rattle.ilscope.specs.SameNames.{same_name}
+use Rattle.ilscope.proofs.SameNames.{alike, same_as}
 use Rattle.ilsyms.specs.Meaning.{block_in_store, is_block_under, is_global, is_own, place_in_store}
 use Rattle.ilsyms.specs.Meaning.{port_of_block}
 use Rattle.ilsyms.specs.PlanningSteps.{AreApart}

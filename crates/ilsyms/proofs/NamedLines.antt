@@ -34,14 +34,14 @@ use Rattle.ilsource.specs.declared.symbol.Symbol.TheVariants.{Variable, Port, Bl
 use Rattle.ildeclared.specs.Faults.{SomeOf}
 use Rattle.ildeclared.specs.declared.fault.NameCause.TheVariants.{BadDeclaration, Unknown}
 use Rattle.ilscope.specs.Declarations.{DeclaredFunction, DeclaredProgram, bodies_of, declared_functions}
-use Rattle.iluses.specs.Calls.{call, calls_by, calls_in, calls_of, calls_of_line}
-use Rattle.iluses.specs.declared.calls.FunctionCall.{FunctionCall}
-use Rattle.iluses.specs.Faults.{IsCalledWrongly, IsUnknownOperand, IsUnknownUse, functions_above}
-use Rattle.iluses.specs.Faults.{place_of_port, port_number}
-use Rattle.iluses.specs.SameNames.{same_name}
-use Rattle.iluses.specs.Uses.{uses_of}
-use Rattle.iluses.proofs.Lists.{at_some}
-use Rattle.iluses.proofs.SameNames.{same_as}
+use Rattle.ilscope.specs.Calls.{call, calls_by, calls_in, calls_of, calls_of_line}
+use Rattle.ilscope.specs.declared.calls.FunctionCall.{FunctionCall}
+use Rattle.ilscope.specs.UseFaults.{IsCalledWrongly, IsUnknownOperand, IsUnknownUse, functions_above}
+use Rattle.ilscope.specs.UseFaults.{place_of_port, port_number}
+use Rattle.ilscope.specs.SameNames.{same_name}
+use Rattle.ilscope.specs.Uses.{uses_of}
+use Rattle.ilscope.proofs.Lists.{at_some}
+use Rattle.ilscope.proofs.SameNames.{same_as}
 use Rattle.ilplan.specs.Plans.{AreLinesOf, GivesAll, HasOperand, HasPort, HasUse, IsGiven, Nameable, Takes, all_lines}
 use Rattle.ilplan.specs.declared.instance.FunctionBlock.{FunctionBlock}
 use Rattle.ilplan.specs.declared.place.Place.{Place}

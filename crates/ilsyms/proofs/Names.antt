@@ -23,7 +23,7 @@ use Rattle.ildeclared.specs.declared.variable.DeclaredVariable.{DeclaredVariable
 use Rattle.ildeclared.proofs.FoundOrder.{or_else}
 use Rattle.ilscope.specs.Declarations.{as_program, declared_function, declared_program, DeclaredProgram, standing}
 use Rattle.ilscope.specs.Faults.{IsTwiceIn}
-use Rattle.iluses.proofs.Lists.{at_some, some_at}
+use Rattle.ilscope.proofs.Lists.{at_some, some_at}
 use Rattle.ilsyms.specs.Placed.{HasExternal}
 use Rattle.ilsyms.proofs.PlacedLists.{some_as, some_left, some_made, some_parts, some_right}
 use Rattle.ilsyms.proofs.Pairs.{later_cross, later_left, later_made, later_parts, later_right}

@@ -20,8 +20,8 @@ use Rattle.ilscope.specs.Tables.{first_at}
 use Rattle.ilplan.specs.declared.instance.FunctionBlock.{FunctionBlock}
 use Rattle.ilplan.specs.declared.slot.Slot.{Slot}
 use Rattle.ilplan.specs.declared.place.Place.TheVariants as places
-use Rattle.iluses.specs.SameNames.{same_name}
-use Rattle.iluses.proofs.SameNames.{same_as}
+use Rattle.ilscope.specs.SameNames.{same_name}
+use Rattle.ilscope.proofs.SameNames.{same_as}
 use Rattle.ilsyms.specs.PlanningSteps.{AreOthers}
 use Rattle.ilsyms.specs.Meaning.{is_own, is_block_under, place_in_store, block_in_store, port_in_store}
 use Rattle.ilsyms.specs.Meaning.{port_of_block, place_of}

@@ -10,8 +10,8 @@ use Rattle.ilsource.specs.declared.symbol.Symbol.{Symbol}
 use Rattle.ilsource.specs.Names.{folded}
 use Rattle.ildeclared.specs.Kept.{Kept}
 use Rattle.ilscope.specs.Tables.{first_at}
-use Rattle.iluses.specs.Labels.{AreNumbered}
-use Rattle.iluses.proofs.LabelNumbers.{has}
+use Rattle.ilscope.specs.Labels.{AreNumbered}
+use Rattle.ilscope.proofs.LabelNumbers.{has}
 use Rattle.ilsyms.specs.Resolved.{label_number}
 
 -- the number of the first that passes, or how many there are

@@ -19,7 +19,7 @@ use Rattle.ilplan.specs.declared.slot.Slot.{Slot}
 use Rattle.ilplan.specs.declared.place.Place.{Place}
 use Rattle.ilplan.specs.Constants.{constant_in, constants_used, different_constants, each_once}
 use Rattle.ilplan.specs.Plans.{all_lines}
-use Rattle.iluses.specs.Uses.{uses_of}
+use Rattle.ilscope.specs.Uses.{uses_of}
 use Rattle.ilsyms.specs.Resolved.{new_places, label_number, planned_instance}
 use Rattle.ilsyms.specs.Tasks.{NamedProgram}
 use Rattle.ilsyms.specs.Variables.{lines_of}

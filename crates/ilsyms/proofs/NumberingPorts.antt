@@ -12,8 +12,8 @@ use Rattle.ilsource.specs.Names.{text_of}
 use Rattle.ildeclared.specs.declared.block.DeclaredBlock.{DeclaredBlock}
 use Rattle.ilscope.specs.Declarations.{DeclaredProgram}
 use Rattle.ilscope.specs.Tables.{first_at}
-use Rattle.iluses.specs.Faults.{port_number}
-use Rattle.iluses.specs.SameNames.{same_name}
+use Rattle.ilscope.specs.UseFaults.{port_number}
+use Rattle.ilscope.specs.SameNames.{same_name}
 
 few_ports : (kind : BlockKind) → length (ports_of kind) ≤ 5
 few_ports kinds.RTrig = omega arith

@@ -3,7 +3,7 @@ use Rattle.std.proofs.Common.{◌≡◌, ℕ, zero, suc, List, [], ◌∷◌, �
 use Rattle.std.specs.Prelude.{Some, slice_get}
 use Rattle.ildeclared.specs.Faults.{SomeLater, SomeOf}
 use Rattle.ildeclared.proofs.FoundOrder.{or_else}
-use Rattle.iluses.proofs.Lists.{at_some}
+use Rattle.ilscope.proofs.Lists.{at_some}
 use Rattle.ilsyms.proofs.PlacedLists.{made_some, some_left, some_made, some_parts, some_right}
 
 module _ {X : Type 0} (R : X → X → Type 0) where

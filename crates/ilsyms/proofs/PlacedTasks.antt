@@ -16,7 +16,7 @@ use Rattle.ilscope.specs.Configured.{globals_of}
 use Rattle.ilscope.specs.Declarations.{DeclaredFunction, declared_functions}
 use Rattle.ilplan.specs.declared.place.Place.{Place}
 use Rattle.ilplan.specs.declared.place.Place.TheVariants as places
-use Rattle.iluses.specs.Uses.{uses_of}
+use Rattle.ilscope.specs.Uses.{uses_of}
 use Rattle.ilsyms.specs.Faults.{IsWellNamed}
 use Rattle.ilsyms.specs.Meaning.{function_in_text, place_of}
 use Rattle.ilsyms.specs.PlanningSteps.{AreApart}

@@ -23,7 +23,7 @@ use Rattle.ildeclared.specs.declared.variable.DeclaredVariable.{DeclaredVariable
 use Rattle.ilscope.specs.Declarations.{DeclaredFunction, declared_function, declared_functions, standing}
 use Rattle.ilscope.specs.Faults.{IsBadFunction}
 use Rattle.ilscope.proofs.Typed.{IsTypedVariable, declared_typed_functions}
-use Rattle.iluses.proofs.Lists.{at_some}
+use Rattle.ilscope.proofs.Lists.{at_some}
 use Rattle.ilplan.specs.Functions.{PlannedFunction, depth_of, depths_from}
 use Rattle.ilplan.specs.Plans.{AreFunctions, AreLinesOf, IsFunction, in_body, inputs_of}
 use Rattle.ilplan.specs.declared.place.Place.{Place}

@@ -31,7 +31,7 @@ use Rattle.ilblocks.proofs.Stores.{at_first_are}
 use Rattle.ilplan.specs.declared.activation.Activation.TheVariants.{Cyclic, Event}
 use Rattle.ilplan.specs.Plans.{AreFunctions, HasTrigger, IsLawful, IsTaskOf, IsTrigger as IsPlannedTrigger}
 use Rattle.ilplan.specs.Plans.{HasStates, KeepsLimits, kinds_of}
-use Rattle.iluses.proofs.Lists.{at_some}
+use Rattle.ilscope.proofs.Lists.{at_some}
 use Rattle.ilsyms.specs.Faults.{IsWellNamed}
 use Rattle.ilsyms.specs.Resolved.{location, plan_of_tree, planned_function, planned_functions, planned_global}
 use Rattle.ilsyms.specs.Resolved.{planned_task}

@@ -33,7 +33,7 @@ use Rattle.ilplan.specs.Constants.{constants_in, constants_used, each_once}
 use Rattle.ilplan.specs.Functions.{PlannedFunction, constants_of_function, slots_of_function, words_of_function}
 use Rattle.ilplan.specs.Plans.{AreLinesOf, KeepsLimits, HasInterval, all_lines, in_task, inputs_of}
 use Rattle.ilsource.specs.Uses.{uses_in}
-use Rattle.iluses.proofs.Lists.{at_some}
+use Rattle.ilscope.proofs.Lists.{at_some}
 use Rattle.ilsyms.specs.Faults.{IsTooManyIn, IsWellNamed, all_slot_places, all_uses, all_word_places, instance_names}
 use Rattle.ilsyms.specs.Faults.{place_of_slot, slot_places, starting_use, uses_of_function, word_places}
 use Rattle.ilsyms.specs.PlanningSteps.{AreApart}

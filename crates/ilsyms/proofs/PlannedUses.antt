@@ -18,7 +18,7 @@ use Rattle.ilsource.specs.SourceTrees.{Tree}
 use Rattle.ilsource.specs.Uses.{uses_in}
 use Rattle.ilsource.specs.Words.{places_in}
 use Rattle.ilsource.proofs.KeptSizes.{places_kept, uses_kept}
-use Rattle.iluses.specs.Uses.{uses_of}
+use Rattle.ilscope.specs.Uses.{uses_of}
 use Rattle.ilplan.specs.declared.instance.FunctionBlock.{FunctionBlock}
 use Rattle.ilplan.specs.declared.place.Place.{Place}
 use Rattle.ilplan.specs.declared.slot.Slot.{Slot}

@@ -23,7 +23,7 @@ use Rattle.ilplan.specs.declared.instance.FunctionBlock.{FunctionBlock}
 use Rattle.ilplan.specs.declared.slot.Slot.{Slot}
 use Rattle.ilplan.specs.declared.place.Place.{Place}
 use Rattle.ilplan.specs.Plans.{PlannedInstance}
-use Rattle.iluses.specs.Labels.{AreNumbered}
+use Rattle.ilscope.specs.Labels.{AreNumbered}
 use Rattle.ilsyms.specs.NumberingSteps.{label_of, Numbering, numbering_of, numbers}
 use Rattle.ilsyms.specs.PlanningSteps.{AreApart}
 use Rattle.ilsyms.specs.Resolved.{label_number, new_places, planned_instance}

@@ -22,7 +22,7 @@ use Rattle.ilplan.specs.declared.instance.FunctionBlock.{FunctionBlock}
 use Rattle.ilplan.specs.declared.slot.Slot.{Slot}
 use Rattle.ilplan.specs.Functions.{function_types, starting_values}
 use Rattle.ilplan.specs.PlanMeaning.{body_shape, function_value, functions_given, number_same, places_of, plan_scan}
-use Rattle.iluses.specs.SameNames.{same_name}
+use Rattle.ilscope.specs.SameNames.{same_name}
 use Rattle.ilsyms.specs.Meaning.{instances_scan, names_in, place_of, source_body, source_functions, source_scan}
 use Rattle.ilsyms.specs.Meaning.{source_value}
 use Rattle.ilsyms.specs.Resolved.{label_number, new_places, planned_function, planned_functions, planned_input}

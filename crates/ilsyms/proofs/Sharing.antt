@@ -22,9 +22,9 @@ use Rattle.ilplan.specs.declared.place.Place.{Place}
 use Rattle.ilplan.specs.declared.place.Place.TheVariants as places
 use Rattle.ilplan.specs.declared.slot.Slot.{Slot}
 use Rattle.ilplan.specs.declared.slot.SlotOwner.TheVariants.{Global, Own}
-use Rattle.iluses.specs.SameNames.{same_name}
-use Rattle.iluses.proofs.Lists.{some_at}
-use Rattle.iluses.proofs.SameNames.{same_as}
+use Rattle.ilscope.specs.SameNames.{same_name}
+use Rattle.ilscope.proofs.Lists.{some_at}
+use Rattle.ilscope.proofs.SameNames.{same_as}
 use Rattle.ilsyms.specs.PlanningSteps.{AreApart, AreOthers}
 use Rattle.ilsyms.specs.Tasks.{NamedProgram}
 use Rattle.ilsyms.specs.Variables.{blocks_of, function_block, global_slot, own_slot, slots_of}

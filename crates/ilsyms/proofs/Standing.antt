@@ -27,10 +27,10 @@ use Rattle.ilscope.specs.Faults.{IsUnknownName}
 use Rattle.ilscope.specs.Tables.{first_at, lowered}
 use Rattle.ilplan.specs.declared.instance.FunctionBlock.{FunctionBlock}
 use Rattle.ilplan.specs.declared.slot.Slot.{Slot}
-use Rattle.iluses.specs.Faults.{port_number}
-use Rattle.iluses.specs.SameNames.{same_name}
-use Rattle.iluses.proofs.Lists.{at_some, some_at}
-use Rattle.iluses.proofs.SameNames.{alike, same_as}
+use Rattle.ilscope.specs.UseFaults.{port_number}
+use Rattle.ilscope.specs.SameNames.{same_name}
+use Rattle.ilscope.proofs.Lists.{at_some, some_at}
+use Rattle.ilscope.proofs.SameNames.{alike, same_as}
 use Rattle.ilsyms.specs.Meaning.{block_in_store, is_block_under, is_global, is_own, place_in_store, port_in_store}
 use Rattle.ilsyms.specs.Meaning.{function_in_text, place_of, port_of_block}
 use Rattle.ilsyms.specs.PlanningSteps.{AreApart, AreOthers}

@@ -12,8 +12,8 @@ use Rattle.ildeclared.specs.Faults.{SomeOf}
 use Rattle.ilscope.specs.Configured.{program_number}
 use Rattle.ilscope.specs.Declarations.{declared_program, declared_programs, DeclaredProgram, name_of, standing}
 use Rattle.ilscope.specs.Faults.{IsTwice, IsTwiceIn}
-use Rattle.iluses.specs.SameNames.{same_name}
-use Rattle.iluses.proofs.SameNames.{alike, same_as}
+use Rattle.ilscope.specs.SameNames.{same_name}
+use Rattle.ilscope.proofs.SameNames.{alike, same_as}
 use Rattle.ilsyms.specs.PlanningSteps.{AreOthers, AreApart}
 use Rattle.ilsyms.specs.Tasks.{NamedProgram, instance_named, instances_in, is_in, main_task}
 use Rattle.ilsyms.proofs.Lists.{either}

@@ -7,7 +7,7 @@ use Rattle.std.proofs.lemmas.Option.{slice_get-map}
 use Rattle.ilsource.specs.SourceTrees.{Tree}
 use Rattle.ildeclared.proofs.Least.{got_at, take_more}
 use Rattle.ilplan.specs.Constants.{each_once}
-use Rattle.iluses.specs.Uses.{uses_of}
+use Rattle.ilscope.specs.Uses.{uses_of}
 use Rattle.ilsyms.specs.Faults.{all_uses}
 use Rattle.ilsyms.specs.FunctionSteps.{Needs}
 use Rattle.ilsyms.specs.Resolved.{constants_of}

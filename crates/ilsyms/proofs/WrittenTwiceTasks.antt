@@ -10,8 +10,8 @@ use Rattle.ilsource.specs.SourceTrees.{Tree}
 use Rattle.ildeclared.specs.Faults.{SomeOf}
 use Rattle.ildeclared.proofs.FoundOrder.{or_else}
 use Rattle.ilscope.specs.Declarations.{declared_programs, DeclaredProgram}
-use Rattle.iluses.specs.Faults.{ProgramStores}
-use Rattle.iluses.proofs.Lists.{last_or_before}
+use Rattle.ilscope.specs.UseFaults.{ProgramStores}
+use Rattle.ilscope.proofs.Lists.{last_or_before}
 use Rattle.ilsyms.specs.Faults.{TaskStores}
 use Rattle.ilsyms.specs.TaskSteps.{AreInstances, AreInstancesOfTasks, instance_at}
 use Rattle.ilsyms.specs.TaskSetSteps.{AreSetsOf, IsSetOf}

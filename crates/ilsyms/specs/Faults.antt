@@ -24,8 +24,8 @@ use Rattle.ildeclared.specs.declared.fault.NameCause.TheVariants.{WrittenTwice, 
 use Rattle.ilscope.specs.Configured.{globals_of, task_declarations}
 use Rattle.ilscope.specs.Declarations.{DeclaredFunction, declared_functions, declared_programs}
 use Rattle.ilscope.specs.Faults.{IsFaultOfDeclarations}
-use Rattle.iluses.specs.Faults.{IsBackwardJump, IsGivenTwice, IsInputWritten, IsLabelTwice, IsOutputWritten}
-use Rattle.iluses.specs.Faults.{IsOwnInputWritten, IsUnknownLabel, IsUnknownName, IsWrongCall, ProgramStores}
+use Rattle.ilscope.specs.UseFaults.{IsBackwardJump, IsGivenTwice, IsInputWritten, IsLabelTwice, IsOutputWritten}
+use Rattle.ilscope.specs.UseFaults.{IsOwnInputWritten, IsUnknownLabel, IsUnknownName, IsWrongCall, ProgramStores}
 use Rattle.ilplan.specs.Constants.{constants_used, each_once}
 use Rattle.ilplan.specs.Functions.{PlannedFunction, depths_from}
 use Rattle.ilplan.specs.Plans.{all_lines}

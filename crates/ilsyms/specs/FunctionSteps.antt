@@ -14,7 +14,7 @@ use Rattle.ilsource.specs.Uses.{read_at}
 use Rattle.ilsource.specs.Words.{places_in}
 use Rattle.ildeclared.specs.declared.variable.DeclaredVariable.{DeclaredVariable}
 use Rattle.ilscope.specs.Declarations.{DeclaredFunction, DeclaredProgram}
-use Rattle.iluses.specs.Uses.{uses_of}
+use Rattle.ilscope.specs.Uses.{uses_of}
 use Rattle.ilplan.specs.Functions.{PlannedFunction}
 use Rattle.ilplan.specs.Plans.{used_by}
 use Rattle.ilsyms.specs.Meaning.{function_in_text}

@@ -22,7 +22,7 @@ use Rattle.ilsource.specs.Names.{text_of}
 use Rattle.ilsource.specs.SourceTrees.{Tree}
 use Rattle.ilscope.specs.Configured.{global_number}
 use Rattle.ilscope.specs.Declarations.{DeclaredFunction, declared_functions}
-use Rattle.iluses.specs.SameNames.{same_name}
+use Rattle.ilscope.specs.SameNames.{same_name}
 use Rattle.ilplan.specs.declared.instance.FunctionBlock.{FunctionBlock}
 use Rattle.ilplan.specs.declared.slot.Slot.{Slot}
 use Rattle.ilplan.specs.declared.slot.SlotOwner.{SlotOwner}

@@ -20,7 +20,7 @@ use Rattle.ilscope.specs.Tables.{block_number, variable_number}
 use Rattle.ilplan.specs.declared.slot.Slot.{Slot}
 use Rattle.ilplan.specs.declared.place.Place.{Place}
 use Rattle.ilplan.specs.declared.place.Place.TheVariants as places
-use Rattle.iluses.specs.Faults.{port_number}
+use Rattle.ilscope.specs.UseFaults.{port_number}
 use Rattle.ilsyms.specs.Meaning.{is_global}
 
 -- the text's tree, the program, the task's slots and the number of the first of the instance's own, the number of its

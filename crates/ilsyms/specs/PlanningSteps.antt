@@ -3,7 +3,7 @@ use Rattle.std.specs.Prelude.{◌≡◌, ℕ, ◌<◌, List, get_or, length, Boo
 use Rattle.ilsource.specs.declared.name.Name.{Name}
 use Rattle.ilplan.specs.declared.slot.SlotOwner.{SlotOwner}
 use Rattle.ilplan.specs.declared.slot.SlotOwner.TheVariants.{Global, Own}
-use Rattle.iluses.specs.SameNames.{same_name}
+use Rattle.ilscope.specs.SameNames.{same_name}
 use Rattle.ilsyms.specs.Tasks.{NamedProgram}
 
 -- the entries with numbers that pass are set to a value, and the others stay

@@ -27,7 +27,7 @@ use Rattle.ilplan.specs.declared.function.FunctionInput.{FunctionInput}
 use Rattle.ilplan.specs.declared.function.FunctionVariable.{FunctionVariable}
 use Rattle.ilplan.specs.Functions.{PlannedFunction, function_of, those_in}
 use Rattle.ilplan.specs.Plans.{PlannedInstance, PlannedTask, Planned, constants_for, plan_of, task_of, used_by}
-use Rattle.iluses.specs.SameNames.{same_name}
+use Rattle.ilscope.specs.SameNames.{same_name}
 use Rattle.ilsyms.specs.Meaning.{place_of}
 use Rattle.ilsyms.specs.Tasks.{NamedProgram, SourceTask, tasks_of}
 use Rattle.ilsyms.specs.Variables.{alone, as_instance, slots_of, blocks_of}

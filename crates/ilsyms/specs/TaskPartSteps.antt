@@ -3,7 +3,7 @@ use Rattle.std.specs.Prelude.{◌≡◌, ◌+◌, ◌++◌, List, All, flat_map,
 use Rattle.limits.specs.Limits.{most_blocks, most_slots}
 use Rattle.ilsource.specs.SourceTrees.{Tree}
 use Rattle.ilscope.specs.Declarations.{declared_functions}
-use Rattle.iluses.specs.Uses.{uses_of}
+use Rattle.ilscope.specs.Uses.{uses_of}
 use Rattle.ilsyms.specs.CountingSteps.{AreCounted}
 use Rattle.ilsyms.specs.FunctionSteps.{are_used, marked, needs_of}
 use Rattle.ilsyms.specs.TaskSteps.{AreInstancesOfTasks, AreThere, instances_of}

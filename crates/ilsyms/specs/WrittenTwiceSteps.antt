@@ -3,7 +3,7 @@ use Rattle.std.specs.Prelude.{◌≡◌, ◌<◌, ℕ, List, Some, IsSomeAnd, sl
 use Rattle.ilsource.specs.SourceTrees.{Tree}
 use Rattle.ildeclared.specs.Faults.{SomeOf}
 use Rattle.ilscope.specs.Declarations.{declared_programs, DeclaredProgram}
-use Rattle.iluses.specs.Faults.{ProgramStores}
+use Rattle.ilscope.specs.UseFaults.{ProgramStores}
 use Rattle.ilsyms.specs.declared.tasks.TaskInstance.{TaskInstance}
 
 -- one of the first so many tasks has an instance of the program with this number

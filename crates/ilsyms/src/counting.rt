@@ -3,9 +3,8 @@
 use crate::needs::Needs;
 use crate::tasks::{TaskInstance, program_of};
 use ilplan::Constants;
-use ilscope::Scope;
+use ilscope::{Scope, uses_of};
 use ilsource::{Operand, Symbol, Use};
-use iluses::uses_of;
 use limits::MOST_CONSTANTS;
 use std::alloc::{AllocError, Global};
 
@@ -20,7 +19,7 @@ impl Counted {
     ghost use Rattle.std.specs.Prelude.{[], ◌∷◌, ◌++◌, List, IfOk, OnOk, flat_map};
     ghost use Rattle.ilsource.specs.declared.uses.Use.{Use};
     ghost use Rattle.ilsource.specs.declared.symbol.Symbol.{Symbol};
-    ghost use Rattle.iluses.specs.Uses.{uses_of};
+    ghost use Rattle.ilscope.specs.Uses.{uses_of};
     ghost use Rattle.ilsyms.specs.CountingSteps.{AreCounted};
     ghost use Rattle.ilsyms.specs.FunctionSteps.{marked};
     ghost use Rattle.ilsyms.specs.TaskSteps.{AreThere, instances_of};

@@ -13,8 +13,7 @@ use crate::needs::{Needs, needs_of_functions};
 use crate::task_parts::{TaskParts, parts_of_tasks};
 use crate::tasks::{TaskInstances, instances_of_tasks};
 use crate::written_twice::written_twice;
-use ilscope::{Found, Scope, lesser_of};
-use iluses::{fault_at_uses, fault_of_lines};
+use ilscope::{Found, Scope, fault_at_uses, fault_of_lines, lesser_of};
 use std::alloc::{AllocError, Global};
 
 /// The least fault that comes after `after`, by its place and there by its cause; the least of all

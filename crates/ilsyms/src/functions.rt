@@ -14,9 +14,8 @@ ghost use Rattle.ilsyms.specs.Variables.{slots_of};
 
 use crate::numbering::Numbering;
 use ilplan::{FunctionInput, FunctionVariable, Place, Slot, SlotOwner, UserFunction};
-use ilscope::{BodyNumber, DeclaredVariable, FunctionScope, Scope};
+use ilscope::{BodyNumber, DeclaredVariable, FunctionScope, Scope, number_labels};
 use ilsource::{Line, Name};
-use iluses::number_labels;
 use std::alloc::{AllocError, Global};
 
 /// The functions of a text without fault, in declared order, each over the places of its own

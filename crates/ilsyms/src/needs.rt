@@ -2,14 +2,13 @@
 
 ghost use Rattle.std.specs.Prelude.{◌≡◌, ◌++◌, IfOk, OnOk, flat_map, length, map, replicate};
 ghost use Rattle.ilsource.specs.Words.{places_in};
-ghost use Rattle.iluses.specs.Uses.{uses_of};
+ghost use Rattle.ilscope.specs.Uses.{uses_of};
 ghost use Rattle.ilscope.specs.Declarations.{declared_functions, declared_programs};
 ghost use Rattle.ilsyms.specs.FunctionSteps.{begins_with, calls_of_program, function_named};
 ghost use Rattle.ilsyms.specs.FunctionSteps.{functions_named, needs_of};
 
-use ilscope::{DeclaredVariable, FunctionScope, Scope};
+use ilscope::{DeclaredVariable, FunctionScope, Scope, uses_of};
 use ilsource::{Line, Name, Operand, Purpose, Symbol, Use};
-use iluses::uses_of;
 use std::alloc::{AllocError, Global};
 use std::marker::Model;
 

@@ -2,11 +2,10 @@
 
 use ilblocks::MOST_PORTS;
 use ilplan::{Place, Slot};
-use ilscope::{BodyNumber, Names, Scope};
+use ilscope::{BodyNumber, Names, Scope, port_of};
 use ilsource::{
     Action, Argument, Arguments, Instruction, Line, Name, Nested, Operand, Operands, Piece, Symbol,
 };
-use iluses::port_of;
 use std::alloc::{AllocError, Global};
 use std::marker::Model;
 

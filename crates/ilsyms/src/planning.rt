@@ -17,8 +17,7 @@ ghost use Rattle.ilsyms.specs.Variables.{blocks_of, lines_of, slots_of};
 use crate::numbering::Numbering;
 use crate::tasks::{TaskInstance, program_of};
 use ilplan::{FunctionBlock, ProgramInstance, Slot, SlotOwner};
-use ilscope::{BodyNumber, Scope};
-use iluses::number_labels;
+use ilscope::{BodyNumber, Scope, number_labels};
 use std::alloc::{AllocError, Global};
 
 /// The program instances of a task, each with a name of its own, over the places of the task's

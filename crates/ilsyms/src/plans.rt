@@ -16,9 +16,8 @@ use crate::globals::plan_globals;
 use crate::planning::plan_instances;
 use crate::task_parts::TaskParts;
 use ilplan::{Activation, DeclaredName, Plan, Task};
-use ilscope::Scope;
+use ilscope::{Scope, trigger_number};
 use ilsource::{Configuration, TaskDeclaration};
-use iluses::trigger_number;
 use std::alloc::{AllocError, Global};
 use wordlines::Binding;
 

@@ -13,8 +13,7 @@ ghost use Rattle.ilsyms.specs.declared.task_sets.TaskSet.TheVariants.{Several};
 
 use crate::task_sets::{TaskSet, add_tasks, empty_sets};
 use crate::tasks::{TaskInstance, TaskInstances};
-use ilscope::{DeclaredGlobal, Found, NameCause, Scope, found_where, lesser_of};
-use iluses::stored_globals;
+use ilscope::{DeclaredGlobal, Found, NameCause, Scope, found_where, lesser_of, stored_globals};
 use std::alloc::{AllocError, Global};
 
 /// The next fault after `after` of a global variable that two tasks store to. The lines of each

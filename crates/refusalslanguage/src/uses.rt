@@ -4,13 +4,14 @@ ghost use Rattle.std.specs.Prelude.{◌≡◌, [], ◌∷◌, IfOk, None, Some, 
 ghost use Rattle.ildeclared.specs.Faults.{IsLeast, SomeOf};
 ghost use Rattle.ilscope.specs.Configured.{global_number};
 ghost use Rattle.ilscope.specs.Declarations.{DeclaredProgram, bodies_of, body_at};
-ghost use Rattle.iluses.specs.Faults.{IsFaultOfBody, IsFaultOfUses, function_called};
-ghost use Rattle.iluses.specs.Uses.{uses_of};
+ghost use Rattle.ilscope.specs.UseFaults.{IsFaultOfBody, IsFaultOfUses, function_called};
+ghost use Rattle.ilscope.specs.Uses.{uses_of};
 
 use ildeclared::{Found, NameCause};
-use ilscope::{BodyNumber, Scope};
+use ilscope::{
+    BodyNumber, Scope, fault_at_uses, fault_of_lines, function_called, trigger_number, uses_of,
+};
 use ilsource::{Line, Name, Symbol, Use};
-use iluses::{fault_at_uses, fault_of_lines, function_called, trigger_number, uses_of};
 use std::alloc::{AllocError, Global};
 
 /// `each_event_task_has_the_first_trigger`: the trigger of each task was the first global variable.

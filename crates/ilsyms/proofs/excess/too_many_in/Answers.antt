@@ -2,7 +2,7 @@ use Rattle.std.proofs.Common.{◌≡◌, ℕ, ◌+◌, ◌++◌, List, length, m
 use Rattle.std.proofs.Math.ListN.{length-map, length-take}
 use Rattle.std.specs.Prelude.{◌↔◌, Some, flat_map, slice_get}
 use Rattle.limits.specs.Limits.{most_blocks, most_slots, most_words}
-use Rattle.iluses.specs.Uses.{uses_of}
+use Rattle.ilscope.specs.Uses.{uses_of}
 use Rattle.ilscope.specs.Declarations.{declared_programs}
 use Rattle.ilplan.specs.declared.instance.FunctionBlock.{FunctionBlock}
 use Rattle.ilplan.specs.declared.slot.Slot.{Slot}

@@ -9,7 +9,7 @@ use Rattle.ilscope.specs.Configured.{globals_of}
 use Rattle.ilscope.specs.Declarations.{DeclaredProgram, as_program, body_at}
 use Rattle.ilscope.specs.declared.body_number.BodyNumber.TheVariants as bodies
 use Rattle.ilplan.specs.declared.slot.Slot.{Slot}
-use Rattle.iluses.specs.Labels.{AreNumbered}
+use Rattle.ilscope.specs.Labels.{AreNumbered}
 use Rattle.ilsyms.specs.NumberingSteps.{numbering_of}
 use Rattle.ilsyms.specs.Variables.{as_instance, own_slot, slots_in}
 use Rattle.ilsyms.proofs.FunctionLines.{function_lines, no_global_slots}

@@ -3,7 +3,7 @@ use Rattle.std.specs.Prelude.{Some, option_map, unwrap_or}
 use Rattle.ilsource.specs.declared.operand.Operand.TheVariants.{Name as Named}
 use Rattle.ilsource.specs.declared.symbol.Symbol.TheVariants.{Function}
 use Rattle.ilscope.specs.Declarations.{DeclaredFunction, declared_functions}
-use Rattle.iluses.specs.SameNames.{same_name}
+use Rattle.ilscope.specs.SameNames.{same_name}
 use Rattle.ilsyms.specs.FunctionSteps.{invoked_name}
 use Rattle.ilsyms.specs.Meaning.{function_in_text}
 use Rattle.ilsyms.proofs.NumberingLabels.{first_or_end}

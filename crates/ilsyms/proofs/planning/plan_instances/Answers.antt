@@ -14,7 +14,7 @@ use Rattle.ilplan.specs.Plans.{PlannedInstance}
 use Rattle.ilplan.specs.declared.slot.Slot.{Slot}
 use Rattle.ilplan.specs.declared.instance.FunctionBlock.{FunctionBlock}
 use Rattle.ilsyms.specs.declared.tasks.TaskInstance.{TaskInstance}
-use Rattle.iluses.specs.Labels.{AreNumbered}
+use Rattle.ilscope.specs.Labels.{AreNumbered}
 use Rattle.ilsyms.specs.NumberingSteps.{AreGlobalSlots, numbering_of}
 use Rattle.ilsyms.specs.PlanningSteps.{is_of_instance}
 use Rattle.ilsyms.specs.Resolved.{planned_instance}

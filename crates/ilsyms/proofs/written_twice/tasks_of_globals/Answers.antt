@@ -2,7 +2,7 @@ use Rattle.std.proofs.Common.{◌≡◌, ◌<◌, ◌+◌, ℕ, List, length, re
 use Rattle.std.specs.Prelude.{◌↔◌}
 use Rattle.ildeclared.specs.Faults.{SomeOf}
 use Rattle.ilscope.specs.Declarations.{declared_programs}
-use Rattle.iluses.specs.Faults.{ProgramStores}
+use Rattle.ilscope.specs.UseFaults.{ProgramStores}
 use Rattle.ilsyms.specs.TaskSetSteps.{AreSetsOf}
 use Rattle.ilsyms.specs.WrittenTwiceSteps.{HasInstance, StoresBefore}
 use Rattle.ilsyms.specs.declared.task_sets.TaskSet.{TaskSet}

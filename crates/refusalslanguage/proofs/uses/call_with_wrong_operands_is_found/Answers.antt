@@ -6,7 +6,7 @@ use Rattle.ildeclared.specs.Faults.{IsNextOf, SomeOf}
 use Rattle.ildeclared.proofs.FoundOrder.{first_next}
 use Rattle.ilscope.proofs.OneFault.{one_least}
 use Rattle.ilscope.specs.Declarations.{bodies_of}
-use Rattle.iluses.specs.Faults.{IsFaultOfBody}
+use Rattle.ilscope.specs.UseFaults.{IsFaultOfBody}
 use Rattle.refusalslanguage.proofs.Results.{if_ok}
 use Rattle.refusalslanguage.proofs.uses.call_with_wrong_operands_is_found.Goals as goal
 

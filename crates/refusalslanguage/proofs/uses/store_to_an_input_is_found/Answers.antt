@@ -5,7 +5,7 @@ use Rattle.ildeclared.specs.declared.found.Found.{Found}
 use Rattle.ildeclared.specs.Faults.{IsNextOf}
 use Rattle.ildeclared.proofs.FoundOrder.{first_next}
 use Rattle.ilscope.proofs.OneFault.{one_least}
-use Rattle.iluses.specs.Faults.{IsFaultOfUses}
+use Rattle.ilscope.specs.UseFaults.{IsFaultOfUses}
 use Rattle.refusalslanguage.proofs.Results.{if_ok}
 use Rattle.refusalslanguage.proofs.uses.store_to_an_input_is_found.Goals as goal
 

@@ -1,4 +1,4 @@
-use Rattle.iluses.specs.Uses.{uses_of}
+use Rattle.ilscope.specs.Uses.{uses_of}
 use Rattle.ilsyms.specs.TaskSteps.{instances_of}
 use Rattle.ilsyms.specs.Variables.{lines_of}
 use Rattle.ilsyms.proofs.counting.Counted.of.Goals as goal

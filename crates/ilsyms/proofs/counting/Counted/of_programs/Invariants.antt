@@ -1,6 +1,6 @@
 use Rattle.std.proofs.Common.{◌≡◌, length, take}
 use Rattle.ilscope.specs.Declarations.{declared_programs}
-use Rattle.iluses.specs.Uses.{uses_of}
+use Rattle.ilscope.specs.Uses.{uses_of}
 use Rattle.ilsyms.specs.CountingSteps.{AreCounted, AreSeen}
 use Rattle.ilsyms.specs.TaskSteps.{instances_of}
 use Rattle.ilsyms.specs.Variables.{lines_of}

@@ -1,0 +1,34 @@
+use Rattle.std.proofs.Common.{◌≡◌, ◌<◌, List, length, get_or, ap, sym, subst, ◌∙◌}
+use Rattle.std.proofs.lemmas.List.{take_all}
+use Rattle.std.specs.Prelude.{option_map}
+use Rattle.ilsource.specs.Programs.{WrittenFunction}
+use Rattle.ildeclared.specs.Faults.{IsNextOf, SomeOf}
+use Rattle.ildeclared.proofs.Least.{got_at, next_of_more}
+use Rattle.ilscope.specs.Declarations.{as_program, declared_functions, DeclaredFunction}
+use Rattle.ilscope.specs.UseFaults.{IsFaultOfBody}
+use Rattle.ilscope.proofs.lines.fault_in_functions.Goals as goal
+
+pub loop-number-preserved : goal.loop-number-preserved
+loop-number-preserved c =
+    let tree = c.args.scope.now.tree in
+    let functions = declared_functions tree in
+    let listed : c.functions-function-items.result.now ≡ functions = c.functions-function-items.ensures.value in
+    let below : c.loop-number.number < length functions = rw (sym listed) c.loop-number-test.true in
+    let found : c.function-item.result ≡ get_or functions c.loop-number.number _ = rw (sym listed) c.function-item.is in
+    rw c.lesser_of-least.ensures
+    (next_of_more c.args.after (λ (f : DeclaredFunction). IsFaultOfBody tree (as_program f)) functions
+    c.loop-number.number
+    c.function-item.result c.loop-number.least c.in_ok-fault.fault below found c.loop-number.invariant
+    (c.in_ok-fault.ensures (as_program c.function-item.result)
+    (ap (λ o. option_map as_program o)
+    (got_at functions c.loop-number.number c.function-item.result below found))
+    (c.lines-lines.ensures.value ∙ ap (λ (w : WrittenFunction). w.lines) c.function.ensures.value)))
+
+pub returns : goal.returns
+returns c =
+    let tree = c.args.scope.now.tree in
+    subst (λ (fs : List DeclaredFunction). IsNextOf c.args.after
+    (λ place cause. SomeOf (λ f. IsFaultOfBody tree (as_program f) place cause) fs) c.loop-number.least)
+    (take_all c.loop-number.number (declared_functions tree)
+    (rw (sym c.functions-function-items.ensures.value) c.loop-number-test.false))
+    c.loop-number.invariant

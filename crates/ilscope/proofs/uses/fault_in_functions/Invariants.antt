@@ -1,0 +1,13 @@
+use Rattle.std.proofs.Common.{take}
+use Rattle.ildeclared.specs.Faults.{IsNextOf, SomeOf}
+use Rattle.ilscope.specs.Declarations.{declared_functions}
+use Rattle.ilscope.specs.UseFaults.{IsFaultInFunction}
+use Rattle.ilscope.proofs.uses.fault_in_functions.Given as goal
+
+abbrev pub invariant-loop-number : goal.invariant-loop-number
+invariant-loop-number l =
+    IsNextOf l.fn.after
+    (λ place cause.
+    SomeOf (λ f. IsFaultInFunction l.fn.scope.tree f place cause)
+    (take l.number (declared_functions l.fn.scope.tree)))
+    l.least

@@ -1,0 +1,14 @@
+use Rattle.std.proofs.Common.{take}
+use Rattle.ildeclared.specs.Faults.{IsNextOf, SomeOf}
+use Rattle.ilscope.specs.Declarations.{declared_programs}
+use Rattle.ilscope.specs.UseFaults.{IsFaultAtUses}
+use Rattle.ilscope.specs.Uses.{uses_of}
+use Rattle.ilscope.proofs.uses.fault_in_programs.Given as goal
+
+abbrev pub invariant-loop-number : goal.invariant-loop-number
+invariant-loop-number l =
+    IsNextOf l.fn.after
+    (λ place cause.
+    SomeOf (λ p. IsFaultAtUses l.fn.scope.tree p (uses_of p.program.lines) place cause)
+    (take l.number (declared_programs l.fn.scope.tree)))
+    l.least

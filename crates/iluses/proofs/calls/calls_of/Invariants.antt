@@ -1,6 +1,0 @@
-use Rattle.std.proofs.Common.{◌≡◌, take}
-use Rattle.iluses.specs.Calls.{calls_of}
-use Rattle.iluses.proofs.calls.calls_of.Given as goal
-
-abbrev pub invariant-loop-line : goal.invariant-loop-line
-invariant-loop-line l = l.calls.items ≡ calls_of (take l.line-index l.lines)
