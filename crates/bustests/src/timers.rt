@@ -2,7 +2,7 @@
 //! sleeps, and when it ends.
 
 use buslink::Clock;
-use liveclock::{LiveClock, NoStop, StopCondition};
+use liveline::{LiveClock, NoStop, StopCondition};
 use std::cell::Cell;
 use std::io;
 use std::num::NonZeroU64;

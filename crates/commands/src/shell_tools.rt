@@ -10,7 +10,7 @@ use commandlives::{
 use commandtexts::{ExitStatus, HostDisk, Unserved};
 use daliframe::ShortAddress;
 use gearcmd::Command;
-use liveclock::StopCondition;
+use liveline::StopCondition;
 use livesurvey::{
     DeclaredBus, ListenEnd, ProbeForm, Served, serve_ask, serve_blink, serve_listen, serve_probe,
 };

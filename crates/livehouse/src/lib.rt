@@ -32,7 +32,7 @@ pub use host_lines::{Devices, HostDevices, HostOpener, HostTeller, hold_standard
 pub use host_storage::HostStorage;
 pub use lineup::LineupFault;
 pub use livejournal::{BuildingObserver, Care, Gate, OpenGate, Storage};
-pub use livemend::LineStarter;
+pub use liveline::LineStarter;
 pub use plantlive::{Ended, Lived};
 pub use site::{Site, SiteFault};
 pub use stops::LiveStop;

@@ -2,7 +2,7 @@
 
 ghost use Rattle.std.specs.Prelude.{◌≡◌};
 
-use liveclock::StopCondition;
+use liveline::StopCondition;
 use plantlive::{Gate, Happened};
 use std::fs;
 use std::rt::Files;

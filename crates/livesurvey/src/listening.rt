@@ -11,7 +11,7 @@ use buslink::{Bus, Fault};
 use dalievent::{EventSource, Heard, decode};
 use daliframe::Frame24;
 use daliwords::{HeardWords, SchemeWords};
-use liveclock::StopCondition;
+use liveline::StopCondition;
 use std::io::Write;
 use std::time::{Clock as Timer, Duration, Instant};
 use std::{io, thread};

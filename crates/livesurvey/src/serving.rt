@@ -24,7 +24,7 @@ use buslink::{Bus, Outcome, Reply, Report};
 use daliframe::{BusNumber, Frame, ShortAddress};
 use daliwords::{FrameWords, OutcomeWords, RequestWords, StatusWords};
 use gearcmd::{Command, Request, Status};
-use liveclock::StopCondition;
+use liveline::StopCondition;
 use std::alloc::Global;
 use std::io;
 use std::io::Write;

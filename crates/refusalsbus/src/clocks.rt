@@ -3,7 +3,7 @@
 ghost use Rattle.std.specs.Prelude.{◌≡◌, ◌≤◌, IfSome};
 
 use buslink::Clock;
-use liveclock::{LiveClock, StopCondition};
+use liveline::{LiveClock, StopCondition};
 use std::time::Clock as Timer;
 
 /// `it_begins_at_zero_again`: a clock that begins at a later moment began at 0.

@@ -4,7 +4,7 @@ ghost use Rattle.std.specs.Prelude.{◌≡◌, ◌+◌, ◌<◌, IfOk, IfSome, f
 
 use buslink::{Bus, Fault};
 use daliframe::{BusNumber, Frame24};
-use livemend::{LineStarter, MendedLine, Teller};
+use liveline::{LineStarter, MendedLine, Teller};
 use std::alloc::{AllocError, Global};
 use std::io::Write;
 use std::sync::Wait;

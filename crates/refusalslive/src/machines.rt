@@ -4,8 +4,8 @@ ghost use Rattle.std.specs.Prelude.{◌≡◌, IfOk, Some, codes, option_map, st
 ghost use Rattle.std.specs.Int.NonZero.{non_zero_u64_get};
 
 use daliframe::BusNumber;
-use liveclock::LiveClock;
 use livehouse::{Devices, DownWatch, End, HostLine, HostSite, Site, SiteFault, StopAt};
+use liveline::LiveClock;
 use options::LineWord;
 use std::alloc::{AllocError, Global};
 use std::num::NonZeroU64;

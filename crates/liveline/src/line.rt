@@ -3,17 +3,18 @@
 ghost use Rattle.std.specs.Prelude.{◌≡◌, ◌<◌, ◌+◌, ◌⊎◌, IfOk, IsErr, false, true};
 ghost use Rattle.buslink.specs.BusLog.{TellsAll, after_hear, after_mend};
 ghost use Rattle.liveline.specs.Exchanges.{fresh_log};
-ghost use Rattle.livemend.specs.Mended.{IsCounted, IsLastCounted, most_kept};
+ghost use Rattle.liveline.specs.Mended.{IsCounted, IsLastCounted, most_kept};
 
+use crate::buses::LineBus;
+use crate::reader::TimedReader;
 use crate::reasons::Reason;
 use crate::starter::{LineStarter, Order};
 use crate::thread::{Job, Outcome, Tries};
+use crate::troubles::Trouble;
 use buslink::{Bus, Fault, Reply};
 use crossbeam_channel::{Receiver, Sender, bounded};
 use daliframe::{BusNumber, Frame, Frame24};
 use ghosts::Memo;
-use liveline::{LineBus, Trouble};
-use liveread::TimedReader;
 use std::alloc::{AllocError, Global};
 use std::io::Write;
 use std::marker::Model;
@@ -68,7 +69,7 @@ pub struct MendedLine<R: Wait + Clock + Drop, W: Write + Drop, T: Teller, O> {
 
 impl<R: Wait + Clock + Drop, W: Write + Drop, T: Teller, O> Model for MendedLine<R, W, T, O> {
     ghost use Rattle.std.specs.Prelude.{◌≤◌};
-    ghost use Rattle.livemend.specs.Mended.{MendedState, most_kept};
+    ghost use Rattle.liveline.specs.Mended.{MendedState, most_kept};
 
     ghost Value = { MendedState O T };
 

@@ -1,8 +1,8 @@
 use Rattle.std.proofs.Common.{◌≡◌, ℕ, List, ap, sym, subst}
 use Rattle.std.specs.Prelude.{All, ◌≤◌, reverse}
-use Rattle.liveclock.specs.ClockStates.{ClockState}
-use Rattle.liveclock.proofs.Falling.{never_falls_on}
-use Rattle.liveclock.proofs.clocks.LiveClock.note.Goals as goal
+use Rattle.liveline.specs.ClockStates.{ClockState}
+use Rattle.liveline.proofs.Falling.{never_falls_on}
+use Rattle.liveline.proofs.clocks.LiveClock.note.Goals as goal
 
 pub invariant_of-self : goal.invariant_of-self
 invariant_of-self g c =

@@ -1,6 +1,6 @@
 //! Why a line is down.
 
-use liveline::{Line, Trouble};
+use crate::troubles::{Line, Trouble};
 use std::fmt;
 use std::io::ErrorKind;
 

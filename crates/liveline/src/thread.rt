@@ -1,9 +1,10 @@
 //! The thread of a line: it opens the line, has it read, and greets it.
 
+use crate::greetings::{Greeted, Ungreeted};
+use crate::reader::TimedReader;
 use crate::reasons::Reason;
+use crate::troubles::Trouble;
 use crossbeam_channel::{Receiver, Sender};
-use liveline::{Greeted, Trouble, Ungreeted};
-use liveread::TimedReader;
 use std::alloc::Global;
 use std::io::{Read, Write};
 use std::sync::Wait;

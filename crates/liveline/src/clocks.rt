@@ -3,7 +3,7 @@
 ghost use Rattle.std.specs.Prelude.{◌≡◌, ◌≤◌, IfSome, IfOk};
 ghost use Rattle.std.specs.Int.NonZero.{non_zero_u64_get};
 ghost use Rattle.buslink.specs.ClockLog.{IsNotBefore, TellsEnd, after_now};
-ghost use Rattle.liveclock.specs.ClockStates.{fresh_clock, with_moment};
+ghost use Rattle.liveline.specs.ClockStates.{fresh_clock, with_moment};
 
 use crate::moments::{millis_since, next_period, sleep_until};
 use crate::stops::StopCondition;
@@ -37,7 +37,7 @@ pub struct LiveClock<T: Timer, S: StopCondition> {
 impl<T: Timer, S: StopCondition> Model for LiveClock<T, S> {
     ghost use Rattle.std.specs.Prelude.{◌≤◌, All, None, reverse};
     ghost use Rattle.std.specs.Int.NonZero.{non_zero_u64_get};
-    ghost use Rattle.liveclock.specs.ClockStates.{ClockState};
+    ghost use Rattle.liveline.specs.ClockStates.{ClockState};
 
     ghost Value = { ClockState S };
 
