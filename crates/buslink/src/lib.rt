@@ -1,25 +1,15 @@
-//! The links to a DALI-2 bus and to a clock. `Bus` is what the controller asks of a bus interface:
-//! room for frames, a frame sent with its priority, the next frame heard, and where it failed
-//! whether it answers again. `Clock` is what it asks of a clock: the moment that it is. `perform`
-//! sends a transaction on a bus, tries it again after a loss, as often as the bus is given
-//! attempts, and gives its report. The definitions to read first are `BusLog` and `after_report`:
-//! what was sent is what the report says, frame for frame (IEC 62386-101 for frames and priorities,
-//! profile for retries).
+//! Transactions on a DALI-2 bus, and the links to a bus and to a clock.
 //!
-//! ```text
-//! bus.room(MOST_SENT)?; // for the frames of the most attempts
-//! let report = perform(&mut bus, &transaction, 3); // its attempts, at most three
-//! ```
-//!
-//! Transactions on a DALI-2 bus. A request of a program and the kind of its task go in; the frames
-//! that it spells come out, with their priorities, as a transaction that is legal by its type. The
-//! marks that its frames got go in; a report of its attempts comes out exactly where they spell
-//! one, with its outcome. The definition to read first is `Spells` in `specs/Attempts.antt` (IEC
-//! 62386-101 and -102, and profile for priorities and retries).
+//! What crosses the boundary: a [`Transaction`] has the frames of a request, with their priorities,
+//! legal by its type. [`perform`] sends it on a [`Bus`], tries it again after a loss, and gives its
+//! [`Report`]. A [`Clock`] gives the moment that it is. Read `Spells` (specs/Attempts.antt) and
+//! `after_report` first: what was sent is what the report says, frame for frame (IEC 62386-101 and
+//! -102; profile for priorities and retries).
 //!
 //! ```text
 //! let transaction = Transaction::of(&request, TaskKind::Event);
-//! let report = Report::of(&transaction, 3, &[Mark::Lost, Mark::Quiet])?; // sent twice, and done
+//! bus.room(MOST_SENT)?; // for the frames of the most attempts
+//! let report = perform(&mut bus, &transaction, 3); // its attempts, at most three
 //! ```
 #![tactic(auto)]
 
