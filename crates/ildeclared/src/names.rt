@@ -1,13 +1,14 @@
 //! What is kept under the names or the labels of a text.
 
+use indexmap::IndexMap;
 use std::alloc::{AllocError, Global};
-use std::collections::HashMap;
+
 use std::marker::Model;
 
 /// What is kept under different names in lower case, found by hashing.
 #[derive(Drop)]
 pub struct Names<T> {
-    entries: HashMap<Vec<u8>, T>,
+    entries: IndexMap<Vec<u8>, T>,
 }
 
 impl<T> Model for Names<T> {
@@ -30,7 +31,7 @@ impl<T: Copy> Names<T> {
         ensures { result ≡ [] }
     {
         Names {
-            entries: HashMap::new(alloc),
+            entries: IndexMap::new(alloc),
         }
     }
 

@@ -2,7 +2,7 @@
 -- (IEC 61131-3, 2.4.3: a variable is declared, once, with a value of its type; 2.5.2: a block instance is declared, and
 -- its outputs are not written; 3.2.2: a jump leads to a label of its program; the profile's are the limits, that jumps
 -- go forward, that nothing is stored to an input, and that one task at most stores to a global variable). Those of
--- declarations are defined in `ilscope`, and those that stand in lines in `iluses`. What functions take of a task, and
+-- declarations, and those that stand in lines, are defined in `ilscope`. What functions take of a task, and
 -- how deep they are, is said of them as they are planned: their limits are the plan's.
 use Rattle.std.specs.Prelude.{◌≡◌, ℕ, ◌+◌, ◌<◌, List, [], ◌∷◌, ◌++◌, flat_map, map, length, replicate, slice_get}
 use Rattle.std.specs.Prelude.{◌⊎◌, Some}
