@@ -1,13 +1,14 @@
 //! A picture that is drawn while a scenario is played.
 
 use crate::levels::{Lamp, level_of};
+use crate::moment::Moment;
+use crate::parts::{Column, Kind, Picture, Row, Sign};
 use buslink::{Outcome, Reply, Report, Transaction};
 use daliframe::{Frame, Frame24};
 use daliwords::{FrameWords, FramesWords};
 use iltypes::Value;
 use plant::Plant;
 use plantdriving::{Happened, Observer};
-use playpicture::{Column, Kind, Moment, Picture, Row, Sign};
 use playwatch::Watch;
 use simbus::{Scenario, SimBus};
 use std::alloc::{AllocError, Global};

@@ -1,10 +1,10 @@
 //! What has a level: the rows of lamps, and the levels of control gear.
 
 use crate::Drawing;
+use crate::parts::{Kind, Sign};
 use buslink::{Outcome, Report};
 use daliframe::{Fields16, Frame, ShortAddress};
 use ilplan::{Location, Plan};
-use playpicture::{Kind, Sign};
 use simbus::{Scenario, SimBus, Statement};
 use std::alloc::{AllocError, Global};
 

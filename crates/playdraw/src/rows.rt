@@ -2,8 +2,8 @@
 
 use crate::Drawing;
 use crate::drawing::sign_of_value;
+use crate::parts::Kind;
 use ilplan::{Activation, Location, Plan};
-use playpicture::Kind;
 use std::alloc::{AllocError, Global};
 use wordlines::BoundSource;
 
