@@ -33,8 +33,8 @@ use Rattle.commandfiles.specs.declared.serving.Unserved.TheVariants.{NotRead, No
 use Rattle.commandfiles.specs.Beginnings.{AreUsed, IsBegunUnder, IsStopUnder, tree_of}
 use Rattle.commandfiles.specs.Served.{IsGiven}
 use Rattle.commandfiles.specs.ExitStatuses.{status_of_play, status_of_play_stop}
-use Rattle.playexpect.specs.Expected.{AreKnown, AreMet}
-use Rattle.playwatch.specs.Watched.{AreWatchable}
+use Rattle.plantplay.specs.Expected.{AreKnown, AreMet}
+use Rattle.plantplay.specs.Watched.{AreWatchable}
 
 -- the bytes of the three files, and of that of kept values where one is named
 pub record PlayBytes : Type 0 where

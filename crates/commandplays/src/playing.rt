@@ -3,8 +3,8 @@
 ghost use Rattle.std.specs.Prelude.{◌≡◌, ◌↔◌, IfErr, IfOk, IsTrue};
 ghost use Rattle.commandplays.specs.Plays.{AreNames, IsJudgedBy, IsPlayEnd, IsPlayStop, IsPlayed};
 ghost use Rattle.commandplays.specs.Plays.{IsStarted, IsUnplayed, status_unmet};
-ghost use Rattle.playexpect.specs.Expected.{AreKnown};
-ghost use Rattle.playwatch.specs.Watched.{AreWatchable};
+ghost use Rattle.plantplay.specs.Expected.{AreKnown};
+ghost use Rattle.plantplay.specs.Watched.{AreWatchable};
 
 use crate::brief::Brief;
 use crate::pages::{Pages, beginning_in, read_pages, scenario_of};
@@ -13,9 +13,10 @@ use commandfiles::{Beginning, Disk, ExitStatus, KeptNote, PlayStop, Unserved};
 use commandline::PlayShows;
 use options::{ExpectedWord, PlayFiles};
 use plantload::{kept_scans_are_as_meant, scans_are_as_meant};
-use plantplay::{FrameStyle, Installation, open, play_watched, plays_are_by_scenario};
-use playexpect::{are_known, are_met, report_unmet};
-use playwatch::are_watchable;
+use plantplay::{
+    FrameStyle, Installation, are_known, are_met, are_watchable, open, play_watched,
+    plays_are_by_scenario, report_unmet,
+};
 use simbus::{Scenario, SimBus};
 use std::alloc::Global;
 use std::io;

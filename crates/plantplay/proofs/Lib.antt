@@ -1,7 +1,11 @@
 mod Buses
+mod EachName
+mod EachWord
 mod Followed
 mod Given
 mod Happened
 mod Heard
+mod Parts
+mod Places
 mod StillLinked
 mod Told

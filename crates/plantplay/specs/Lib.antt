@@ -1,4 +1,7 @@
 pub mod ByScenario
+pub mod Expected
 pub mod Installations
+pub mod Names
 pub mod PlaySteps
 pub mod Stage
+pub mod Watched

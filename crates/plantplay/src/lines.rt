@@ -1,12 +1,12 @@
 //! The lines that are written of what happens.
 
+use crate::watch::Watch;
 use buslink::{Outcome, Transaction};
 use daliframe::Frame;
 use daliwords::FramesWords;
 use ilplan::Plan;
 use plant::Plant;
 use plantdriving::{Happened, Observer};
-use playwatch::Watch;
 use std::alloc::{AllocError, Global};
 use std::io::Write;
 use std::{fmt, io};

@@ -9,7 +9,7 @@ use daliwords::{FrameWords, FramesWords};
 use iltypes::Value;
 use plant::Plant;
 use plantdriving::{Happened, Observer};
-use playwatch::Watch;
+use plantplay::Watch;
 use simbus::{Scenario, SimBus};
 use std::alloc::{AllocError, Global};
 use std::io;

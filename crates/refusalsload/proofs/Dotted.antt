@@ -8,10 +8,10 @@ use Rattle.std.specs.List.{Contains}
 use Rattle.ilplan.specs.Plans.{Planned, instance_name, slot_at, variable_name}
 use Rattle.ilplan.specs.declared.slot.Slot.{Slot}
 use Rattle.ilplan.specs.declared.slot.SlotOwner.{SlotOwner}
-use Rattle.playwatch.specs.Names.{IsNamed}
-use Rattle.playwatch.specs.Watched.{AreWatchable, IsNameOf, IsOwnNamed, IsPlaceOf, IsWatchable, dot}
-use Rattle.playwatch.specs.declared.watch.Place.{Place}
-use Rattle.playwatch.specs.declared.watch.Place.TheVariants.{Global, Own}
+use Rattle.plantplay.specs.Names.{IsNamed}
+use Rattle.plantplay.specs.Watched.{AreWatchable, IsNameOf, IsOwnNamed, IsPlaceOf, IsWatchable, dot}
+use Rattle.plantplay.specs.declared.watch.Place.{Place}
+use Rattle.plantplay.specs.declared.watch.Place.TheVariants.{Global, Own}
 
 nothing_before : (before behind : List ℕ) → codes ".lamp" ≡ before ++ dot ∷ behind → ¬ Contains before dot → before ≡ []
 nothing_before [] behind spelled first = refl

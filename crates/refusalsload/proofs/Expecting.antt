@@ -7,8 +7,8 @@ use Rattle.ilmachine.specs.Images.{Global}
 use Rattle.options.specs.declared.expected_word.ExpectedWord.{ExpectedWord}
 use Rattle.plant.specs.Shown.{Shown}
 use Rattle.plantevents.specs.Variables.{value}
-use Rattle.playwatch.specs.Names.{IsNamed}
-use Rattle.playexpect.specs.Expected.{AreMet, IsMet, IsSpelled}
+use Rattle.plantplay.specs.Names.{IsNamed}
+use Rattle.plantplay.specs.Expected.{AreMet, IsMet, IsSpelled}
 
 -- TRUE is not spelled FALSE
 pub no_false : (shown : Value) → shown ≡ Bool true → ¬ IsSpelled (codes "FALSE") shown

@@ -6,14 +6,13 @@ ghost use Rattle.ilmachine.specs.Images.{Global as GlobalVariable};
 ghost use Rattle.ilplan.specs.Plans.{instance_name, variable_name};
 ghost use Rattle.ilplan.specs.declared.slot.SlotOwner.{SlotOwner as Owner};
 ghost use Rattle.plantevents.specs.Variables.{value};
-ghost use Rattle.playwatch.specs.Names.{IsNamed};
-ghost use Rattle.playwatch.specs.Watched.{IsWatchable};
-ghost use Rattle.playexpect.specs.Expected.{IsKnown, IsMet};
+ghost use Rattle.plantplay.specs.Names.{IsNamed};
+ghost use Rattle.plantplay.specs.Watched.{IsWatchable};
+ghost use Rattle.plantplay.specs.Expected.{IsKnown, IsMet};
 
 use ilplan::{Plan, SlotOwner};
 use plant::Plant;
-use playexpect::{ExpectedWord, are_known, are_met};
-use playwatch::{are_watchable, is_named};
+use plantplay::{ExpectedWord, are_known, are_met, are_watchable, is_named};
 
 /// `names_in_their_own_letter_case_only`: a variable had no name but that in the letters of its
 /// declaration.

@@ -1,7 +1,7 @@
 use Rattle.std.proofs.Common.{◌∙◌, ◌↔◌, IsTrue, ap, subst}
 use Rattle.ilplan.specs.Plans.{Planned}
 use Rattle.plant.specs.Shown.{Shown}
-use Rattle.playexpect.specs.Expected.{AreKnown}
+use Rattle.plantplay.specs.Expected.{AreKnown}
 use Rattle.commandplays.proofs.playing.has_expected.Goals as goal
 
 pub returns : goal.returns

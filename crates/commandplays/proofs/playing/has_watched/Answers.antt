@@ -1,7 +1,7 @@
 use Rattle.std.proofs.Common.{◌∙◌, ◌↔◌, IsTrue, ap, subst}
 use Rattle.ilplan.specs.Plans.{Planned}
 use Rattle.plant.specs.Shown.{Shown}
-use Rattle.playwatch.specs.Watched.{AreWatchable}
+use Rattle.plantplay.specs.Watched.{AreWatchable}
 use Rattle.commandplays.proofs.playing.has_watched.Goals as goal
 
 pub returns : goal.returns

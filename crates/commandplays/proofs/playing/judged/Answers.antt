@@ -1,6 +1,6 @@
 use Rattle.std.proofs.Common.{◌∙◌, ◌↔◌, IsTrue, inl, inr, refl, subst}
 use Rattle.plant.specs.Shown.{Shown}
-use Rattle.playexpect.specs.Expected.{AreMet}
+use Rattle.plantplay.specs.Expected.{AreMet}
 use Rattle.commandplays.proofs.playing.judged.Goals as goal
 
 pub returns-then-are_met : goal.returns-then-are_met

@@ -1,4 +1,4 @@
-use Rattle.playexpect.specs.Expected.{IsKnown}
+use Rattle.plantplay.specs.Expected.{IsKnown}
 use Rattle.refusalsload.proofs.Tests.{one_all}
 use Rattle.refusalsload.proofs.names.second_variable_is_known.Goals as goal
 

@@ -1,6 +1,0 @@
-use Rattle.std.proofs.Common.{ℕ, ◌<◌}
-use Rattle.playwatch.specs.Names.{IsNamed}
-use Rattle.playexpect.proofs.meeting.is_known.Given as goal
-
-abbrev pub invariant-loop-global : goal.invariant-loop-global
-invariant-loop-global l = (k : ℕ) → k < l.global → ¬ IsNamed l.plan l.expected.name.now k

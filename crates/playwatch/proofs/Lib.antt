@@ -1,3 +1,0 @@
-mod EachName
-mod Parts
-mod Places

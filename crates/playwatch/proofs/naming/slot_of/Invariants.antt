@@ -1,6 +1,0 @@
-use Rattle.std.proofs.Common.{ℕ, ◌<◌}
-use Rattle.playwatch.specs.Watched.{IsSlotNamed}
-use Rattle.playwatch.proofs.naming.slot_of.Given as goal
-
-abbrev pub invariant-loop-slot : goal.invariant-loop-slot
-invariant-loop-slot l = (k : ℕ) → k < l.slot → ¬ IsSlotNamed l.plan l.name l.task k
