@@ -2,7 +2,7 @@
 use Rattle.std.proofs.Common.{◌≡◌, ◌∙◌, ap, sym, inl, inr, List, Option, Some}
 use Rattle.std.specs.Borrow.{Bor}
 use Rattle.clap.specs.Words.{Row, Text}
-use Rattle.invocations.specs.TextWords.{AreCodeWords}
+use Rattle.commandline.specs.TextWords.{AreCodeWords}
 use Rattle.options.specs.declared.files.Files.{Files}
 use Rattle.commandline.specs.CommandLine.{IsInput, NamesInput}
 

@@ -1,4 +1,11 @@
 mod CodeFiles
+mod ExpectedLists
+mod ExpectedParts
+mod Found
 mod Given
+mod LineFaults
+mod LineLists
+mod LineParts
 mod Named
 mod Parsed
+mod WatchedLists

@@ -1,15 +1,15 @@
 -- A word that is at fault is a wrong value.
 use Rattle.std.proofs.Common.{List, Option, inl, inr}
 use Rattle.clap.specs.Words.{Row, Text}
-use Rattle.invocations.proofs.ExpectedLists.{not_expected}
-use Rattle.invocations.proofs.LineFaults.{no_lines}
-use Rattle.invocations.proofs.WatchedLists.{seventeen}
-use Rattle.invocations.specs.Invocations.{IsOfFault, expected_words, line_word, line_words, watched_words}
-use Rattle.invocations.specs.LineWords.{ArePaths, IsNoPath}
-use Rattle.invocations.specs.declared.line_words.LineWordFault.{LineWordFault}
-use Rattle.invocations.specs.declared.line_words.LineWordFault.TheVariants.{Again, NoLine, Shared}
-use Rattle.invocations.specs.declared.word_fault.WordFault.{WordFault}
-use Rattle.invocations.specs.declared.word_fault.WordFault.TheVariants.{Expected, Line, Watched}
+use Rattle.commandline.proofs.ExpectedLists.{not_expected}
+use Rattle.commandline.proofs.LineFaults.{no_lines}
+use Rattle.commandline.proofs.WatchedLists.{seventeen}
+use Rattle.commandline.specs.Invocations.{IsOfFault, expected_words, line_word, line_words, watched_words}
+use Rattle.commandline.specs.LineWords.{ArePaths, IsNoPath}
+use Rattle.commandline.specs.declared.line_words.LineWordFault.{LineWordFault}
+use Rattle.commandline.specs.declared.line_words.LineWordFault.TheVariants.{Again, NoLine, Shared}
+use Rattle.commandline.specs.declared.word_fault.WordFault.{WordFault}
+use Rattle.commandline.specs.declared.word_fault.WordFault.TheVariants.{Expected, Line, Watched}
 use Rattle.commandline.specs.CommandLine.{HasWrongValue}
 
 no_path : (text : Text) (fault : LineWordFault) → IsNoPath text fault → (from : Text) (to : Option Text)

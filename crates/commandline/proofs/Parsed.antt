@@ -9,8 +9,8 @@ use Rattle.clap.specs.declared.error.Error.{Error}
 use Rattle.clap.specs.declared.parser.matches.ArgMatches.{ArgMatches}
 use Rattle.clap.specs.declared.parser.matches.ArgMatches.TheViews.{out-ArgMatches}
 use Rattle.clap.specs.declared.error.kind.ErrorKind.TheVariants.{OutOfMemory}
-use Rattle.invocations.specs.Invocations.{IsOfCommand}
-use Rattle.invocations.specs.declared.invocations.Invocation.{Invocation}
+use Rattle.commandline.specs.Invocations.{IsOfCommand}
+use Rattle.commandline.specs.declared.invocations.Invocation.{Invocation}
 use Rattle.commandline.specs.CommandLine.{AreTaken, HasWrongValue, IsAtFault, IsConflicting, IsInvocation, IsLacking}
 use Rattle.commandline.specs.CommandLine.{Spell, command_line}
 

@@ -23,14 +23,14 @@ use Rattle.clap.specs.declared.error.Error.{Error}
 use Rattle.clap.specs.declared.error.kind.ErrorKind.{ErrorKind}
 use Rattle.clap.specs.declared.error.kind.ErrorKind.TheVariants.{ArgumentConflict, MissingRequiredArgument}
 use Rattle.clap.specs.declared.error.kind.ErrorKind.TheVariants.{ValueValidation}
-use Rattle.invocations.specs.ExpectedWords.{AreExpected}
-use Rattle.invocations.specs.Invocations.{IsLineName, IsOfCommand, expected_words, line_word, line_words}
-use Rattle.invocations.specs.Invocations.{watched_words}
-use Rattle.invocations.specs.LineWords.{AreLines, ArePaths}
-use Rattle.invocations.specs.TextWords.{AreCodeWords}
+use Rattle.commandline.specs.ExpectedWords.{AreExpected}
+use Rattle.commandline.specs.Invocations.{IsLineName, IsOfCommand, expected_words, line_word, line_words}
+use Rattle.commandline.specs.Invocations.{watched_words}
+use Rattle.commandline.specs.LineWords.{AreLines, ArePaths}
+use Rattle.commandline.specs.TextWords.{AreCodeWords}
 use Rattle.options.specs.declared.expected_word.ExpectedWord.{ExpectedWord}
 use Rattle.options.specs.declared.files.Files.{Files}
-use Rattle.invocations.specs.declared.invocations.Invocation.{Invocation}
+use Rattle.commandline.specs.declared.invocations.Invocation.{Invocation}
 use Rattle.options.specs.declared.line_word.LineWord.{LineWord}
 
 -- ---- the words that are taken

@@ -9,8 +9,8 @@ ghost use Rattle.commandline.specs.CommandLine.{IsInput, IsPlayName, NamesBindin
 ghost use Rattle.commandline.specs.CommandLine.{NamesNoBinding, NamesNoCodeFile, NamesNoScenario};
 ghost use Rattle.commandline.specs.CommandLine.{WritesOverInput};
 
+use crate::text_words::{CodeWords, code_words_in};
 use clap::ArgMatches;
-use invocations::{CodeWords, code_words_in};
 
 /// Whether one thing is given beside another one that it cannot be used with.
 pub(crate) fn is_conflicting(name: &str, found: &ArgMatches) -> bool

@@ -5,13 +5,17 @@ ghost use Rattle.clap.specs.Words.{kind_of};
 
 use crate::builders::command_of;
 use crate::checks::{asks_beside_code, has_no_status, is_given, is_play_name};
+use crate::expected_words::ExpectedFault;
+use crate::line_words::LineWordFault;
 use crate::tables::{
     ASK, BLINK, CHECK, CODE, EXPLAIN, LIST, LISTEN, LIVE, LOOK, NOTES, PLAY, PROBE, RUN, STEP,
     Subcommand,
 };
+use crate::text_words::code_words_in;
+use crate::watched_names::WatchedFault;
+use crate::word_fault::WordFault;
 use clap::error::ErrorKind;
 use clap::{ArgMatches, Error};
-use invocations::{ExpectedFault, LineWordFault, WatchedFault, WordFault, code_words_in};
 use std::alloc::{AllocError, Global};
 
 /// The fault of one thing that is given beside another one: a binding or JSON beside a code file,

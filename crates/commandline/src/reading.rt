@@ -3,18 +3,19 @@
 ghost use Rattle.std.specs.Prelude.{◌≡◌, ◌⊎◌, IfErr, IfOk, false, map, string_bytes};
 ghost use Rattle.clap.specs.Words.{app_of, found_of, kind_of, rows_of};
 ghost use Rattle.clap.specs.declared.builder.command.Command.TheViews.{out-Command};
-ghost use Rattle.invocations.specs.Invocations.{IsOfCommand};
+ghost use Rattle.commandline.specs.Invocations.{IsOfCommand};
 ghost use Rattle.commandline.specs.CommandLine.{AreTaken, HasWrongValue, IsAtFault, IsConflicting};
 ghost use Rattle.commandline.specs.CommandLine.{IsInvocation, IsLacking, command_line};
 ghost use Rattle.commandline.specs.CommandLine.{desk_line, tool_line, trying_line};
 
 use crate::builders::{extended, program};
 use crate::checks::{is_conflicting, is_lacking, writes_over_input};
+use crate::invocations::Invocation;
 use crate::messages::{conflict, lack, overwriting, wrong_word};
+use crate::readers::invocation_of;
 use crate::tables::{AT_LINE, DESK, LAST, TRYING};
 use clap::error::ErrorKind;
 use clap::{ArgMatches, Command, Error};
-use invocations::{Invocation, invocation_of};
 use std::alloc::{AllocError, Global};
 
 /// The invocation that the words spell, of which the first is the program's name.

@@ -9,8 +9,8 @@ use Rattle.clap.specs.Words.{Row, Text, fault_of, first_of, kind_of, subcommand_
 use Rattle.clap.specs.declared.error.Error.{Error}
 use Rattle.clap.specs.declared.error.kind.ErrorKind.{ErrorKind}
 use Rattle.clap.specs.declared.error.kind.ErrorKind.TheVariants.{OutOfMemory}
-use Rattle.invocations.specs.ExpectedWords.{AreExpected}
-use Rattle.invocations.specs.Invocations.{IsLineName, expected_words, watched_words}
+use Rattle.commandline.specs.ExpectedWords.{AreExpected}
+use Rattle.commandline.specs.Invocations.{IsLineName, expected_words, watched_words}
 use Rattle.commandline.specs.CommandLine.{AreTaken, HasPlayFiles, HasWrongValue, IsAtFault, IsConflicting}
 use Rattle.commandline.specs.CommandLine.{IsLacking, NamesNoLines, Spell, command_line}
 

@@ -9,13 +9,13 @@ use Rattle.std.proofs.Math.Seq.{get_or-append_seam}
 use Rattle.std.proofs.lemmas.Bool.{leb-true}
 use Rattle.clap.specs.Words.{Text}
 use Rattle.wordlines.specs.WordLines.{are_digits}
-use Rattle.invocations.specs.ExpectedWords.{IsExpectedWord, IsFirstUnexpected}
-use Rattle.invocations.specs.LineWords.{ArePaths, IsFirstFault, IsLineWord, comma}
-use Rattle.invocations.specs.TextWords.{given}
-use Rattle.invocations.specs.declared.expected_words.ExpectedFault.TheVariants.{NoPair}
+use Rattle.commandline.specs.ExpectedWords.{IsExpectedWord, IsFirstUnexpected}
+use Rattle.commandline.specs.LineWords.{ArePaths, IsFirstFault, IsLineWord, comma}
+use Rattle.commandline.specs.TextWords.{given}
+use Rattle.commandline.specs.declared.expected_words.ExpectedFault.TheVariants.{NoPair}
 use Rattle.options.specs.declared.expected_word.ExpectedWord.{ExpectedWord}
 use Rattle.options.specs.declared.line_word.LineWord.{LineWord}
-use Rattle.invocations.specs.declared.line_words.LineWordFault.TheVariants.{Shared}
+use Rattle.commandline.specs.declared.line_words.LineWordFault.TheVariants.{Shared}
 use Rattle.std.specs.Borrow.{Bor}
 
 -- the first of what words name is that of the first word

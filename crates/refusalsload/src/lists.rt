@@ -3,14 +3,14 @@
 ghost use Rattle.std.specs.Prelude.{◌≡◌, ◌<◌, ◌≤◌, ◌↔◌, IfSome, IsTrue, Some, codes, false, length, true};
 ghost use Rattle.std.specs.List.{All};
 ghost use Rattle.clap.specs.Words.{first_of, found_of, rows_of};
-ghost use Rattle.invocations.specs.ExpectedWords.{IsExpectedWord};
-ghost use Rattle.invocations.specs.Invocations.{expected_words, line_words};
-ghost use Rattle.invocations.specs.LineWords.{HasPath, IsLineWord, SharePath};
+ghost use Rattle.commandline.specs.ExpectedWords.{IsExpectedWord};
+ghost use Rattle.commandline.specs.Invocations.{expected_words, line_words};
+ghost use Rattle.commandline.specs.LineWords.{HasPath, IsLineWord, SharePath};
 ghost use Rattle.options.specs.declared.expected_word.ExpectedWord.{ExpectedWord as Expected};
 ghost use Rattle.options.specs.declared.line_word.LineWord.{LineWord as Line};
 
 use clap::ArgMatches;
-use invocations::{ExpectedFault, Invocation, LineWordFault, Tool, WordFault, invocation_of};
+use commandline::{ExpectedFault, Invocation, LineWordFault, Tool, WordFault, invocation_of};
 use options::LineWord;
 
 /// `an_expected_name_may_be_empty`: a word that begins with `=` was taken.

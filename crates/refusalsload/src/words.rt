@@ -3,10 +3,10 @@
 ghost use Rattle.std.specs.Prelude.{◌≡◌, ◌≢◌, IfSome, None, Some, codes, false, length, option_map};
 ghost use Rattle.std.specs.Prelude.{true};
 ghost use Rattle.clap.specs.Words.{first_of, found_of, one_of, rows_of};
-ghost use Rattle.invocations.specs.Invocations.{expected_words, watched_words};
+ghost use Rattle.commandline.specs.Invocations.{expected_words, watched_words};
 
 use clap::ArgMatches;
-use invocations::{
+use commandline::{
     CodeWords, Invocation, LookOptions, Question, Tool, code_words_in, invocation_of,
 };
 use options::{LiveOptions, PlayFiles};

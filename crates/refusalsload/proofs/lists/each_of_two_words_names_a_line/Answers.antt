@@ -1,9 +1,9 @@
 use Rattle.std.proofs.Common.{◌∙◌, codes, subst}
 use Rattle.std.proofs.lemmas.Slice.Zip.{AllZip-long}
 use Rattle.clap.specs.Words.{found_of, rows_of}
-use Rattle.invocations.specs.Invocations.{IsOfCommand, line_words}
-use Rattle.invocations.specs.LineWords.{IsLineWord}
-use Rattle.invocations.specs.declared.invocations.Invocation.{Invocation}
+use Rattle.commandline.specs.Invocations.{IsOfCommand, line_words}
+use Rattle.commandline.specs.LineWords.{IsLineWord}
+use Rattle.commandline.specs.declared.invocations.Invocation.{Invocation}
 use Rattle.refusalsload.proofs.lists.each_of_two_words_names_a_line.Goals as goal
 
 pub returns-in-Ok-Live : goal.returns-in-Ok-Live

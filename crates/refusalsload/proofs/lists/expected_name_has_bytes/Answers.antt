@@ -1,10 +1,10 @@
 use Rattle.std.proofs.Common.{◌∙◌, ap, codes, subst, sym}
 use Rattle.std.specs.Prelude.{List, slice_get}
 use Rattle.clap.specs.Words.{found_of, rows_of}
-use Rattle.invocations.specs.ExpectedWords.{IsExpectedWord}
-use Rattle.invocations.specs.Invocations.{IsOfCommand, expected_words}
+use Rattle.commandline.specs.ExpectedWords.{IsExpectedWord}
+use Rattle.commandline.specs.Invocations.{IsOfCommand, expected_words}
 use Rattle.options.specs.declared.expected_word.ExpectedWord.{ExpectedWord}
-use Rattle.invocations.specs.declared.invocations.Invocation.{Invocation}
+use Rattle.commandline.specs.declared.invocations.Invocation.{Invocation}
 use Rattle.refusalsload.proofs.Listed.{first_of_each}
 use Rattle.refusalsload.proofs.lists.expected_name_has_bytes.Goals as goal
 

@@ -1,8 +1,8 @@
 use Rattle.std.proofs.Common.{codes, subst}
 use Rattle.clap.specs.Words.{first_of, found_of, rows_of}
-use Rattle.invocations.specs.Invocations.{IsOfCommand, IsOfTool}
-use Rattle.invocations.specs.declared.invocations.Invocation.{Invocation}
-use Rattle.invocations.specs.declared.tools.Tool.{Tool}
+use Rattle.commandline.specs.Invocations.{IsOfCommand, IsOfTool}
+use Rattle.commandline.specs.declared.invocations.Invocation.{Invocation}
+use Rattle.commandline.specs.declared.tools.Tool.{Tool}
 use Rattle.refusalsload.proofs.Listed.{read_first}
 use Rattle.refusalsload.proofs.lists.first_path_is_read.Goals as goal
 

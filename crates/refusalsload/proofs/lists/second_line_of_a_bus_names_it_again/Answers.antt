@@ -1,9 +1,9 @@
 use Rattle.std.proofs.Common.{codes, inl, inr, subst}
 use Rattle.clap.specs.Words.{found_of, rows_of}
-use Rattle.invocations.specs.Invocations.{IsOfFault, line_word, line_words}
-use Rattle.invocations.specs.LineWords.{IsFirstFault, IsNoPath}
-use Rattle.invocations.specs.declared.line_words.LineWordFault.{LineWordFault}
-use Rattle.invocations.specs.declared.word_fault.WordFault.{WordFault}
+use Rattle.commandline.specs.Invocations.{IsOfFault, line_word, line_words}
+use Rattle.commandline.specs.LineWords.{IsFirstFault, IsNoPath}
+use Rattle.commandline.specs.declared.line_words.LineWordFault.{LineWordFault}
+use Rattle.commandline.specs.declared.word_fault.WordFault.{WordFault}
 use Rattle.refusalsload.proofs.Listed.{each_again}
 use Rattle.refusalsload.proofs.lists.second_line_of_a_bus_names_it_again.Goals as goal
 

@@ -1,9 +1,9 @@
 use Rattle.std.proofs.Common.{codes, subst}
 use Rattle.clap.specs.Words.{found_of, rows_of}
-use Rattle.invocations.specs.ExpectedWords.{IsFirstUnexpected}
-use Rattle.invocations.specs.Invocations.{IsOfFault, expected_words}
-use Rattle.invocations.specs.declared.expected_words.ExpectedFault.{ExpectedFault}
-use Rattle.invocations.specs.declared.word_fault.WordFault.{WordFault}
+use Rattle.commandline.specs.ExpectedWords.{IsFirstUnexpected}
+use Rattle.commandline.specs.Invocations.{IsOfFault, expected_words}
+use Rattle.commandline.specs.declared.expected_words.ExpectedFault.{ExpectedFault}
+use Rattle.commandline.specs.declared.word_fault.WordFault.{WordFault}
 use Rattle.refusalsload.proofs.Listed.{each_says}
 use Rattle.refusalsload.proofs.lists.word_that_says_what_is_expected_is_a_pair.Goals as goal
 

@@ -1,5 +1,0 @@
-pub mod ExpectedWords
-pub mod Invocations
-pub mod LineWords
-pub mod TextWords
-pub mod WatchedNames
