@@ -1,32 +1,14 @@
-//! The words of the command line, read with `clap`.
+//! The words of the command line, read with `clap`, and what a user asks for by them.
 //!
-//! What crosses the boundary: [`read`] takes the words that follow the program's name, and gives
-//! the [`Invocation`] that they spell, whose types and meaning are those of `invocations`: an
-//! [`Inquiry`] or a [`Question`] of a text, files that are played, run or looked at, a building
-//! with the lines of its buses, a [`Tool`] at one line, a code file that is written or judged, or
-//! frames and events in words.
-//! The definitions to read first are `command_line` and `IsInvocation` (specs/CommandLine.antt).
+//! What crosses the boundary: [`read`] takes the words behind the program's name and gives the
+//! [`Invocation`] that they spell: a [`Question`] of a text, files that are played, run or looked
+//! at, a building with the lines of its buses, a [`Tool`] at one line, a code file, or frames and
+//! events in words. [`invocation_of`] is the step from what `clap` found, with its [`WordFault`].
+//! Read `command_line` and `IsInvocation` (specs/CommandLine.antt) first, then `IsOfCommand`
+//! (specs/Invocations.antt).
 //!
 //! ```text
 //! match commandline::read(alloc, words)? {
-//!     Invocation::Ask(inquiry) => ..
-//! }
-//! ```
-//!
-//! What the user asks for, read from what `clap` found in the words of the command line.
-//!
-//! What crosses the boundary: [`invocation_of`] takes the name of a command and what was found
-//! under it, and gives the [`Invocation`]: an `Inquiry` or a [`Question`] of a text, files that
-//! are played, run or looked at, a building with the lines of its buses, a [`Tool`] at one line, a
-//! code file that is written or judged, or frames and events in words. Or it gives the
-//! [`WordFault`]: the first word that names no line, or a second one of a bus or of a path, or that
-//! says nothing that is expected, or is the seventeenth name that is watched. The definitions to
-//! read first are `IsOfCommand` (specs/Invocations.antt), `IsLineWord` (specs/LineWords.antt) and
-//! `IsExpectedWord` (specs/ExpectedWords.antt). Which words are taken stands above, in
-//! `commandline`.
-//!
-//! ```text
-//! match invocations::invocation_of("check", &found)? {
 //!     Invocation::Ask(inquiry) => ..
 //! }
 //! ```

@@ -3,7 +3,7 @@
 //! What crosses the boundary: an [`Inquiry`] of a text and the [`Files`] that it reads; the
 //! [`PlayFiles`] of a play; the [`LiveFiles`] of a building, its [`LiveOptions`] with the
 //! [`RunSize`] and what is written [`Beside`] it, and a [`LineWord`] for each of its buses; and an
-//! [`ExpectedWord`] for each value that a play is to come to. `invocations`, above, reads them from
+//! [`ExpectedWord`] for each value that a play is to come to. `commandline`, above, reads them from
 //! the words of a command line; who embeds the controller makes them without one. The definition
 //! to read first is `files_of` (specs/Inquiries.antt).
 //!

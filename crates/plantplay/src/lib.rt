@@ -1,43 +1,15 @@
-//! A scenario, played: the plant of a text stands on simulated buses, and what the scenario says
-//! happens to it, on one thread.
+//! A scenario, played on one thread: what happens, what is watched, and what it is to come to.
 //!
-//! What crosses the boundary: [`Installation`] is a plant with a bus interface for each of its
-//! buses; [`open`] makes one of the simulated buses of a scenario, to which nothing has happened.
-//! [`play`] plays the scenario on it, writes each event as a line, and says how that ended;
-//! [`play_watched`] writes too how variables change, and [`play_on`] tells the events to an
-//! observer of the caller's. The definition to read first is `Happens` (specs/Stage.antt), what one
-//! line of a scenario does; then `IsPlayedTo`, how a play ends, and `IsInstallation`
-//! (specs/Installations.antt), what it begins with.
+//! What crosses the boundary: [`open`] makes an [`Installation`], a plant on the simulated buses of
+//! a scenario. [`play`] plays the scenario on it and writes each event as a line; [`play_on`] tells
+//! the events to an observer of the caller's. A [`Watch`] gives the values of variables that are
+//! new behind a scan; [`are_met`] says whether global variables have the values that are expected.
+//! Read `Happens` (specs/Stage.antt) first, then `IsPlayedTo`, `IsWatchable` (specs/Watched.antt)
+//! and `IsMet` (specs/Expected.antt).
 //!
 //! ```text
 //! let mut installation = open(alloc, setup, &scenario, limit)?;
 //! let ending = play(alloc, &mut out, FrameStyle::Digits, &mut installation, &scenario)?;
-//! ```
-//!
-//! Variables of a plant that are watched while a scenario is played.
-//!
-//! What crosses the boundary: names of variables, as `--watch` gives them. [`are_watchable`] says
-//! whether a plan has them, and [`report_unwatchable`] writes those that it has not. A [`Watch`] is
-//! lent the plant behind each of its scans, and gives the values that are new there. The definition
-//! to read first is `IsWatchable` (specs/Watched.antt).
-//!
-//! ```text
-//! let mut watch = Watch::of(alloc, &plant, names)?;
-//! watch.note_values(&plant, task)?; // behind a scan of the task
-//! watch.write_changes(&mut to)?; //     lamp = 200
-//! ```
-//!
-//! What is expected of the global variables of a plant, and whether it is so.
-//!
-//! What crosses the boundary: [`ExpectedWord`]s of a command line, `NAME=VALUE`, and a
-//! [`plant::Plant`]. [`are_known`] says whether its plan has the names, [`are_met`] whether its
-//! global variables have the values, and [`report_unknown`] and [`report_unmet`] write what is not
-//! so, a line each. The definition to read first is `IsMet` (specs/Expected.antt).
-//!
-//! ```text
-//! if !are_met(plant, expected) {
-//!     report_unmet(&mut to, plant, expected)?; // expected lamp = 200, it is 0
-//! }
 //! ```
 #![tactic(auto)]
 
