@@ -73,8 +73,9 @@ impl<B: Drop> Controller<B> {
 
 impl<B: Bus> Controller<B> {
     ghost use Rattle.std.specs.Prelude.{◌≡◌, map, IfErr, OnOk};
-    ghost use Rattle.plantdriving.specs.Driven.{CannotGoOn, IsDriven, IsHeardFirst};
+    ghost use Rattle.plantdriving.specs.Driven.{CannotGoOn, IsDriven, IsHeardFirst, IsInOrder};
     ghost use Rattle.plantdriving.specs.Quiet.{IsQuiet};
+    ghost use Rattle.plantdriving.specs.Tellings.{TellsEach};
     ghost use Rattle.plantdriving.specs.Ticks.{TicksAt};
 
     /// It is this moment, in milliseconds: what waits for it happens at the next
@@ -87,6 +88,8 @@ impl<B: Bus> Controller<B> {
     pub fn tick<O: Observer<B>>(&mut self, moment: u64, observer: &mut O) -> Result<(), Halt>
         ensures plant { TicksAt moment self.old.plant self.new.plant result }
         ensures buses { self.new.buses ≡ self.old.buses }
+        ensures told { TellsEach self.old.plant self.new.plant (O.told observer.old)
+            (O.told observer.new) result }
     {
         self.plant.tick(moment, observer)
     }
@@ -100,11 +103,14 @@ impl<B: Bus> Controller<B> {
     pub fn settle<O: Observer<B>>(&mut self, alloc: Global, observer: &mut O) -> Result<(), Halt>
         ensures driven { IsDriven self.old.plant self.new.plant (map B.log self.old.buses.items)
             (map B.log self.new.buses.items) }
+        ensures order { IsInOrder self.old.plant self.new.plant }
         ensures heard { OnOk result (IsHeardFirst self.old.plant self.new.plant
             (map B.log self.old.buses.items) (map B.log self.new.buses.items)) }
         ensures quiet { OnOk result (IsQuiet self.new.plant (map B.log self.old.buses.items)
             (map B.log self.new.buses.items)) }
         ensures stops { IfErr result (CannotGoOn self.new.plant) }
+        ensures told { TellsEach self.old.plant self.new.plant (O.told observer.old)
+            (O.told observer.new) result }
     {
         self.plant.settle(alloc, &mut self.buses, observer)
     }

@@ -2,7 +2,6 @@
 
 use indexmap::IndexMap;
 use std::alloc::{AllocError, Global};
-
 use std::marker::Model;
 
 /// What is kept under different names in lower case, found by hashing.

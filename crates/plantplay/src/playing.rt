@@ -4,6 +4,7 @@ ghost use Rattle.std.specs.Prelude.{◌≡◌, [], IfErr, MatchResult, OnOk, map
 ghost use Rattle.wordlines.specs.Happenings.{happenings};
 ghost use Rattle.plantevents.specs.Legal.{AreLegal};
 ghost use Rattle.plantdriving.specs.Driven.{CannotGoOn, IsDriven};
+ghost use Rattle.plantdriving.specs.Tellings.{HasToldAll, HasToldSome, TellsEach};
 ghost use Rattle.plantplay.specs.Installations.{sim_log, stage_of};
 ghost use Rattle.plantplay.specs.Stage.{Happens, HasSettled, IsPlayedAsFar, IsPlayedSomeFar};
 ghost use Rattle.plantplay.specs.Stage.{IsPlayedTo, arriving};
@@ -109,11 +110,11 @@ fn write_ending<W: Write>(
 }
 
 /// Plays a scenario: its ticks and events in order, each with what follows from it. An observer is
-/// told each event of the history.
+/// told each event of the history once, in order, with its place.
 ///
 /// # Errors
 ///
-/// The observer's.
+/// The observer's: it was told a first part of the events.
 pub fn play_on<O: Observer<SimBus>>(
     alloc: Global,
     installation: &mut Installation<SimBus>,
@@ -126,6 +127,11 @@ pub fn play_on<O: Observer<SimBus>>(
         (λ error. IsPlayedSomeFar (happenings scenario.now) (stage_of installation.old)
         (stage_of installation.new)) }
     ensures legal { AreLegal installation.new.plant.plant installation.new.plant.history }
+    ensures told { MatchResult result
+        (λ ending. HasToldAll installation.old.plant.history installation.new.plant.history
+        (O.told observer.old) (O.told observer.new))
+        (λ error. HasToldSome installation.old.plant.history installation.new.plant.history
+        (O.told observer.old) (O.told observer.new)) }
 {
     let played = installation.follow(alloc, scenario, observer);
     let _legal = installation.plant().len();
@@ -145,9 +151,11 @@ impl Installation<SimBus> {
         scenario: &Scenario,
         observer: &mut O,
     ) -> Result<(), Halt>
-        ensures { MatchResult result
+        ensures played { MatchResult result
             (λ done. IsPlayedAsFar (happenings scenario.now) [] (stage_of self.old) (stage_of self.new))
             (IsHalted (happenings scenario.now) (stage_of self.old) (stage_of self.new)) }
+        ensures told { TellsEach self.old.plant self.new.plant (O.told observer.old)
+            (O.told observer.new) result }
     {
         let mut happenings = scenario.happenings();
         for _ in scenario.lines() {
@@ -167,9 +175,11 @@ impl Installation<SimBus> {
         happening: Happening,
         observer: &mut O,
     ) -> Result<(), Halt>
-        ensures { MatchResult result
+        ensures happens { MatchResult result
             (λ done. Happens happening (stage_of self.old) (stage_of self.new))
             (IsHaltedAt happening (stage_of self.old) (stage_of self.new)) }
+        ensures told { TellsEach self.old.plant self.new.plant (O.told observer.old)
+            (O.told observer.new) result }
     {
         match happening {
             Happening::Tick { moment } => {
@@ -196,6 +206,8 @@ impl Installation<SimBus> {
             (map sim_log self.new.lines.items) }
         ensures settled { OnOk result (HasSettled (stage_of self.old) (stage_of self.new)) }
         ensures stops { IfErr result (CannotGoOn self.new.plant) }
+        ensures told { TellsEach self.old.plant self.new.plant (O.told observer.old)
+            (O.told observer.new) result }
     {
         self.plant.settle(alloc, &mut self.lines, observer)
     }

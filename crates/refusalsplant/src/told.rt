@@ -5,6 +5,7 @@ ghost use Rattle.plantdriving.specs.Open.{HasNothingOpen};
 ghost use Rattle.plantdriving.specs.declared.happened.Told.{Told};
 
 use buslink::Bus;
+use gushewa::Controller;
 use plant::Plant;
 use plantdriving::{Halt, IdlePlant, Observer, send_next, settle};
 use std::alloc::Global;
@@ -50,4 +51,31 @@ pub fn tick_is_told_at_its_place<B, O: Observer<B>>(
         × (told.place ≡ length plant.old.history)) }
 {
     plant.tick::<B, O>(7, observer)
+}
+
+/// `a_controller_keeps_its_tick_to_itself`: the observer of a controller was told nothing of a tick.
+pub fn controllers_tick_is_told_at_its_place<B: Bus, O: Observer<B>>(
+    controller: &mut Controller<B>,
+    observer: &mut O,
+) -> Result<(), Halt>
+    requires { O.told observer.old ≡ Some [] }
+    ensures { OnOk result ((told : Told) × (O.told observer.new ≡ Some (told ∷ []))
+        × (told.place ≡ length controller.old.plant.history)) }
+{
+    controller.tick(7, observer)
+}
+
+/// `a_controller_tells_ticks_alone`: the observer of a controller was told fewer or more events than
+/// came while it settled.
+pub fn as_many_are_told_as_came_to_a_controller<B: Bus, O: Observer<B>>(
+    alloc: Global,
+    controller: &mut Controller<B>,
+    observer: &mut O,
+) -> Result<(), Halt>
+    requires { O.told observer.old ≡ Some [] }
+    ensures { OnOk result ((told : List Told) × (O.told observer.new ≡ Some told)
+        × (length told + length controller.old.plant.history
+        ≡ length controller.new.plant.history)) }
+{
+    controller.settle(alloc, observer)
 }
