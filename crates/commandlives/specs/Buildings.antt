@@ -9,15 +9,14 @@ use Rattle.livehouse.specs.Lived.{Lived}
 use Rattle.livehouse.specs.Lives.{HasLived}
 use Rattle.options.specs.declared.files.LiveFiles.{LiveFiles}
 use Rattle.options.specs.declared.live_options.LiveOptions.{LiveOptions}
-use Rattle.options.specs.declared.live_options.RunSize.{RunSize}
 use Rattle.options.specs.declared.line_word.LineWord.{LineWord}
 use Rattle.livekeep.specs.KeptFiles.{KeptState}
 use Rattle.commandfiles.specs.ExitStatus.{ExitStatus}
-use Rattle.commandfiles.specs.ExitStatus.TheVariants.{Failed, Misused}
+use Rattle.commandfiles.specs.ExitStatus.TheVariants.{Accepted, Failed, Misused}
 use Rattle.commandfiles.specs.ExitStatuses.{status_of_run, status_of_stop}
 use Rattle.livehouse.specs.declared.buildings.Building.{Building}
 use Rattle.livehouse.specs.declared.stops.LiveStop.{LiveStop}
-use Rattle.livehouse.specs.declared.stops.LiveStop.TheVariants.{Lineup}
+use Rattle.livehouse.specs.declared.stops.LiveStop.TheVariants.{Ended, Lineup}
 use Rattle.livehouse.specs.Buildings.{IsLiveStop, IsNotLived, IsOpened}
 use Rattle.commandlives.specs.declared.lived.LiveLeft.{LiveLeft}
 use Rattle.commandlives.specs.declared.living.Halted.{Halted}
@@ -62,17 +61,18 @@ IsUnobserved binding text (halts.Text stop) = IsStopUnder binding text stop
 IsUnobserved binding text (halts.Building stop) = ⊥
 
 -- what stands against it: the binding's fault or that of the text; else the words of its lines, the clock or the plant
-pub record IsBuildingStop (binding text : List ℕ) (file : Option (List ℕ)) (words : List LineWord) (size : RunSize)
-    (stop : LiveStop) : Type 0 where
+pub record IsBuildingStop (binding text : List ℕ) (file : Option (List ℕ)) (words : List LineWord)
+    (options : LiveOptions) (stop : LiveStop) : Type 0 where
   pub setup : Loaded
   pub kept : Option KeptState
   pub used : AreUsed file kept
   pub loaded : IsBegunUnder binding text kept setup
-  pub stops : IsLiveStop setup words size stop ⊎ IsNotLived setup size setup.plan.buses stop
+  pub stops : IsLiveStop setup words options stop ⊎ IsNotLived setup options.size setup.plan.buses stop
 
-abbrev pub IsHalted : List ℕ → List ℕ → Option (List ℕ) → List LineWord → RunSize → Halted → Type 0
-IsHalted binding text file words size (halts.Text stop) = IsStopUnder binding text stop
-IsHalted binding text file words size (halts.Building stop) = IsBuildingStop binding text file words size stop
+abbrev pub IsHalted : List ℕ → List ℕ → Option (List ℕ) → List LineWord → LiveOptions → Halted
+    → Type 0
+IsHalted binding text file words options (halts.Text stop) = IsStopUnder binding text stop
+IsHalted binding text file words options (halts.Building stop) = IsBuildingStop binding text file words options stop
 
 -- what a building comes to: what it leaves, or what stands against it
 abbrev pub LiveEnd : Type 0 → Type 0 → Type 0
@@ -83,7 +83,7 @@ abbrev pub IsLiveEnd : {B C : Type 0} → List ℕ → List ℕ → Option (List
 IsLiveEnd binding text file bus_log clock_log is_of is_timed words options (Ok left) =
     IsLivedOut binding text file bus_log clock_log is_of is_timed words options left.lived
 IsLiveEnd binding text file bus_log clock_log is_of is_timed words options (Err halted) =
-    IsHalted binding text file words options.size halted
+    IsHalted binding text file words options halted
 
 -- it ends since a bus went down only where that is asked for
 abbrev pub IsCutWhereAsked : {B C : Type 0} → Bool → LiveEnd B C → Type 0
@@ -104,9 +104,11 @@ status_of_left left =
     let plant = left.lived.left.plant in
     if left.is_cut then Failed else status_of_run left.lived.ended (has_down plant.plant.plan.buses plant.history)
 
--- of what stands against it: the words are no command line of this binding; or anything else
+-- of what stands against it: the words are no command line of this binding; the file that ends it was there already; or
+-- anything else
 abbrev pub status_of_live_stop : LiveStop → ExitStatus
 status_of_live_stop (Lineup fault) = Misused
+status_of_live_stop Ended = Accepted
 status_of_live_stop _ = Failed
 
 -- the exit status by what a building comes to

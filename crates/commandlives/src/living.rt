@@ -235,7 +235,7 @@ fn live_on<'a, S: Site + Storage + Sync, N: Notice, R: Threads + Wait + Timer + 
     ensures told { IsToldWhereBegun (N.is_told grounds.now.notice.now) pages.now.binding
         pages.now.text pages.now.file result }
     ensures halted { IfErr result (IsHalted pages.now.binding pages.now.text pages.now.file
-        lines.now options.now.size) }
+        lines.now options.now) }
 {
     let begun = begun_of(alloc, pages)?;
     let _told = grounds.notice.begins(&begun.note);
@@ -269,7 +269,7 @@ fn live_with<'a, S: Site, N: Notice, G: Gate, R: Threads + Wait + Timer + Sync>(
     ensures cut { IsCutWhereAsked options.now.ends_on_down result }
     ensures halted { IfErr result (λ halted. (binding text : List ℕ) (file : Option (List ℕ))
         → HasBegun binding text file begun
-        → IsHalted binding text file lines.now options.now.size halted) }
+        → IsHalted binding text file lines.now options.now halted) }
 {
     let begins = begun.begins();
     let Beginning { setup, .. } = begun;

@@ -76,7 +76,7 @@ pub fn opened<'a, S: Site>(
     match site.open(alloc, line, number, patience) {
         Ok(bus) => Ok(bus),
         Err(SiteFault::Memory) => Err(LiveStop::Start(StartFault::Memory)),
-        Err(SiteFault::Failed) => Err(LiveStop::NotOpened(line)),
+        Err(SiteFault::Failed | SiteFault::Ended) => Err(LiveStop::NotOpened(line)),
     }
 }
 

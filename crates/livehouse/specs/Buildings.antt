@@ -1,5 +1,5 @@
 -- A building: what it is before it runs, what it comes to, and what stands against it (profile).
-use Rattle.std.specs.Prelude.{◌≡◌, ℕ, List, Option, option_map, ⊤}
+use Rattle.std.specs.Prelude.{◌≡◌, ℕ, IsSome, List, Option, option_map, ⊤}
 use Rattle.std.specs.Int.NonZero.{non_zero_u64_get}
 use Rattle.std.specs.Arc.{arc_value}
 use Rattle.buslink.specs.BusLog.{BusLog}
@@ -16,7 +16,7 @@ use Rattle.plantlive.specs.declared.living.Lived.{Lived}
 use Rattle.plantlive.specs.Lives.{HasLived}
 use Rattle.livehouse.specs.declared.buildings.Building.{Building}
 use Rattle.livehouse.specs.declared.stops.LiveStop.{LiveStop}
-use Rattle.livehouse.specs.declared.stops.LiveStop.TheVariants.{Lineup, NoClock, NotOpened, Start}
+use Rattle.livehouse.specs.declared.stops.LiveStop.TheVariants.{Ended, Lineup, NoClock, NotOpened, Start}
 use Rattle.livehouse.specs.Lineups.{AreLinesOf, IsLineupFault}
 use Rattle.livehouse.specs.Sites.{AreNewBuses, AreReached, IsNewClock, IsPeriodFor, moment_of_end}
 
@@ -42,15 +42,17 @@ pub record IsOpened {B C : Type 0} (bus_log : B → BusLog) (clock_log : C → C
 
 -- ---- what stands against it
 
--- the words are not the lines of the buses; else the limit is too low for so many buses, or the clock cannot be read; the
--- allocator may be out of memory. That a line is not there stands against no building.
-abbrev pub IsLiveStop : Loaded → List LineWord → RunSize → LiveStop → Type 0
-IsLiveStop setup words size (Lineup fault) = IsLineupFault setup.plan.buses words fault
-IsLiveStop setup words size (NotOpened word) = ⊥
-IsLiveStop setup words size NoClock = AreLinesOf setup.plan.buses words
-IsLiveStop setup words size (Start Memory) = ⊤
-IsLiveStop setup words size (Start (Plant fault)) =
-    AreLinesOf setup.plan.buses words × (fault ≡ Limit) × ¬ IsRoomy setup.plan.buses size.limit
+-- the words are not the lines of the buses; else the limit is too low for so many buses, or the clock cannot be read, or
+-- its end has come before its first moment, which is so only where a path for that was given; the allocator may be out of
+-- memory. That a line is not there stands against no building.
+abbrev pub IsLiveStop : Loaded → List LineWord → LiveOptions → LiveStop → Type 0
+IsLiveStop setup words options (Lineup fault) = IsLineupFault setup.plan.buses words fault
+IsLiveStop setup words options (NotOpened word) = ⊥
+IsLiveStop setup words options NoClock = AreLinesOf setup.plan.buses words
+IsLiveStop setup words options Ended = AreLinesOf setup.plan.buses words × IsSome options.stop
+IsLiveStop setup words options (Start Memory) = ⊤
+IsLiveStop setup words options (Start (Plant fault)) =
+    AreLinesOf setup.plan.buses words × (fault ≡ Limit) × ¬ IsRoomy setup.plan.buses options.size.limit
 
 -- a building with so many lines does not run: its plant does not start
 abbrev pub IsNotLived : Loaded → RunSize → ℕ → LiveStop → Type 0

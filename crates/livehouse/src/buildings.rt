@@ -1,13 +1,14 @@
 //! A building before it runs, and its run.
 
-ghost use Rattle.std.specs.Prelude.{◌≡◌, ◌<◌, ◌≤◌, ◌⊎◌, IfErr, IfOk, length, option_map};
+ghost use Rattle.std.specs.Prelude.{◌≡◌, ◌<◌, ◌≤◌, ◌⊎◌, IfErr, IfOk, IsSome, length};
+ghost use Rattle.std.specs.Prelude.{option_map};
 ghost use Rattle.std.specs.Int.NonZero.{non_zero_u64_get};
 ghost use Rattle.limits.specs.Limits.{most_buses};
 ghost use Rattle.livehouse.specs.Buildings.{IsLiveStop, IsNotLived, IsOpened};
 ghost use Rattle.livehouse.specs.Lineups.{AreLinesOf, HasLine};
 ghost use Rattle.livehouse.specs.Sites.{AreNewBuses, AreReached, IsNewBus, IsNewClock};
 ghost use Rattle.livehouse.specs.Sites.{IsPeriodFor, IsReached, moment_of_end};
-ghost use Rattle.livehouse.specs.declared.stops.LiveStop.TheVariants.{NoClock, Start};
+ghost use Rattle.livehouse.specs.declared.stops.LiveStop.TheVariants.{Ended, NoClock, Start};
 ghost use Rattle.plant.specs.declared.start_fault.StartFault.TheVariants.{Memory};
 ghost use Rattle.plantlive.specs.Lives.{HasLived};
 
@@ -50,7 +51,8 @@ pub struct Building<B: Bus, C: Clock> {
 /// # Errors
 ///
 /// The words are not the lines of the buses; else the limit is below 500 with more than 16 buses;
-/// else the clock cannot be read. The allocator may be out of memory.
+/// else the clock cannot be read, or there is a file at the path that ends it. The allocator may be
+/// out of memory.
 pub fn open<'a, S: Site>(
     alloc: Global,
     site: &S,
@@ -61,7 +63,7 @@ pub fn open<'a, S: Site>(
 ) -> Result<Building<S::Line, S::Clock>, LiveStop<'a>>
     ensures opened { IfOk result (IsOpened S.Line.log S.Clock.log (S.is_of site.now)
         (S.is_timed site.now) setup lines.now options.now begins) }
-    ensures stop { IfErr result (IsLiveStop setup lines.now options.now.size) }
+    ensures stop { IfErr result (IsLiveStop setup lines.now options.now) }
 {
     let buses = setup.plan().buses();
     if let Err(fault) = check_lines(lines, buses) {
@@ -113,7 +115,8 @@ fn clock_of<S: Site>(
     ensures new { IfOk result (λ clock. IsNewClock (S.Clock.log clock)) }
     ensures timed { IfOk result (λ clock. S.is_timed site.now clock (non_zero_u64_get period)
         begins (moment_of_end begins options.now.seconds) (option_map (λ path. path.now) options.now.stop)) }
-    ensures stop { IfErr result (λ stop. (stop ≡ NoClock) ⊎ (stop ≡ Start Memory)) }
+    ensures stop { IfErr result (λ stop. (stop ≡ NoClock)
+        ⊎ ((stop ≡ Start Memory) ⊎ ((stop ≡ Ended) × IsSome options.now.stop))) }
 {
     let end = End {
         until: last_moment(options, begins),
@@ -124,6 +127,7 @@ fn clock_of<S: Site>(
         Ok(clock) => Ok(clock),
         Err(SiteFault::Memory) => Err(LiveStop::Start(StartFault::Memory)),
         Err(SiteFault::Failed) => Err(LiveStop::NoClock),
+        Err(SiteFault::Ended) => Err(LiveStop::Ended),
     }
 }
 

@@ -5,7 +5,7 @@ ghost use Rattle.livehouse.specs.Sites.{ArePathsOf};
 
 use crate::host_lines::{Devices, HostOpener, HostTeller, owned, paths_of};
 use crate::site::{Site, SiteFault};
-use crate::watch::{DownWatch, End, StopAt};
+use crate::watch::{DownWatch, End, StopAt, is_there};
 use daliframe::BusNumber;
 use liveline::{LineStarter, LiveClock, MendedLine};
 use options::LineWord;
@@ -128,6 +128,9 @@ where
         end: End<'a>,
     ) -> Result<Self::Clock, SiteFault> {
         let End { until, stop, watch } = end;
+        if is_there(self.rt, stop) {
+            return Err(SiteFault::Ended);
+        }
         let Ok(path) = owned(alloc, stop) else {
             return Err(SiteFault::Memory);
         };

@@ -15,6 +15,8 @@ pub enum SiteFault {
     Memory,
     /// It cannot be opened, or its interface does not greet.
     Failed,
+    /// The end of the clock has come already.
+    Ended,
 }
 
 impl From<AllocError> for SiteFault {
@@ -25,11 +27,12 @@ impl From<AllocError> for SiteFault {
 
 /// Where the lines of buses are opened and the clock is made: a machine, or what stands for one.
 pub trait Site {
-    ghost use Rattle.std.specs.Prelude.{ℕ, IfOk, IfErr, List, Option, option_map};
+    ghost use Rattle.std.specs.Prelude.{◌≡◌, ℕ, IfOk, IfErr, IsSome, List, Option, option_map};
     ghost use Rattle.std.specs.Int.NonZero.{non_zero_u64_get};
     ghost use Rattle.livehouse.specs.Sites.{IsNewBus, IsNewClock};
     ghost use Rattle.options.specs.declared.line_word.LineWord.{LineWord};
     ghost use Rattle.livehouse.specs.declared.site.SiteFault.{SiteFault};
+    ghost use Rattle.livehouse.specs.declared.site.SiteFault.TheVariants.{Ended};
 
     type Line: Bus + Send;
 
@@ -92,7 +95,8 @@ pub trait Site {
     ///
     /// # Errors
     ///
-    /// The allocator is out of memory, or the machine's clock cannot be read.
+    /// The allocator is out of memory, the machine's clock cannot be read, or there is a file
+    /// already at the path that ends it.
     fn clock<'a>(
         &self,
         alloc: Global,
@@ -103,5 +107,6 @@ pub trait Site {
         ensures new { IfOk result (λ clock. IsNewClock (Self.Clock.log clock)) }
         ensures timed { IfOk result (λ clock. is_timed self.now clock
             (non_zero_u64_get period) begins end.entry.until
-            (option_map (λ path. path.now) end.entry.stop)) };
+            (option_map (λ path. path.now) end.entry.stop)) }
+        ensures ended { IfErr result (λ fault. fault ≡ Ended → IsSome end.entry.stop) };
 }

@@ -15,6 +15,8 @@ pub enum LiveStop<'a> {
     NotOpened(LineWord<'a>),
     /// The machine's clock cannot be read.
     NoClock,
+    /// There is a file at the path that ends the building, before its first moment.
+    Ended,
     /// The plant does not start, or the allocator is out of memory.
     Start(StartFault),
 }
@@ -32,6 +34,7 @@ impl fmt::Display for LiveStop<'_> {
                 },
             ) => write!(f, "cannot open {from},{to}"),
             LiveStop::NoClock => write!(f, "cannot read the clock"),
+            LiveStop::Ended => write!(f, "the file of --stop is there: nothing begins"),
             LiveStop::Start(fault) => write!(f, "{fault}"),
         }
     }

@@ -1,6 +1,6 @@
 //! What ends a building.
 
-ghost use Rattle.std.specs.Prelude.{◌≡◌};
+ghost use Rattle.std.specs.Prelude.{◌≡◌, IsSome, IsTrue};
 
 use liveline::StopCondition;
 use plantlive::{Gate, Happened};
@@ -99,12 +99,19 @@ pub struct StopAt<'r, R> {
     pub watch: Arc<DownWatch>,
 }
 
+/// Whether there is a file at this path, if there is a path.
+pub(crate) fn is_there<R: Files>(rt: &R, path: Option<&str>) -> bool
+    ensures { IsTrue result → IsSome path }
+{
+    match path {
+        Some(path) => fs::exists(rt, path).unwrap_or(false),
+        None => false,
+    }
+}
+
 impl<R: Files> StopCondition for StopAt<'_, R> {
     fn is_wanted(&self) -> bool {
-        match &self.path {
-            Some(path) if fs::exists(self.rt, path.as_str()).unwrap_or(false) => true,
-            _ => self.watch.is_over(),
-        }
+        is_there(self.rt, self.path.as_deref()) || self.watch.is_over()
     }
 
     fn note_end(&self) {

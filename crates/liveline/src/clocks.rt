@@ -58,8 +58,8 @@ impl<T: Timer, S: StopCondition> Model for LiveClock<T, S> {
 }
 
 impl<T: Timer + Drop, S: StopCondition> LiveClock<T, S> {
-    /// A clock at which it is `begins` now. It gives a moment in each period, the first at once,
-    /// and none after `until`.
+    /// A clock at which it is `begins` now, which is the first moment that it gives, at once. It
+    /// gives one more in each period, and none after `until`.
     ///
     /// # Errors
     ///
@@ -106,20 +106,30 @@ impl<T: Timer + Drop, S: StopCondition> LiveClock<T, S> {
         self.begins.checked_add(passed)
     }
 
-    /// Sleeps until the next moment, but not before the first, and gives it. There is none once the
-    /// end has come. Periods that passed meanwhile have no moment.
+    /// What the clock says: at its first call the moment at which it begins, whatever became of the
+    /// timer since. Before each later one it sleeps until the next period, and there is none once
+    /// the end is wanted.
+    fn read(&self) -> Option<u64>
+        ensures { IfSome result (λ moment. self.now.begins ≤ moment) }
+    {
+        if self.asks <= 1 {
+            return Some(self.begins);
+        }
+        let before = self.moment()?;
+        sleep_until(&self.timer, before, next_period(self.latest, self.period));
+        if self.stop.is_wanted() {
+            return None;
+        }
+        self.moment()
+    }
+
+    /// The next moment. There is none once the end has come. Periods that passed meanwhile have no
+    /// moment.
     fn wait(&self) -> Option<u64>
         ensures { IfSome result (λ moment. IsNotBefore moment self.now.log
             × (self.now.begins ≤ moment) × (moment ≤ self.now.until)) }
     {
-        let before = self.moment()?;
-        if self.asks > 1 {
-            sleep_until(&self.timer, before, next_period(self.latest, self.period));
-        }
-        if self.stop.is_wanted() {
-            return None;
-        }
-        let moment = self.moment()?.max(self.latest);
+        let moment = self.read()?.max(self.latest);
         if moment > self.until {
             return None;
         }

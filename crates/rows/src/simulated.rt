@@ -18,7 +18,8 @@ use std::sync::Arc;
 /// The site of a row. A line whose path ends with `.scenario` is the simulated bus of that
 /// scenario, a file of the row, and all that comes on it has come. Any other line gives the answers
 /// of the file of the row at the path that is read; where the row has none it is not there. The
-/// clock is that of the host. What is written beside a building goes to the row's disk.
+/// clock is that of the host, which has no moment but the first where the file that ends it is
+/// named `once`. What is written beside a building goes to the row's disk.
 #[derive(Clone, Copy)]
 pub struct RowsSite<'a, S> {
     pub host: &'a S,
@@ -70,7 +71,13 @@ impl<'r, S: Site> Site for RowsSite<'r, S> {
         begins: u64,
         end: End<'a>,
     ) -> Result<Self::Clock, SiteFault> {
-        self.host.clock(alloc, period, begins, end)
+        let End { until, stop, watch } = end;
+        let (period, until) = match stop {
+            Some("once") => (NonZeroU64::MIN, begins),
+            _ => (period, until),
+        };
+        self.host
+            .clock(alloc, period, begins, End { until, stop, watch })
     }
 }
 
