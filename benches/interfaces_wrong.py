@@ -1,4 +1,4 @@
-"""Interfaces with a mistake each, on which benches/interfaces tries examples/interfaces/check.py."""
+"""Interfaces with a mistake each, on which benches/interfaces tries programs/check.py."""
 
 from __future__ import annotations
 
@@ -9,12 +9,11 @@ import time
 from typing import Callable, Dict, Optional, Tuple
 
 HERE = os.path.dirname(os.path.dirname(os.path.abspath(__file__)))
-INTERFACES = f"{HERE}/examples/interfaces"
-sys.path.insert(0, INTERFACES)
+sys.path[:0] = [f"{HERE}/programs", f"{HERE}/examples/interfaces"]
 sys.dont_write_bytecode = True
-from ends import End  # noqa: E402
+from gushewa_line.ends import End  # noqa: E402
+from gushewa_line.line import QUIET, Bus, Events, Interface, answer_to  # noqa: E402
 from hardware import Adapter  # noqa: E402
-from line import QUIET, Bus, Events, Interface, answer_to  # noqa: E402
 
 # An adapter that is none, for the skeleton.
 

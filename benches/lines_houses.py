@@ -6,9 +6,9 @@ import sys
 import time
 
 HERE = os.path.dirname(os.path.dirname(os.path.abspath(__file__)))
-sys.path.insert(0, f"{HERE}/examples/interfaces")
+sys.path.insert(0, f"{HERE}/programs")
 sys.dont_write_bytecode = True
-import line  # noqa: E402
+from gushewa_line import line  # noqa: E402
 from lines_texts import PRESS  # noqa: E402
 
 

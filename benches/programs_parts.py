@@ -13,10 +13,16 @@ import time
 from typing import Any, Callable, Iterator, List, Optional
 
 HERE = pathlib.Path(__file__).resolve().parent.parent
-INTERFACES = HERE / "examples/interfaces"
+PROGRAMS, INTERFACES = HERE / "programs", HERE / "examples/interfaces"
 PROGRAM = HERE / "crates/dalictl/out/dalictl"
-sys.path.insert(0, str(INTERFACES))
+sys.path[:0] = [str(PROGRAMS), str(INTERFACES)]
 sys.dont_write_bytecode = True
+
+
+def path_of(name: str) -> pathlib.Path:
+    """A program of programs, or else an example of examples/interfaces."""
+    own = PROGRAMS / name
+    return own if own.exists() else INTERFACES / name
 
 
 class Bench:
@@ -41,9 +47,9 @@ class Bench:
         return process
 
     def interface(self, link: pathlib.Path, *words: Any, **options: Any) -> subprocess.Popen[str]:
-        """A program of examples/interfaces behind a pseudo terminal, once that is there."""
+        """A program behind a pseudo terminal, or the simulated bus, once that is there."""
         link.unlink(missing_ok=True)
-        process = self.start(INTERFACES / words[0], "--pty", link, *words[1:], **options)
+        process = self.start(path_of(words[0]), "--pty", link, *words[1:], **options)
         self.hold(wait_for(link.exists), f"{words[0]} makes no line")
         return process
 

@@ -19,7 +19,7 @@ import time
 from typing import Callable, Dict, Optional, Sequence, Set
 
 from addresses import MASK, YES, Addresses
-from line import DAMAGED, QUIET, answer
+from gushewa_line.line import DAMAGED, QUIET, answer
 
 TWICE = range(0x20, 0x82)
 GO_TO_SCENE, SET_SCENE, REMOVE_FROM_SCENE, QUERY_SCENE_LEVEL = 0x10, 0x40, 0x50, 0xB0

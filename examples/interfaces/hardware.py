@@ -15,17 +15,20 @@ What the controller leaves to the interface (docs/LINES.md, 'What an interface k
   - whether a frame met a collision
   - that its own frames are not among those that it hears
 
-`line.py` keeps the other duties. Once the bodies of `Adapter` are there, `check.py LINK` tries what
+`gushewa_line` (programs/gushewa_line) keeps the other duties. Once the bodies of `Adapter` are there, `check.py LINK` tries what
 can be seen of them over the line.
 """
 
 from __future__ import annotations
 
+import os
 import sys
 from typing import Callable, Union
 
-from ends import PtyEnd
-from line import DAMAGED, LOST, QUIET, Events, Fault, answer, serve
+HERE = os.path.dirname(os.path.realpath(__file__))
+sys.path.insert(1, os.path.join(HERE, "../../programs"))  # the library of the line, gushewa_line
+from gushewa_line.ends import PtyEnd  # noqa: E402
+from gushewa_line.line import DAMAGED, LOST, QUIET, Events, Fault, answer, serve  # noqa: E402
 
 
 class Adapter:

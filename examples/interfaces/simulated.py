@@ -41,14 +41,18 @@ may stand again, for another request:
 from __future__ import annotations
 
 import argparse
+import os
+import sys
 import time
 from typing import Callable, List, Optional, Sequence, TextIO
 
-from addresses import random_addresses
-from ends import FifoEnd, PtyEnd
-from gear import AllGear, Gear
-from line import QUIET, Events, note_nothing
-from trouble import TroubledInterface, add_words, plan_of
+HERE = os.path.dirname(os.path.realpath(__file__))
+sys.path.insert(1, os.path.join(HERE, "../../programs"))  # the library of the line, gushewa_line
+from addresses import random_addresses  # noqa: E402
+from gear import AllGear, Gear  # noqa: E402
+from gushewa_line.ends import FifoEnd, PtyEnd  # noqa: E402
+from gushewa_line.line import QUIET, Events, note_nothing  # noqa: E402
+from trouble import TroubledInterface, add_words, plan_of  # noqa: E402
 
 # Seconds: a frame with its stop condition; a backward frame with the wait for it; that wait.
 FRAME_TIMES = {16: 0.0165, 24: 0.0231}

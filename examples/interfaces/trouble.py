@@ -13,8 +13,8 @@ import select
 import time
 from typing import Callable, Dict, List, Optional
 
-from ends import End, PtyEnd
-from line import (
+from gushewa_line.ends import End, PtyEnd
+from gushewa_line.line import (
     FAULT,
     Bus,
     Interface,

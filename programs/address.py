@@ -32,7 +32,7 @@ import argparse
 import sys
 from typing import List
 
-from controller import Controller, LineFailed
+from gushewa_line.controller import Controller, LineFailed
 from searching import ADDRESSES, MASK, QUERY_PRESENT, QUIET, YES, Gone, Refused, Search, Wire
 
 NOT_PROVED = "address.py is not proved, and was tried on simulated gear alone: look at what it did"

@@ -41,9 +41,9 @@ from typing import Any, Dict, List, Tuple
 
 import paho.mqtt.client as paho
 
-from ends import FifoEnd, PtyEnd
-from gateway import Gateway, device_event, name_of
-from line import serve
+from gushewa_line.ends import FifoEnd, PtyEnd
+from gushewa_line.gateway import Gateway, device_event, name_of
+from gushewa_line.line import serve
 
 WISH, ON_AT_ANY_LEVEL, SHORT_PRESS = 31, 255, 2
 MOST_BYTES = 256  # of a message that comes in

@@ -18,7 +18,7 @@ import sys
 import time
 from typing import Callable, List, Sequence, Tuple
 
-from ask import SILENT_SECONDS, Ended, Line, answer_to
+from gushewa_line.controller import SILENT_SECONDS, Ended, Line, answer_to
 
 QUERY_GEAR = "send 4 7F91"
 QUERY_GEAR_AGAIN = "send 1 7F91"

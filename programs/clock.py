@@ -38,9 +38,9 @@ import time
 import zoneinfo
 from typing import Callable, Dict, Iterator, List, Optional, Tuple
 
-from ends import FifoEnd, PtyEnd
-from gateway import device_event
-from line import QUIET, Events, serve
+from gushewa_line.ends import FifoEnd, PtyEnd
+from gushewa_line.gateway import device_event
+from gushewa_line.line import QUIET, Events, serve
 from sun import Sun
 from week import BadLine, Table, read_table
 

@@ -14,7 +14,7 @@ from __future__ import annotations
 import threading
 from typing import Callable, Dict, Optional
 
-from line import QUIET, Events, answer
+from gushewa_line.line import QUIET, Events, answer
 
 OFF, RECALL_MAX_LEVEL, RECALL_MIN_LEVEL = 0x00, 0x05, 0x06
 QUERY_STATUS, QUERY_CONTROL_GEAR_PRESENT, QUERY_ACTUAL_LEVEL = 0x90, 0x91, 0xA0

@@ -31,9 +31,9 @@ import re
 import sys
 import threading
 
-from ends import FifoEnd, PtyEnd
-from gateway import Gateway, device_event, name_of
-from line import Fault, serve
+from gushewa_line.ends import FifoEnd, PtyEnd
+from gushewa_line.gateway import Gateway, device_event, name_of
+from gushewa_line.line import Fault, serve
 
 EVENT = re.compile(r"event ([0-9]{1,2}) ([0-9]{1,2}) ([0-9]{1,4})")
 

@@ -2,8 +2,8 @@
 
 An interface is a bus behind an end of a line:
 
-    from ends import PtyEnd
-    from line import serve
+    from gushewa_line.ends import PtyEnd
+    from gushewa_line.line import serve
     serve(MyBus(), PtyEnd('/run/dali0'))
 
 A bus is a class with the three methods of `Bus`. Each of them may raise `Fault`; the controller
@@ -17,7 +17,7 @@ import re
 import threading
 from typing import Callable, Optional, Protocol
 
-from ends import End
+from gushewa_line.ends import End
 
 FIRST_GREETING = "gushewa 1"
 GREETING = re.compile(r"gushewa 2 ([0-9]{1,20})\Z")

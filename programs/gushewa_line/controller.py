@@ -1,24 +1,25 @@
-#!/usr/bin/env python3
-"""Asks an interface by hand, as the controller does, and prints what is asked and what is answered.
+"""The controller's side of a line (docs/LINES.md), for tools and benches.
 
-  ask.py PATH REQUEST ..           PATH is a serial device or a pseudo terminal
-  ask.py SOURCE,SINK REQUEST ..    or two FIFOs
+    controller = Controller('/dev/ttyUSB0')     # or 'FROM,TO', two FIFOs
+    controller.open()
+    controller.send(0x0A80)                     # 'quiet', 'answer 5', 'damaged' or 'lost'
+    controller.hear()                           # a 24-bit frame, or None
 
-It greets first, and passes over what is not the answer to this greeting. So
-`ask.py /run/dali0 'send 4 0A80' 'send 5 0BA0' hear` sets gear 5 to level 128, asks its level, and
-hears.
+It sets nothing of a serial device: docs/LIVE.md, 'A serial device', has the command that does.
 """
 
 from __future__ import annotations
 
 import os
+import re
 import select
-import sys
 import time
 from typing import Optional
 
 MOST_PASSED_OVER = 64
 SILENT_SECONDS = 0.3
+BACKWARD = re.compile(r"quiet|damaged|lost|answer ([0-9]|[1-9][0-9]|1[0-9]{2}|2[0-4][0-9]|25[0-5])")
+EVENT = re.compile(r"event ([0-9A-Fa-f]{6})")
 
 
 class Ended(Exception):
@@ -89,20 +90,58 @@ def answer_to(greeting: str) -> str:
     return greeting.replace("gushewa 2", "gushewa 2 hears")
 
 
-def main() -> None:
-    if len(sys.argv) < 2:
-        sys.exit(__doc__)
-    try:
-        line = Line(sys.argv[1])
-        greeted = line.greet()
+class LineFailed(Exception):
+    """Nobody greets on the line, or what came is no answer. It has to be opened anew."""
+
+
+class Controller:
+    """A line, which is open or not."""
+
+    def __init__(self, path: str, seconds: float = 5.0) -> None:
+        self.path, self.seconds = path, seconds
+        self.line: Optional[Line] = None
+
+    def open(self) -> None:
+        """Opens the line, and greets."""
+        self.close()
+        try:
+            self.line = Line(self.path)
+            greeted = self.line.greet(seconds=self.seconds)
+        except OSError as error:
+            raise LineFailed(f"cannot open {self.path}: {error.strerror}") from None
+        except Ended:
+            raise LineFailed("the line ended") from None
         if greeted is None:
-            sys.exit("the interface does not answer the greeting")
-        print(f'{"greeting":13}  {greeted}', flush=True)
-        for request in sys.argv[2:]:
-            print(f'{request:13}  {line.ask(request) or "no answer"}', flush=True)
-    except Ended:
-        sys.exit("the interface ended")
+            raise LineFailed(f"nobody greets on {self.path}")
 
+    def close(self) -> None:
+        if self.line:
+            self.line.close()
+        self.line = None
 
-if __name__ == "__main__":
-    main()
+    def ask(self, request: str) -> str:
+        """The line that answers a request."""
+        if not self.line:
+            raise LineFailed(f"{self.path} is not open")
+        try:
+            came = self.line.ask(request, self.seconds)
+        except (OSError, Ended):
+            raise LineFailed("the line ended") from None
+        if came is None:
+            raise LineFailed(f"silent for {self.seconds:g} seconds")
+        return came
+
+    def send(self, frame: int, bits: int = 16, priority: int = 3) -> str:
+        """Sends a frame. Returns what came of it."""
+        came = self.ask(f"send {priority} {frame:0{bits // 4}X}")
+        if not BACKWARD.fullmatch(came):
+            raise LineFailed(f"the interface says {came!r}")
+        return came
+
+    def hear(self) -> Optional[int]:
+        """The oldest event that waits, or None."""
+        came = self.ask("hear")
+        event = EVENT.fullmatch(came)
+        if not event and came != "none":
+            raise LineFailed(f"the interface says {came!r}")
+        return int(event[1], 16) if event else None

@@ -10,7 +10,7 @@ from __future__ import annotations
 import time
 from typing import Callable, List, Optional, Sequence
 
-from controller import Controller, LineFailed
+from gushewa_line.controller import Controller, LineFailed
 
 TERMINATE, DTR0, INITIALISE, RANDOMISE = 0xA1, 0xA3, 0xA5, 0xA7
 COMPARE, WITHDRAW, PROGRAM, VERIFY = 0xA9, 0xAB, 0xB7, 0xB9
