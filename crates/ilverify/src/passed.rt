@@ -3,8 +3,8 @@
 ghost use Rattle.std.specs.Prelude.{IfOk};
 ghost use Rattle.ilverify.specs.Passes.{IsPassed};
 
+use crate::known_before::Pass;
 use crate::pass::advance;
-use crate::passing::Pass;
 use crate::refusal::Refusal;
 use std::alloc::AllocError;
 

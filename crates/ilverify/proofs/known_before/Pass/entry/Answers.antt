@@ -2,7 +2,7 @@ use Rattle.std.proofs.Common.{◌≡◌, Option, subst}
 use Rattle.ilverify.specs.declared.entry.Entry.{Entry}
 use Rattle.ilverify.specs.BeforeWords.{BeforeWord, IsKnownBefore}
 use Rattle.ilverify.proofs.Passings.{found_once}
-use Rattle.ilverify.proofs.passing.Pass.entry.Goals as goal
+use Rattle.ilverify.proofs.known_before.Pass.entry.Goals as goal
 
 -- no other entry is known before the word
 abbrev IsAlone : BeforeWord → Type 0
