@@ -12,7 +12,7 @@ use Rattle.iltext.specs.Faults.{is_deferrable, defers, open_after_all}
 use Rattle.iltext.specs.Nested.{IsOpen}
 use Rattle.iltext.proofs.Counts.{Opens, opened_after}
 use Rattle.iltext.proofs.Tame.{Any, Level, Opened}
-use Rattle.iltext.proofs.Instructions.{Tame-content}
+use Rattle.iltext.proofs.InstructionCounts.{Tame-content}
 
 -- where tokens end inside a parenthesis, the count goes on behind it with one more
 pub opened_count : (M : ℕ → Type 0) (more : ℕ) (part : List Token → Type 0) (ts : List Token)

@@ -18,7 +18,7 @@ use Rattle.iltext.proofs.Counts.{AreInner, counted-append, delimiter_nests, ends
 use Rattle.iltext.proofs.Counts.{inner_last}
 use Rattle.iltext.proofs.Counts.{MayNest, Opens}
 use Rattle.iltext.proofs.Tame.{Any, Level, Opened}
-use Rattle.iltext.proofs.Instructions.{Tame-content}
+use Rattle.iltext.proofs.InstructionCounts.{Tame-content}
 use Rattle.iltext.proofs.Depths.{counted_as}
 use Rattle.iltext.proofs.Texts.{count_is, has_depth}
 

@@ -19,7 +19,7 @@ mod FunctionTokens
 mod GlobalLaws
 mod Inner
 mod InstructionLaws
-mod Instructions
+mod InstructionCounts
 mod InvocationLaws
 mod Laws
 mod LineEnds

@@ -18,7 +18,7 @@ use Rattle.iltext.proofs.Tame.{Tame-select, Tame-many}
 use Rattle.iltext.proofs.Tokens.{Holds-map, Holds-seq, Holds-lead, Holds-many}
 use Rattle.iltext.proofs.Inner.{Quiet-line_ends, Quiet-invoked, Quiet-invocation}
 use Rattle.iltext.proofs.Operators.{Tame-quiet}
-use Rattle.iltext.proofs.Instructions.{Tame-head, Tame-ended, Tame-content, After-operands, applies, reads_outer}
+use Rattle.iltext.proofs.InstructionCounts.{Tame-head, Tame-ended, Tame-content, After-operands, applies, reads_outer}
 use Rattle.iltext.proofs.Free.{Free, Free-delimiter, Free-name, Free-call, Tame-free, After-free, free_quiet}
 use Rattle.iltext.proofs.Declared.{spaced_word, spaced_name, Free-type_declaration, Free-variables, Free-configuration}
 use Rattle.iltext.proofs.FunctionTokens.{Free-head, Free-var_input, Free-own_variables}
