@@ -18,8 +18,8 @@ mod FunctionParts
 mod FunctionTokens
 mod GlobalLaws
 mod Inner
-mod InstructionLaws
 mod InstructionCounts
+mod InstructionLaws
 mod InvocationLaws
 mod Laws
 mod LineEnds

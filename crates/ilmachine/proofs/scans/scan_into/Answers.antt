@@ -1,7 +1,7 @@
 use Rattle.std.proofs.Common.{subst, ap, ◌∙◌}
 use Rattle.ilverify.specs.Verdicts.{Accepted}
 use Rattle.ilmachine.specs.Scans.{IsScan, Task, store_of}
-use Rattle.ilmachine.proofs.Prepared.{made_scan}
+use Rattle.ilmachine.proofs.ScanStores.{made_scan}
 use Rattle.ilmachine.proofs.scans.scan_into.Goals as goal
 
 pub invariant_of-result : goal.invariant_of-result

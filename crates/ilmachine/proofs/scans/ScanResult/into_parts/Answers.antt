@@ -1,6 +1,6 @@
 use Rattle.std.proofs.Common.{ap}
 use Rattle.ilmachine.specs.Scans.{Scan, store_of}
-use Rattle.ilmachine.proofs.Prepared.{parts_lasting}
+use Rattle.ilmachine.proofs.ScanStores.{parts_lasting}
 use Rattle.ilmachine.proofs.scans.ScanResult.into_parts.Goals as goal
 
 pub returns-clause-in_types : goal.returns-clause-in_types

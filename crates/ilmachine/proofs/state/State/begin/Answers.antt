@@ -4,7 +4,7 @@ use Rattle.ilcode.specs.Listings.{Listing}
 use Rattle.ilverify.specs.Verdicts.{Accepted}
 use Rattle.ilmachine.specs.MachineSteps.{IsPrepared}
 use Rattle.ilcode.specs.Lasting.{least_values}
-use Rattle.ilmachine.proofs.Prepared.{prepared_whole}
+use Rattle.ilmachine.proofs.ScanStores.{prepared_whole}
 use Rattle.ilmachine.proofs.state.State.begin.Goals as goal
 
 pub returns : goal.returns
