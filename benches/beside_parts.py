@@ -1,5 +1,5 @@
-"""What benches/beside and benches/kept are made of: the simulated interface in a process of its own, and a bench that runs the
-program, compares and counts what is otherwise."""
+"""What benches/beside, benches/files and benches/kept are made of: the simulated interface in a process of its own, and a
+bench that runs the program, compares and counts what is otherwise."""
 import os, subprocess, time
 
 HERE = os.path.dirname(os.path.dirname(os.path.abspath(__file__)))

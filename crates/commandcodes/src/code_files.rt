@@ -9,7 +9,10 @@ ghost use Rattle.commandcodes.specs.CodeFiles.{IsCodeJudged, IsCodeServed, IsCod
 ghost use Rattle.commandcodes.specs.CodeFiles.{IsCodeUnserved, IsUnjudged};
 ghost use Rattle.commandfiles.specs.Reports.{ended, stop_text};
 
-use commandfiles::{Disk, ExitStatus, Unserved, bytes_at, named_at, print_answer, write_at};
+use commandfiles::{
+    Disk, ExitStatus, FileKind, ReadFiles, Unserved, bytes_at, named_at, print_answer, tell_hint,
+    write_at,
+};
 use inquiries::{Answer, CodeAnswer, Stop, binding_of, code_of, judge};
 use options::Files;
 use std::alloc::Global;
@@ -18,8 +21,8 @@ use std::io::{BufWriter, Write};
 
 /// Reads the files that are named, the binding before the text, and writes the code file of the
 /// task of this name, or without a name of the only one, to a path, or prints what stands against
-/// that; the writer, which then has that line, and how the program ends. `complaints` gets the line
-/// of a task that is not there.
+/// that; the writer, which then has that line, and how the program ends. `complaints` gets which
+/// tasks there are, where one is not, or which file has the fault.
 ///
 /// # Errors
 ///
@@ -43,10 +46,13 @@ pub fn serve_code<'a, D: Disk, W: Write + Drop, E: Write>(
     let text = bytes_at(alloc, disk, files.text)?;
     match code_under(alloc, binding.as_deref(), &text, task) {
         Ok(code) => {
-            write_at(disk, to, &code)?;
+            write_at(alloc, disk, to, &code)?;
             Ok((out, ExitStatus::Accepted))
         }
-        Err(stop) => Ok(print_stop(alloc, out, complaints, stop)?),
+        Err(stop) => {
+            let read = ReadFiles::of_text(files, binding.as_deref(), &text);
+            Ok(print_stop(alloc, out, complaints, stop, read)?)
+        }
     }
 }
 
@@ -70,18 +76,22 @@ fn code_under(
     code_of(alloc, &binding, text, task)
 }
 
-/// Prints the line of what stands against writing a code file.
+/// Prints the line of what stands against writing a code file of the text that was read.
 fn print_stop<W: Write + Drop, E: Write>(
     alloc: Global,
     to: W,
     complaints: &mut E,
     stop: Stop,
+    read: ReadFiles,
 ) -> io::Result<(W, ExitStatus)>
     ensures line { IfOk result (λ done. Appends (W.contents to) (W.contents done.0)
         (stop_text stop)) }
     ensures status { IfOk result (λ done. done.1 ≡ status_of_stop stop) }
 {
-    print_answer(alloc, to, complaints, &Answer::Stopped(stop))
+    let place = FileKind::of_stop(&stop);
+    let done = print_answer(alloc, to, complaints, &Answer::Stopped(stop))?;
+    tell_hint(alloc, complaints, read, place);
+    Ok(done)
 }
 
 /// Reads the file at a path, and prints whether it is a code file whose code is accepted; the

@@ -1,7 +1,9 @@
 //! Frames in words, and the line of a scenario for an event.
 
 use crate::decoding::{STANDARD_INPUT, serve_log};
-use commandfiles::{Disk, ExitStatus, Unserved, add_texts, bytes_at};
+use commandfiles::{
+    Disk, ExitStatus, FileKind, ReadFiles, Unserved, add_texts, bytes_at, tell_hint,
+};
 use commandline::GivenFrames;
 use daliframe::{Frame, Frame16, Frame24};
 use daliwords::{FrameWords, frame_of_event};
@@ -132,6 +134,8 @@ pub fn serve_event<'a, D: Disk, W: Write + Drop, E: Write>(
         }
         Err(refusal) => {
             let _told = refusal.page(alloc).write_to(complaints);
+            let read = ReadFiles::of_binding(binding, &bytes);
+            tell_hint(alloc, complaints, read, refusal.place());
             Ok((to, refusal.status()))
         }
     }
@@ -180,6 +184,14 @@ impl EventRefusal<'_> {
             EventRefusal::Binding(stop) => ExitStatus::of_stop(stop),
             EventRefusal::NoPlace(_) => ExitStatus::Misused,
             EventRefusal::Unbound(..) | EventRefusal::TooMuch(_) => ExitStatus::Refused,
+        }
+    }
+
+    /// What the file is that has the fault, where one has.
+    fn place(&self) -> Option<FileKind> {
+        match self {
+            EventRefusal::Binding(stop) => FileKind::of_stop(stop),
+            EventRefusal::NoPlace(_) | EventRefusal::Unbound(..) | EventRefusal::TooMuch(_) => None,
         }
     }
 }

@@ -1,5 +1,5 @@
 -- The lines that an answer is printed as, one after another (profile).
-use Rattle.std.specs.Prelude.{◌≡◌, ℕ, zero, suc, List, [], ◌∷◌, ◌++◌, length, Option, Some, slice_get}
+use Rattle.std.specs.Prelude.{◌≡◌, ℕ, zero, suc, List, [], ◌∷◌, ◌++◌, codes, length, Option, Some, None, slice_get}
 use Rattle.std.specs.List.{flat_map}
 use Rattle.std.specs.Option.{option_map_or}
 use Rattle.std.specs.Io.KnownBytes.{Appends}
@@ -81,10 +81,15 @@ variable_line made number =
     (slot_at made.setup.plan made.task number)
     (slice_get made.left.slots number)
 
--- the line of what stands against a text; that a task is not there is said on standard error, of which nothing is said
--- here
+-- the line of a task that is not there; where no task was named, that is said on standard error alone, of which
+-- nothing is said here
+abbrev pub unknown_task_text : Option (List ℕ) → List ℕ
+unknown_task_text (Some name) = ended (codes "no task " ++ name)
+unknown_task_text None = []
+
+-- the line of what stands against a text
 abbrev pub stop_text : Stop → List ℕ
-stop_text (NoTask asked) = []
+stop_text (NoTask asked) = unknown_task_text asked
 stop_text Memory = ended (printed_stop Memory)
 stop_text (Binding fault) = ended (printed_stop (Binding fault))
 stop_text (Load fault) = ended (printed_stop (Load fault))

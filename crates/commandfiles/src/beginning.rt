@@ -120,6 +120,10 @@ pub fn kept_at<'a, D: Disk>(
             path,
             why: DiskFault::Denied,
         }),
+        Err(DiskFault::Folder) => Err(Unserved::NotRead {
+            path,
+            why: DiskFault::Folder,
+        }),
         Err(DiskFault::Failed) => Err(Unserved::NotRead {
             path,
             why: DiskFault::Failed,

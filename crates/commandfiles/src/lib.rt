@@ -4,7 +4,8 @@
 //! What crosses the boundary: paths go in, and the bytes that a [`Disk`] gives for them come out,
 //! or an [`Unserved`], the first file that is not read or written. [`HostDisk`] is the machine's.
 //! [`serve`] reads the files of an inquiry, has `inquiries` answer what they hold, and prints the
-//! answer by [`print_answer`]. [`setup_of`] gives the setup of a text under a binding, and
+//! answer by [`print_answer`]; [`tell_hint`] says behind a fault which of the [`ReadFiles`] it is in,
+//! of the bytes that were read. [`setup_of`] gives the setup of a text under a binding, and
 //! [`beginning_of`] the [`Beginning`] with the values of a file of kept ones, with a [`KeptNote`]
 //! on what became of that. The definitions to read first are `IsServed` (specs/Served.antt), with
 //! the lines of an answer (specs/Reports.antt), and `HasBegun` (specs/Beginnings.antt). No contract
@@ -16,6 +17,7 @@
 #![tactic(auto)]
 
 mod beginning;
+mod hints;
 mod reading;
 mod report;
 mod serving;
@@ -23,6 +25,7 @@ mod texts;
 
 pub use beginning::{Beginning, KeptNote, beginning_of, kept_at, setup_of};
 pub use exitstatus::{ExitStatus, PlayStop};
+pub use hints::{FileKind, Hint, ReadFile, ReadFiles, hint_of, misplaced_text, tell_hint};
 pub use inquiries::{Stop, UnknownTask, binding_of, check, task_line};
 pub use reading::{Disk, DiskFault, HostDisk, reason};
 pub use report::print_answer;

@@ -5,7 +5,8 @@ ghost use Rattle.std.specs.Io.KnownBytes.{Appends};
 ghost use Rattle.limits.specs.Limits.{most_bytes};
 
 use std::alloc::Global;
-use std::fs::File;
+use std::fs::{File, OpenFile, OpenOptions};
+use std::io;
 use std::io::{ErrorKind, Read, Write};
 use std::rt::Files;
 
@@ -24,6 +25,8 @@ pub enum DiskFault {
     Absent,
     /// Nobody gave the right to.
     Denied,
+    /// It is a folder.
+    Folder,
     Failed,
 }
 
@@ -50,7 +53,7 @@ pub trait Disk {
             (fails self.now path.now) };
 
     /// Writes the file at `path`, in place of one that is there.
-    fn write(&self, path: &str, bytes: &[u8]) -> Result<(), DiskFault>
+    fn write(&self, alloc: Global, path: &str, bytes: &[u8]) -> Result<(), DiskFault>
         ensures { MatchResult result (λ _. takes self.now path.now bytes.now)
             (refuses self.now path.now) };
 }
@@ -82,12 +85,72 @@ impl<R: Files> Disk for HostDisk<'_, R> {
         }
     }
 
-    fn write(&self, path: &str, bytes: &[u8]) -> Result<(), DiskFault> {
-        match File::create(self.rt, path) {
-            Ok(mut file) => write_bytes(&mut file, bytes),
-            Err(error) => Err(reason(error.kind())),
+    /// Writes the file as FILE.new, which becomes FILE, so that what was there stays where it cannot
+    /// be written. A device is written itself.
+    fn write(&self, alloc: Global, path: &str, bytes: &[u8]) -> Result<(), DiskFault> {
+        if is_device(self.rt, path) {
+            return write_to(self.rt, path, bytes);
+        }
+        let Ok(beside) = format!(in alloc; "{path}.new") else {
+            return Err(DiskFault::Memory);
+        };
+        match move_in(self.rt, &beside, path, bytes) {
+            Ok(()) => Ok(()),
+            Err(error) => {
+                let _removed = self.rt.remove_file(&beside);
+                Err(reason(error.kind()))
+            }
         }
     }
+}
+
+/// Whether something is at a path that is no regular file.
+fn is_device<R: Files>(rt: &R, path: &str) -> bool {
+    match rt.metadata(path) {
+        Ok(there) => !there.is_file(),
+        Err(_) => false,
+    }
+}
+
+/// Writes what is at a path itself.
+///
+/// # Errors
+///
+/// Why it is not written.
+fn write_to<R: Files>(rt: &R, path: &str, bytes: &[u8]) -> Result<(), DiskFault> {
+    match File::create(rt, path) {
+        Ok(mut file) => write_bytes(&mut file, bytes),
+        Err(error) => Err(reason(error.kind())),
+    }
+}
+
+/// Writes a file beside the one at a path, and gives it that one's path.
+///
+/// # Errors
+///
+/// It cannot be written or renamed. What was at the path stays.
+fn move_in<R: Files>(rt: &R, beside: &str, path: &str, bytes: &[u8]) -> io::Result<()> {
+    let mut file = made_anew(rt, beside)?;
+    file.write_all(bytes)?;
+    file.sync_all()?;
+    rt.rename(beside, path)
+}
+
+/// A new file at this path, in place of one that is there. What a link there leads to stays as it
+/// is.
+///
+/// # Errors
+///
+/// It cannot be made.
+fn made_anew<R: Files>(rt: &R, path: &str) -> io::Result<R::File> {
+    match rt.remove_file(path) {
+        Err(error) if error.kind() != ErrorKind::NotFound => return Err(error),
+        _ => {}
+    }
+    OpenOptions::new()
+        .write(true)
+        .create_new(true)
+        .open(rt, path)
 }
 
 /// The first bytes that a reader gives, at most one more than the greatest number.
@@ -117,11 +180,13 @@ pub fn reason(kind: ErrorKind) -> DiskFault
     ensures memory { (result ≡ DiskFault.Memory) ↔ (kind ≡ ErrorKind.OutOfMemory) }
     ensures absent { (result ≡ DiskFault.Absent) ↔ (kind ≡ ErrorKind.NotFound) }
     ensures denied { (result ≡ DiskFault.Denied) ↔ (kind ≡ ErrorKind.PermissionDenied) }
+    ensures folder { (result ≡ DiskFault.Folder) ↔ (kind ≡ ErrorKind.IsADirectory) }
 {
     match kind {
         ErrorKind::OutOfMemory => DiskFault::Memory,
         ErrorKind::NotFound => DiskFault::Absent,
         ErrorKind::PermissionDenied => DiskFault::Denied,
+        ErrorKind::IsADirectory => DiskFault::Folder,
         _ => DiskFault::Failed,
     }
 }

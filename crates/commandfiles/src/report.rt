@@ -4,18 +4,18 @@ ghost use Rattle.std.specs.Prelude.{◌≡◌, ◌<◌, length, IfOk, OnOk};
 ghost use Rattle.std.specs.Io.KnownBytes.{Appends};
 ghost use Rattle.commandfiles.specs.Reports.{first_lines, first_texts, requests_of_scan, status_of};
 ghost use Rattle.commandfiles.specs.Reports.{printed_answer, scan_lines, stop_text, task_line};
-ghost use Rattle.commandfiles.specs.Reports.{variable_line};
+ghost use Rattle.commandfiles.specs.Reports.{unknown_task_text, variable_line};
 
 use exitstatus::ExitStatus;
 use gearcmd::RequestLine;
 use ilcompile::Setup;
-use inquiries::{Answer, Stepped, Stop, task_line};
+use inquiries::{Answer, Stepped, Stop, UnknownTask, task_line};
 use std::alloc::Global;
 use std::io;
 use std::io::{BufWriter, Write};
 
 /// Prints the answer through a buffer, of which nothing is left behind; the writer, which then has
-/// every line, and how the program ends. `complaints` gets the line of a task that is not there.
+/// every line, and how the program ends. `complaints` gets which tasks there are, where one is not.
 ///
 /// # Errors
 ///
@@ -62,8 +62,8 @@ fn report<W: Write, E: Write>(
     }
 }
 
-/// Writes the line of what stands against a text; that of a task that is not there goes to
-/// `complaints`.
+/// Writes the line of what stands against a text; of a task that is not there `complaints` gets
+/// which there are.
 fn stopped<W: Write, E: Write>(out: &mut W, complaints: &mut E, stop: &Stop) -> io::Result<()>
     ensures { OnOk result
         (Appends (W.contents out.old) (W.contents out.new) (stop_text stop.now)) }
@@ -73,9 +73,21 @@ fn stopped<W: Write, E: Write>(out: &mut W, complaints: &mut E, stop: &Stop) -> 
         Stop::Binding(fault) => writeln!(out, "{fault}"),
         Stop::Load(fault) => writeln!(out, "{fault}"),
         Stop::NoTask(unknown) => {
+            unknown_task(out, unknown)?;
             let _told = writeln!(complaints, "{unknown}");
             Ok(())
         }
+    }
+}
+
+/// The line of a task that is not there, where one was named.
+fn unknown_task<W: Write>(out: &mut W, unknown: &UnknownTask) -> io::Result<()>
+    ensures { OnOk result
+        (Appends (W.contents out.old) (W.contents out.new) (unknown_task_text unknown.now)) }
+{
+    match unknown.name() {
+        Some(name) => writeln!(out, "no task {name}"),
+        None => Ok(()),
     }
 }
 

@@ -5,10 +5,11 @@ ghost use Rattle.std.specs.Option.{option_copied};
 ghost use Rattle.commandfiles.specs.Served.{IsGiven, IsNotRead, IsNotWritten, IsServed};
 ghost use Rattle.commandfiles.specs.Served.{IsUnserved};
 
+use crate::hints::{FileKind, ReadFiles, tell_hint};
 use crate::reading::{Disk, DiskFault};
 use crate::report;
 use exitstatus::ExitStatus;
-use inquiries::respond;
+use inquiries::{Answer, respond};
 use options::Inquiry;
 use std::alloc::Global;
 use std::io;
@@ -37,8 +38,8 @@ impl From<io::Error> for Unserved<'_> {
 }
 
 /// Reads the files that the inquiry names, the binding before the text, and prints the answer;
-/// the writer, which then has every line, and how the program ends. `complaints` gets the line of a
-/// task that is not there.
+/// the writer, which then has every line, and how the program ends. `complaints` gets which tasks
+/// there are, where one is not, or which file has the fault.
 ///
 /// # Errors
 ///
@@ -59,7 +60,18 @@ pub fn serve<'a, D: Disk, W: Write + Drop, E: Write>(
     let binding = named_at(alloc, disk, files.binding)?;
     let text = bytes_at(alloc, disk, files.text)?;
     let answer = respond(alloc, inquiry, binding.as_deref(), &text);
-    Ok(report::print_answer(alloc, to, complaints, &answer)?)
+    let done = report::print_answer(alloc, to, complaints, &answer)?;
+    let read = ReadFiles::of_text(files, binding.as_deref(), &text);
+    tell_hint(alloc, complaints, read, place_of(&answer));
+    Ok(done)
+}
+
+/// What the file is that has the fault which is answered, where one is.
+fn place_of(answer: &Answer) -> Option<FileKind> {
+    match answer {
+        Answer::Stopped(stop) => FileKind::of_stop(stop),
+        Answer::Checked(_) | Answer::Stepped(_) => None,
+    }
 }
 
 /// The bytes that the disk gives for a path, where one is named.
@@ -95,11 +107,16 @@ pub fn bytes_at<'a, D: Disk>(
 }
 
 /// Writes the file at a path.
-pub fn write_at<'a, D: Disk>(disk: &D, path: &'a str, bytes: &[u8]) -> Result<(), Unserved<'a>>
+pub fn write_at<'a, D: Disk>(
+    alloc: Global,
+    disk: &D,
+    path: &'a str,
+    bytes: &[u8],
+) -> Result<(), Unserved<'a>>
     ensures written { OnOk result (D.takes disk.now path.now bytes.now) }
     ensures not_written { IfErr result (IsNotWritten (D.refuses disk.now) path.now) }
 {
-    match disk.write(path, bytes) {
+    match disk.write(alloc, path, bytes) {
         Ok(()) => Ok(()),
         Err(why) => Err(Unserved::NotWritten { path, why }),
     }

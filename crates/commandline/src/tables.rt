@@ -204,7 +204,7 @@ pub(crate) const LIST: Subcommand = Subcommand {
         JSON,
     ],
     end: "A word alone behind TEXT that has a . or a / is BIND, and any other is TASK.{n}{n}\
-          Exit status: 0 accepted, 1 refused, 2 wrong usage or no such task, \
+          Exit status: 0 accepted, 1 refused or no such task, 2 wrong usage, \
           3 a file isn't read.{n}{n}Example: dalictl list hall.il hall.bind push",
 };
 
@@ -220,7 +220,7 @@ pub(crate) const CODE: Subcommand = Subcommand {
         BINDING,
     ],
     end: "A word alone between TEXT and OUT that has a . or a / is BIND, and any other is TASK.\
-          {n}{n}Exit status: 0 written, 1 refused, 2 wrong usage or no such task, \
+          {n}{n}Exit status: 0 written, 1 refused or no such task, 2 wrong usage, \
           3 a file isn't read or written.{n}{n}\
           Example: dalictl code hall.il hall.bind push push.code",
 };
@@ -231,7 +231,7 @@ pub(crate) const STEP: Subcommand = Subcommand {
     usage: "dalictl step [OPTIONS] <TEXT> [BIND] [TASK]",
     words: &[TEXT, BOUND, TASK, BINDING, SCANS, EVERY],
     end: "A word alone behind TEXT that has a . or a / is BIND, and any other is TASK.{n}{n}\
-          Exit status: 0 scanned, 1 refused, 2 wrong usage or no such task, \
+          Exit status: 0 scanned, 1 refused or no such task, 2 wrong usage, \
           3 a file isn't read.{n}{n}Example: dalictl step hall.il hall.bind push --scans 3",
 };
 
@@ -399,7 +399,7 @@ pub(crate) const ASK: Subcommand = Subcommand {
         Word::OptionalNumber("VALUE2", 0, 255, "Its port after that one, 0..255"),
     ],
     end: "Exit status: 0 the line did not fail, 2 wrong usage or no such request, \
-          3 the line failed.{n}{n}Example: dalictl ask --line /dev/ttyUSB0 GEAR_ASK 5 144",
+          3 the line failed.{n}{n}Example: dalictl ask --line /dev/ttyUSB0 query-status 5",
 };
 
 pub(crate) const LIVE: Subcommand = Subcommand {
@@ -475,7 +475,7 @@ const EVENT: Subcommand = Subcommand {
         Word::WantedNumber("INFORMATION", 0, 1023, "The event's information, 0..1023"),
     ],
     end: "Exit status: 0 there is such a source, 1 refused, 2 wrong usage, 3 a file isn't read.\
-          {n}{n}Example: dalictl event hall.bind 0.3 1",
+          {n}{n}Example: dalictl event hall.bind 0.0 2",
 };
 
 /// The commands at the desk: the first of the help. The commands stand in tables of a few each,
@@ -527,8 +527,8 @@ Options:
 
 Exit status:
   0  done
-  1  refused, or not as expected
-  2  wrong usage, or a name that isn't there
+  1  refused, not as expected, or a task that isn't there
+  2  wrong usage, or another name that isn't there
   3  a file isn't read or written, a bus is down, or memory ran out
 
 Each command has its own help, with its words and an example: dalictl COMMAND --help";

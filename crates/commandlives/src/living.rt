@@ -10,10 +10,12 @@ use crate::live_status::status_of_live_stop;
 use crate::lived::LiveLeft;
 use buslink::{Bus, Clock};
 use commandfiles::{
-    Beginning, Disk, ExitStatus, KeptNote, Stop, Unserved, beginning_of, bytes_at, kept_at,
+    Beginning, Disk, ExitStatus, FileKind, KeptNote, ReadFiles, Stop, Unserved, beginning_of,
+    bytes_at, hint_of, kept_at,
 };
 use livehouse::{BuildingObserver, Departure, Gate, LiveStop, OpenGate, Site, Storage, open};
 use options::{LineWord, LiveFiles, LiveOptions};
+use page::Page;
 use plant::StartFault;
 use plantdriving::has_down;
 use plantload::{kept_scans_are_as_meant, scans_are_as_meant};
@@ -82,6 +84,13 @@ pub trait Notice {
     /// It cannot be told.
     fn departs<B: Bus, C: Clock>(&self, departure: &Departure<B, C>) -> io::Result<()>;
 
+    /// This says which file has the fault that is printed.
+    ///
+    /// # Errors
+    ///
+    /// It cannot be told.
+    fn hints(&self, hint: Page) -> io::Result<()>;
+
     /// The building does not run.
     ///
     /// # Errors
@@ -133,7 +142,22 @@ pub fn serve_live<
         text: bytes_at(alloc, disk, files.text)?,
         kept: kept_at(alloc, disk, options.beside.keep)?,
     };
-    Ok(print(rt, alloc, grounds, to, &pages, lines, options)?)
+    let done = print(rt, alloc, grounds, to, &pages, lines, options)?;
+    if let Err(Halted::Text(stop)) = &done.1 {
+        hint(alloc, grounds.notice, files, &pages, stop);
+    }
+    Ok(done)
+}
+
+/// Tells which file has a fault, where one has.
+fn hint<N: Notice>(alloc: Global, notice: &N, files: LiveFiles, pages: &LivePages, stop: &Stop) {
+    let read = ReadFiles::of_building(files, &pages.binding, &pages.text);
+    let Some(place) = FileKind::of_stop(stop) else {
+        return;
+    };
+    if let Some(hint) = hint_of(alloc, read, place) {
+        let _told = notice.hints(hint.page(alloc));
+    }
 }
 
 /// What the files of a building hold.

@@ -11,6 +11,7 @@
 
 mod misuse;
 mod paths;
+mod replaced;
 
 pub use misuse::check_invocation;
 pub use paths::{Misplaced, PathFault};

@@ -1,13 +1,15 @@
 //! Whether a command writes what it reads.
 
 use crate::paths::{PathFault, Writing, Written, check_paths};
+use crate::replaced::check_code_file;
 use commandline::{Invocation, Tool};
 use options::{LineWord, LiveFiles, LiveOptions};
 use std::alloc::{AllocError, Global};
 use std::rt::Files;
 
-/// Whether what the user asks for writes to no path that it reads, to each path one thing, and a
-/// file that stays open for long only where a regular one is or may come.
+/// Whether what the user asks for writes to no path that it reads, to each path one thing, a file
+/// that stays open for long only where a regular one is or may come, and a code file in place of no
+/// file but another one.
 ///
 /// # Errors
 ///
@@ -19,14 +21,15 @@ pub fn check_invocation<R: Files>(
 ) -> Result<(), PathFault> {
     match invocation {
         Invocation::Code { files, to, .. } => {
-            let written = over(Some(*to), "the code file");
+            let written = anew(Some(*to), "the code file");
             let binding = files.binding.unwrap_or(files.text);
-            check_paths(rt, alloc, &[files.text, binding], &[written])
+            check_paths(rt, alloc, &[files.text, binding], &[written])?;
+            check_code_file(rt, alloc, *to, files.binding.is_some())
         }
         Invocation::Look { files, options, .. } => {
             let kept = files.keep.unwrap_or(files.scenario);
             let reads = [files.text, files.binding, files.scenario, kept];
-            check_paths(rt, alloc, &reads, &[over(options.to, "the picture")])
+            check_paths(rt, alloc, &reads, &[anew(options.to, "the picture")])
         }
         Invocation::Tool(tool) => check_tool(rt, alloc, tool),
         Invocation::Live {
@@ -137,11 +140,11 @@ fn live_writes<'a>(options: &LiveOptions<'a>) -> [Written<'a>; 4] {
     ]
 }
 
-/// A file that is written over.
-fn over<'a>(path: Option<&'a str>, what: &'static str) -> Written<'a> {
+/// A file that is written anew, or a device.
+fn anew<'a>(path: Option<&'a str>, what: &'static str) -> Written<'a> {
     Written {
         path,
         what,
-        writing: Writing::Over,
+        writing: Writing::Anew,
     }
 }

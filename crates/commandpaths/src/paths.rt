@@ -57,9 +57,9 @@ fn are_one_file(file: Option<Node>, other: Option<Node>) -> bool
 /// How a file is written.
 #[derive(Clone, Copy, PartialEq, Eq, Debug)]
 pub(crate) enum Writing {
-    /// Over what is there.
-    Over,
-    /// As FILE.new, which becomes FILE.
+    /// As FILE.new, which becomes FILE, or to a device itself.
+    Anew,
+    /// So, of a file alone.
     Whole,
     /// So, and what was FILE may become FILE.old.
     Aside,
@@ -86,8 +86,7 @@ impl Writing {
     /// The endings of the files beside a path that are written with it.
     fn endings(self) -> &'static [&'static str] {
         match self {
-            Writing::Over => &[],
-            Writing::Whole => BESIDE_WHOLE,
+            Writing::Anew | Writing::Whole => BESIDE_WHOLE,
             Writing::Aside => BESIDE_ASIDE,
             Writing::AsideKept => BESIDE_KEPT,
             Writing::Behind => BESIDE_LOG,
@@ -121,6 +120,10 @@ pub enum Misplaced {
     /// A device, a FIFO or a socket is there.
     NoRegularFile,
     NoFolder,
+    /// A file is there that is no code file, so none goes in its place.
+    NoCode,
+    /// So, and it is a binding, though the command names none.
+    Binding,
 }
 
 /// Why a command may not write where it is to.
@@ -142,11 +145,17 @@ impl fmt::Display for PathFault {
             Misplaced::Directory => ("error: '", "' is a directory"),
             Misplaced::NoRegularFile => ("error: '", "' is no regular file"),
             Misplaced::NoFolder => ("error: the folder of '", "' is not there"),
+            Misplaced::NoCode => ("error: '", "' is no code file"),
+            Misplaced::Binding => ("error: '", "' seems to be the binding"),
         };
         write!(f, "{before}{path}{behind}")?;
         match why {
             Misplaced::Read { what } => write!(f, ", so {what} can't go there"),
             Misplaced::Taken { other, what } => write!(f, "{other}, so {what} can't go there"),
+            Misplaced::NoCode => f.write_str(", so the code file can't go there"),
+            Misplaced::Binding => f.write_str(
+                ", so the code file can't go there: OUT stands behind it",
+            ),
             _ => Ok(()),
         }
     }
@@ -205,7 +214,7 @@ fn check_written<R: Files>(
     written: &Written,
 ) -> Result<(), PathFault> {
     hold(alloc, held, place_of(rt, alloc, path)?, path, written.what)?;
-    if written.writing != Writing::Over {
+    if written.writing != Writing::Anew {
         if let Err(why) = check_kind(rt, path) {
             return Err(fault_at(alloc, path, why));
         }
@@ -252,7 +261,7 @@ fn add(held: &mut Vec<Held>, place: Place, what: Option<&'static str>) -> Result
 }
 
 /// Why a command may not write to a path.
-fn fault_at(alloc: Global, path: &str, why: Misplaced) -> PathFault {
+pub(crate) fn fault_at(alloc: Global, path: &str, why: Misplaced) -> PathFault {
     match String::from_str(alloc, path) {
         Ok(path) => PathFault::At(path, why),
         Err(_) => PathFault::Memory,

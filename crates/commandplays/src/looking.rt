@@ -4,7 +4,7 @@
 use crate::pages::{Pages, read_pages};
 use crate::playing::start;
 use crate::unknown::write_unwatchable;
-use commandfiles::{Disk, ExitStatus, PlayStop, Unserved, write_at};
+use commandfiles::{Disk, ExitStatus, FileKind, PlayStop, Unserved, tell_hint, write_at};
 use commandline::LookOptions;
 use options::PlayFiles;
 use page::Page;
@@ -31,9 +31,9 @@ struct Seen {
 /// Reads the files that are named, the binding before the text, that before the scenario and that
 /// before the kept values, plays the scenario and prints a picture of what happened, with a row for
 /// each variable that is watched, as SVG or as lines for a terminal; the writer, which then has all
-/// of it, and how the program ends. Where the picture goes to a file, the writer has nothing, and
-/// what stands against playing goes to the standard error, as does what became of the file of kept
-/// values. Names that are watched and that no variable has go there too; then nothing is played.
+/// of it, and how the program ends. Where the picture goes to a file, the writer has nothing. What
+/// stands against playing goes to the standard error, and which file has the fault, as does what
+/// became of the file of kept values. Names that are watched and that no variable has go there too; then nothing is played.
 /// What is printed is by rows alone.
 ///
 /// # Errors
@@ -54,9 +54,9 @@ pub fn serve_look<'a, D: Disk, W: Write + Drop, E: Eprint>(
     let _told = complain(errors, &said);
     let seen = seen?;
     match options.to {
-        Some(path) if seen.is_picture => write_at(disk, path, &seen.lines)?,
-        Some(_) => complain(errors, &seen.lines)?,
-        None => to.write_all(&seen.lines)?,
+        Some(path) if seen.is_picture => write_at(alloc, disk, path, &seen.lines)?,
+        None if seen.is_picture => to.write_all(&seen.lines)?,
+        _ => complain(errors, &seen.lines)?,
     }
     Ok((to, seen.status))
 }
@@ -94,7 +94,7 @@ fn look(
             )?;
             draw(alloc, picture, status, files, options)
         }
-        Err(stop) => stopped(alloc, &stop),
+        Err(stop) => stopped(alloc, pages, files, &stop),
     }
 }
 
@@ -108,10 +108,16 @@ fn unknown(alloc: Global, said: &mut Vec<u8>, plant: &Plant, watches: &[&str]) -
     })
 }
 
-/// The line of what stands against playing is seen.
-fn stopped(alloc: Global, stop: &PlayStop) -> io::Result<Seen> {
+/// The line of what stands against playing is seen, and which file has the fault.
+fn stopped(alloc: Global, pages: &Pages, files: PlayFiles, stop: &PlayStop) -> io::Result<Seen> {
     let mut lines = Vec::new(alloc);
     writeln!(lines, "{stop}")?;
+    tell_hint(
+        alloc,
+        &mut lines,
+        pages.read_from(files),
+        FileKind::of_play_stop(stop),
+    );
     Ok(Seen {
         lines,
         is_picture: false,

@@ -5,7 +5,7 @@ ghost use Rattle.wordlines.specs.Scenarios.{IsJudged};
 ghost use Rattle.commandfiles.specs.Beginnings.{HasBegun};
 ghost use Rattle.commandplays.specs.Plays.{AreGiven, IsSetupOf, IsTextStop, IsUnplayed};
 
-use commandfiles::{Beginning, Disk, Unserved, beginning_of, bytes_at, named_at};
+use commandfiles::{Beginning, Disk, ReadFiles, Unserved, beginning_of, bytes_at, named_at};
 use inquiries::Stop;
 use options::PlayFiles;
 use simbus::{Scenario, ScenarioFault, parse};
@@ -34,6 +34,13 @@ impl Model for Pages {
       scenario = pages.scenario.items;
       file = option_map (λ bytes. bytes.items) pages.kept;
     } };
+}
+
+impl Pages {
+    /// What was read of the files at these paths.
+    pub(crate) fn read_from<'a>(&'a self, files: PlayFiles<'a>) -> ReadFiles<'a> {
+        ReadFiles::of_play(files, &self.binding, &self.text, &self.scenario)
+    }
 }
 
 /// Reads the files that are named, the binding before the text, that before the scenario, and that

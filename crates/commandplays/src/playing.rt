@@ -9,7 +9,9 @@ ghost use Rattle.plantplay.specs.Watched.{AreWatchable};
 use crate::brief::Brief;
 use crate::pages::{Pages, beginning_in, read_pages, scenario_of};
 use crate::unknown::{write_unknown, write_unwatchable};
-use commandfiles::{Beginning, Disk, ExitStatus, KeptNote, PlayStop, Unserved};
+use commandfiles::{
+    Beginning, Disk, ExitStatus, FileKind, KeptNote, PlayStop, Unserved, tell_hint,
+};
 use commandline::PlayShows;
 use options::{ExpectedWord, PlayFiles};
 use plantload::{kept_scans_are_as_meant, scans_are_as_meant};
@@ -29,13 +31,15 @@ struct Asked<'a> {
     expected: &'a [ExpectedWord<'a>],
     /// The names of the variables that are watched.
     watched: &'a [&'a str],
+    /// The paths of the files.
+    files: PlayFiles<'a>,
 }
 
 /// Reads the files that are named, the binding before the text, that before the scenario and that
 /// before the kept values, plays the scenario and prints what happens; the writer, which then has
 /// every line, and how the program ends. `complaints` gets what became of the file of kept values,
-/// and what is not as expected at the end; or the names, expected or watched, that the text does
-/// not have; then nothing is played.
+/// and what is not as expected at the end; or which file has the fault; or the names, expected or
+/// watched, that the text does not have; then nothing is played.
 ///
 /// # Errors
 ///
@@ -56,7 +60,7 @@ pub fn serve_play<'a, D: Disk, W: Write + Drop, E: Write>(
         (IsUnplayed (D.gives disk.now) (D.fails disk.now) files.entry) }
 {
     let pages = read_pages(alloc, disk, files)?;
-    Ok(print(alloc, to, complaints, &pages, limit, shows)?)
+    Ok(print(alloc, to, complaints, &pages, files, limit, shows)?)
 }
 
 /// Prints what happens through a buffer, of which nothing is left behind.
@@ -65,6 +69,7 @@ fn print<W: Write + Drop, E: Write>(
     to: W,
     complaints: &mut E,
     pages: &Pages,
+    files: PlayFiles,
     limit: u32,
     shows: &PlayShows,
 ) -> io::Result<(W, ExitStatus)>
@@ -72,7 +77,7 @@ fn print<W: Write + Drop, E: Write>(
         IsPlayEnd pages.now limit shows.now.expects.items shows.now.watches.items done.1) }
 {
     let mut out = BufWriter::new(alloc, to)?;
-    let status = report_shown(alloc, &mut out, complaints, pages, limit, shows)?;
+    let status = report_shown(alloc, &mut out, complaints, pages, files, limit, shows)?;
     Ok((out.into_inner()?, status))
 }
 
@@ -82,6 +87,7 @@ fn report_shown<W: Write, E: Write>(
     out: &mut W,
     complaints: &mut E,
     pages: &Pages,
+    files: PlayFiles,
     limit: u32,
     shows: &PlayShows,
 ) -> io::Result<ExitStatus>
@@ -92,6 +98,7 @@ fn report_shown<W: Write, E: Write>(
     let asked = Asked {
         expected: shows.expects.as_slice(),
         watched: shows.watches.as_slice(),
+        files,
     };
     if !shows.is_brief {
         return report(alloc, out, complaints, pages, limit, style, asked);
@@ -140,10 +147,26 @@ fn report<W: Write, E: Write>(
             Ok(judged(status, &installation, asked.expected))
         }
         Err(stop) => {
-            writeln!(out, "{stop}")?;
+            report_stop(alloc, out, complaints, pages, asked.files, &stop)?;
             Ok(stop.status())
         }
     }
+}
+
+/// Writes what stands against playing the scenario, and reports which file has the fault.
+fn report_stop<W: Write, E: Write>(
+    alloc: Global,
+    out: &mut W,
+    complaints: &mut E,
+    pages: &Pages,
+    files: PlayFiles,
+    stop: &PlayStop,
+) -> io::Result<()> {
+    writeln!(out, "{stop}")?;
+    out.flush()?;
+    let place = FileKind::of_play_stop(stop);
+    tell_hint(alloc, complaints, pages.read_from(files), place);
+    Ok(())
 }
 
 /// Whether the text that is played has the names that are asked for.

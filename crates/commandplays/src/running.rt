@@ -5,7 +5,7 @@ ghost use Rattle.commandplays.specs.Plays.{IsPlayStop, IsUnplayed};
 ghost use Rattle.commandplays.specs.Runs.{IsRunServed, IsRunEnd, IsRunOut, status_of_run_end};
 
 use crate::pages::{Pages, beginning_in, read_pages, scenario_of};
-use commandfiles::{Beginning, Disk, ExitStatus, PlayStop, Unserved};
+use commandfiles::{Beginning, Disk, ExitStatus, FileKind, PlayStop, Unserved, tell_hint};
 use options::{PlayFiles, RunSize};
 use plantdriving::has_down;
 use plantload::{kept_scans_are_as_meant, scans_are_as_meant};
@@ -24,7 +24,7 @@ pub type RunEnd = Result<Closed<SimBus, ScriptedClock>, PlayStop>;
 /// Reads the files that are named, the binding before the text, that before the scenario and that
 /// before the kept values, runs the scenario in threads and prints what it came to; the writer,
 /// which then has every line, and what it came to. `complaints` gets what became of the file of
-/// kept values.
+/// kept values, or which file has the fault.
 ///
 /// # Errors
 ///
@@ -42,7 +42,12 @@ pub fn serve_run<'a, D: Disk, W: Write + Drop, E: Write, R: Threads + Wait + Tim
     ensures unread { IfErr result (IsUnplayed (D.gives disk.now) (D.fails disk.now) files.entry) }
 {
     let pages = read_pages(alloc, disk, files)?;
-    Ok(print(rt, alloc, to, complaints, &pages, size)?)
+    let done = print(rt, alloc, to, complaints, &pages, size)?;
+    if let Err(stop) = &done.1 {
+        let place = FileKind::of_play_stop(stop);
+        tell_hint(alloc, complaints, pages.read_from(files), place);
+    }
+    Ok(done)
 }
 
 /// How the program ends by what a run came to.

@@ -9,10 +9,9 @@ use commandlives::{
 };
 use commandpaths::{PathFault, check_invocation};
 use commandplays::{serve_look, serve_play, serve_run, status_of_run};
-use commandtexts::{
-    DiskFault, ExitStatus, HostDisk, KeptNote, NamedFiles, Unserved, hint_of, serve, serve_question,
-};
+use commandtexts::{DiskFault, ExitStatus, HostDisk, KeptNote, Unserved, serve, serve_question};
 use options::{LineWord, LiveFiles, LiveOptions, PlayFiles, RunSize};
+use page::Page;
 use std::rt::{Env, Files};
 use std::sync::Wait;
 use std::thread::Threads;
@@ -97,7 +96,7 @@ where
     if let Err(fault) = check_invocation(rt, rt.alloc(), invocation) {
         return misplaced(rt, &fault);
     }
-    let status = match invocation {
+    match invocation {
         Invocation::Run { files, size } => run_scenario(rt, threads, *files, *size),
         Invocation::Live {
             files,
@@ -106,8 +105,7 @@ where
         } => run_building(rt, threads, site, *files, lines, options),
         Invocation::Tool(tool) => run_tool(rt, threads, site, tool),
         _ => serve_files(rt, invocation),
-    };
-    with_hint(rt, NamedFiles::of(invocation), status)
+    }
 }
 
 /// Serves an invocation that asks for files alone. One that asks for threads or lines does nothing
@@ -169,21 +167,6 @@ fn ended<R: Print + Eprint, W: Drop>(
         Ok((_, status)) => status,
         Err(unserved) => not_served(rt, unserved),
     }
-}
-
-/// How a command ends; where a fault of a file is printed, standard error says which file it is in.
-fn with_hint<R: Files + Eprint + AllocGlobal>(
-    rt: &R,
-    named: Option<NamedFiles>,
-    status: ExitStatus,
-) -> ExitStatus {
-    if let (ExitStatus::Refused, Some(files)) = (status, named) {
-        if let Some(hint) = hint_of(rt.alloc(), &HostDisk { rt }, files) {
-            let mut complaints = Complaints { rt };
-            let _told = hint.page(rt.alloc()).write_to(&mut complaints);
-        }
-    }
-    status
 }
 
 /// Does what is asked for at one line.
@@ -307,6 +290,10 @@ impl<R: Eprint> Notice for HostNotice<'_, R> {
         eprint!(self.rt; "{note}")
     }
 
+    fn hints(&self, hint: Page) -> io::Result<()> {
+        hint.write_to(&mut Complaints { rt: self.rt })
+    }
+
     fn halts(&self, stop: &LiveStop) -> io::Result<()> {
         eprintln!(self.rt; "{stop}")
     }
@@ -339,6 +326,7 @@ fn reason_of(why: DiskFault) -> &'static str {
         DiskFault::Memory => "no memory",
         DiskFault::Absent => "no such file",
         DiskFault::Denied => "permission denied",
+        DiskFault::Folder => "it is a folder",
         DiskFault::Failed => "an input error",
     }
 }

@@ -1,10 +1,9 @@
 //! Telling what installers ask of a text: notes on it, its words, and what stands against it.
 
-use crate::hints::misplaced_text;
 use crate::objects::{write_explanation, write_noted, write_sizes, write_stop, write_words};
 use commandfiles::{
-    Disk, ExitStatus, PlayStop, Stop, UnknownTask, Unserved, add_texts, binding_of, bytes_at,
-    check, named_at,
+    Disk, ExitStatus, FileKind, PlayStop, ReadFiles, Stop, UnknownTask, Unserved, add_texts,
+    binding_of, bytes_at, check, misplaced_text, named_at, tell_hint,
 };
 use commandline::Question;
 use explaining::{AskedText, explain_binding, explain_scenario, explanation_of};
@@ -28,6 +27,13 @@ struct Sheets {
     binding: Option<Vec<u8>>,
     text: Vec<u8>,
     scenario: Option<Vec<u8>>,
+}
+
+impl Sheets {
+    /// What was read of the text and the binding at these paths.
+    fn read_from<'a>(&'a self, files: Files<'a>) -> ReadFiles<'a> {
+        ReadFiles::of_text(files, self.binding.as_deref(), &self.text)
+    }
 }
 
 /// What is asked of which files.
@@ -72,8 +78,8 @@ impl<'a> AskedFiles<'a> {
 
 /// Reads the files that are named, the binding before the text and that before a scenario, and
 /// prints what is asked of them; the writer, which then has all of it, and how the program ends.
-/// `complaints` gets the line of a task or of notes that are not there. What is printed is by rows
-/// alone.
+/// `complaints` gets which tasks there are, where one is not, which file has the fault that is
+/// printed, or the line of notes that are not there. What is printed is by rows alone.
 ///
 /// # Errors
 ///
@@ -135,13 +141,13 @@ fn print<W: Write + Drop, E: Write>(
     let mut out = Vec::new(alloc);
     let mut others = Vec::new(alloc);
     let status = report(alloc, &mut out, &mut others, asked, sheets)?;
-    let _told = complaints.write_all(&others);
     to.write_all(&out)?;
+    let _told = complaints.write_all(&others);
     Ok((to, status))
 }
 
-/// Writes what is asked for, and to `others` the line of a task that is not there; how the program
-/// ends.
+/// Writes what is asked for, and to `others` which tasks there are, where one is not, or which file
+/// has the fault; how the program ends.
 fn report(
     alloc: Global,
     out: &mut Vec<u8>,
@@ -151,10 +157,10 @@ fn report(
 ) -> io::Result<ExitStatus> {
     match asked.question {
         Question::Faults { .. } => explain(alloc, out, asked, sheets),
-        Question::Notes { .. } => report_notes(alloc, out, asked.notes(), sheets),
+        Question::Notes { .. } => report_notes(alloc, out, others, asked, sheets),
         Question::Words { task, is_json } => match setup_of(alloc, sheets) {
             Ok(setup) => list(alloc, out, others, &setup, task, is_json),
-            Err(stop) => write_stop(alloc, out, &stop, is_json),
+            Err(stop) => report_stop(alloc, out, others, asked, sheets, &stop, is_json),
         },
         Question::Sizes => match setup_of(alloc, sheets) {
             Ok(setup) => write_sizes(alloc, out, &setup),
@@ -167,16 +173,41 @@ fn report(
 fn report_notes(
     alloc: Global,
     out: &mut Vec<u8>,
-    asked: NotesAsked,
+    others: &mut Vec<u8>,
+    asked: AskedFiles,
     sheets: &Sheets,
 ) -> io::Result<ExitStatus> {
+    let notes = asked.notes();
     match noted_of(alloc, sheets) {
         Ok((setup, source)) => {
-            let is_denied = write_noted(alloc, out, "", &setup, &source, None, asked)?;
+            let is_denied = write_noted(alloc, out, "", &setup, &source, None, notes)?;
             Ok(status_of_notes(is_denied))
         }
-        Err(stop) => write_stop(alloc, out, &stop, asked.is_json),
+        Err(stop) => report_stop(alloc, out, others, asked, sheets, &stop, notes.is_json),
     }
+}
+
+/// Writes what stands against the text, and to `others`, where it is written as a line, which file
+/// has the fault.
+fn report_stop(
+    alloc: Global,
+    out: &mut Vec<u8>,
+    others: &mut Vec<u8>,
+    asked: AskedFiles,
+    sheets: &Sheets,
+    stop: &Stop,
+    is_json: bool,
+) -> io::Result<ExitStatus> {
+    let status = write_stop(alloc, out, stop, is_json)?;
+    if !is_json {
+        tell_hint(
+            alloc,
+            others,
+            sheets.read_from(asked.files),
+            FileKind::of_stop(stop),
+        );
+    }
+    Ok(status)
 }
 
 /// The setup of the text under the binding.
@@ -211,8 +242,8 @@ fn status_of_notes(is_denied: bool) -> ExitStatus {
     }
 }
 
-/// Writes the words of a task, or of all and what they ask of the buses; or to `others` that the
-/// task is not there.
+/// Writes the words of one task, or of all and what they ask of the buses; or that the task is not
+/// there, and to `others` which there are.
 fn list(
     alloc: Global,
     out: &mut Vec<u8>,
@@ -228,7 +259,7 @@ fn list(
     if task.is_some() && one.is_none() {
         let unknown = UnknownTask::of(alloc, setup.plan(), task)?;
         writeln!(others, "{unknown}")?;
-        return Ok(ExitStatus::Misused);
+        return write_stop(alloc, out, &Stop::NoTask(unknown), is_json);
     }
     if is_json {
         write_words(alloc, out, setup, one)?;
@@ -361,7 +392,7 @@ fn explained_text(
     match load_with_source(alloc, &sheets.text, binding) {
         Ok((setup, source)) => explained_scenario(alloc, out, asked, sheets, setup, source),
         Err(stop) => {
-            if let Some(hint) = misplaced_text(alloc, asked.files, &sheets.text) {
+            if let Some(hint) = misplaced_text(alloc, sheets.read_from(asked.files)) {
                 hint.page(alloc).write_to(out)?;
                 return Ok(Explained::Refused(ExitStatus::Refused));
             }

@@ -1,5 +1,5 @@
 -- How the program ends, and the exit status of each end (profile).
-use Rattle.std.specs.Prelude.{ℕ, Bool, false, if◌then◌else◌}
+use Rattle.std.specs.Prelude.{ℕ, List, Option, Some, None, Bool, false, if◌then◌else◌}
 use Rattle.clap.specs.declared.error.ErrorKind.{ErrorKind}
 use Rattle.clap.specs.declared.error.ErrorKind.TheVariants as kinds
 use Rattle.wordlines.specs.declared.fault.LineFault.TheVariants as scenario_faults
@@ -42,10 +42,16 @@ abbrev pub status_of_run : Ended → Bool → ExitStatus
 status_of_run Asked false = Accepted
 status_of_run ended is_down = Failed
 
+-- of a task that is not there: the name that was given is none of the text's; or none was given, and there is not one
+-- alone
+abbrev pub status_of_unknown_task : Option (List ℕ) → ExitStatus
+status_of_unknown_task (Some name) = Refused
+status_of_unknown_task None = Misused
+
 -- of what stands against a text: out of memory, or a task that is not there, or something is at fault
 abbrev pub status_of_stop : Stop → ExitStatus
 status_of_stop stops.Memory = Failed
-status_of_stop (stops.NoTask asked) = Misused
+status_of_stop (stops.NoTask asked) = status_of_unknown_task asked
 status_of_stop _ = Refused
 
 -- of what is answered to a code file: its code is accepted; or it is refused, or there is none; or out of memory

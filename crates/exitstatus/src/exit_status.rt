@@ -1,7 +1,7 @@
 //! How the program ends.
 
 use clap::error::ErrorKind;
-use inquiries::{CodeAnswer, Stop};
+use inquiries::{CodeAnswer, Stop, UnknownTask};
 use plantplay::Ending;
 use workers::Ended;
 
@@ -22,7 +22,7 @@ impl ExitStatus {
     ghost use Rattle.std.specs.Prelude.{◌≡◌};
     ghost use Rattle.exitstatus.specs.ExitStatuses.{number_of_status, status_of_code_answer};
     ghost use Rattle.exitstatus.specs.ExitStatuses.{status_of_play, status_of_run, status_of_stop};
-    ghost use Rattle.exitstatus.specs.ExitStatuses.{status_of_words};
+    ghost use Rattle.exitstatus.specs.ExitStatuses.{status_of_unknown_task, status_of_words};
 
     /// The number that the program exits with.
     pub fn number(self) -> u8
@@ -73,8 +73,18 @@ impl ExitStatus {
     {
         match stop {
             Stop::Memory => ExitStatus::Failed,
-            Stop::NoTask(_) => ExitStatus::Misused,
+            Stop::NoTask(unknown) => ExitStatus::of_unknown_task(unknown),
             Stop::Binding(_) | Stop::Load(_) => ExitStatus::Refused,
+        }
+    }
+
+    /// Of a task that is not there.
+    pub fn of_unknown_task(unknown: &UnknownTask) -> ExitStatus
+        ensures { result ≡ status_of_unknown_task unknown.now }
+    {
+        match unknown.name() {
+            Some(_) => ExitStatus::Refused,
+            None => ExitStatus::Misused,
         }
     }
 

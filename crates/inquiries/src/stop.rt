@@ -41,6 +41,16 @@ impl UnknownTask {
         }
     }
 
+    /// The name that was given, where one was.
+    pub fn name(&self) -> Option<&str>
+        ensures { option_map (λ name. name.now) result ≡ self.now }
+    {
+        match &self.asked {
+            Some(name) => Some(name.as_str()),
+            None => None,
+        }
+    }
+
     /// The name that was given, or none.
     fn text(&self) -> &str
         ensures { result.now ≡ unwrap_or self.now [] }
@@ -67,18 +77,18 @@ impl fmt::Debug for UnknownTask {
     }
 }
 
-/// What is said of it on standard error.
+/// What is said of it on standard error: which tasks there are, and before that, where none is
+/// named, that one is to be.
 impl fmt::Display for UnknownTask {
     fn fmt<W: fmt::Write>(&self, f: &mut fmt::Formatter<W>) -> fmt::Result {
-        match &self.asked {
-            Some(name) => write!(f, "error: no task {name}: ")?,
-            None => write!(f, "error: no task is named: ")?,
+        if self.asked.is_none() {
+            write!(f, "error: no task is named: ")?;
         }
         match self.tasks.as_slice() {
-            [] => write!(f, "there is none"),
-            [only] => write!(f, "there is {only}"),
+            [] => write!(f, "there is no task"),
+            [only] => write!(f, "the only task is {only}"),
             [first, others @ ..] => {
-                write!(f, "there are {first}")?;
+                write!(f, "the tasks are {first}")?;
                 for other in others {
                     write!(f, ", {other}")?;
                 }

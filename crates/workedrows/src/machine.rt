@@ -35,7 +35,8 @@ impl Terminal {
 
 /// A machine with a command line, files and a terminal. Its file `torn` cannot be read to its end,
 /// its file `starved` is neither read nor written for lack of memory, and its file `full` takes
-/// nothing, since the disk is full.
+/// nothing, since the disk is full; nor do files that are to become these, as `full.new`. Its file
+/// `.` is a folder.
 #[derive(Drop)]
 pub struct Machine<'a> {
     pub alloc: Global,
@@ -198,6 +199,20 @@ pub(crate) fn place_among(
     Ok(number)
 }
 
+/// Takes the file at a path from these.
+///
+/// # Errors
+///
+/// There is none.
+fn remove(files: &mut Vec<StoredFile>, path: &str) -> io::Result<()> {
+    let many = files.len();
+    files.retain(|stored| stored.path.as_str() != path);
+    if files.len() == many {
+        return Err(io::Error::from(io::ErrorKind::NotFound));
+    }
+    Ok(())
+}
+
 /// Adds bytes to the file of a number.
 fn extend(files: &RefCell<Vec<StoredFile>>, number: usize, bytes: &[u8]) -> io::Result<usize>
     ensures { WritesAtMost result bytes.now }
@@ -299,8 +314,9 @@ impl<'a> Files for Machine<'a> {
         match (path, how.asks_write()) {
             ("torn", false) => Page::broken(self.alloc, io::ErrorKind::Other),
             ("starved", false) => Page::broken(self.alloc, io::ErrorKind::OutOfMemory),
-            ("starved", true) => Err(io::Error::from(io::ErrorKind::OutOfMemory)),
-            ("full", true) => Ok(Page::Full),
+            (".", false) => Page::broken(self.alloc, io::ErrorKind::IsADirectory),
+            ("starved" | "starved.new", true) => Err(io::Error::from(io::ErrorKind::OutOfMemory)),
+            ("full" | "full.new", true) => Ok(Page::Full),
             (_, false) => Page::of(self.alloc, self.files, path),
             (_, true) => Page::empty(self.alloc, self.files, path),
         }
@@ -322,12 +338,20 @@ impl<'a> Files for Machine<'a> {
         unsupported()
     }
 
-    fn rename(&self, _from: &str, _to: &str) -> io::Result<()> {
-        unsupported()
+    fn rename(&self, from: &str, to: &str) -> io::Result<()> {
+        let Some(bytes) = bytes_at(self.alloc, self.files, from)? else {
+            return Err(io::Error::from(io::ErrorKind::NotFound));
+        };
+        let path = String::from_str(self.alloc, to)?;
+        place(self.files, StoredFile { path, bytes })?;
+        self.remove_file(from)
     }
 
-    fn remove_file(&self, _path: &str) -> io::Result<()> {
-        unsupported()
+    fn remove_file(&self, path: &str) -> io::Result<()> {
+        match self.files.try_borrow_mut() {
+            Ok(mut files) => remove(&mut files, path),
+            Err(_) => Err(io::Error::from(io::ErrorKind::Other)),
+        }
     }
 
     fn create_dir(&self, _path: &str) -> io::Result<()> {
@@ -386,7 +410,7 @@ impl OpenFile for Page<'_> {
     }
 
     fn sync_all(&self) -> io::Result<()> {
-        unsupported()
+        Ok(())
     }
 
     fn sync_data(&self) -> io::Result<()> {
