@@ -31,16 +31,21 @@ pub fn print_answer<W: Write + Drop, E: Write>(
     ensures status { IfOk result (λ done. done.1 ≡ status_of answer.now) }
 {
     let mut out = BufWriter::new(alloc, to)?;
-    let status = report(&mut out, complaints, answer)?;
-    Ok((out.into_inner()?, status))
+    let status = report(&mut out, answer)?;
+    let printed = out.into_inner()?;
+    tell_tasks(complaints, answer);
+    Ok((printed, status))
+}
+
+/// Writes which tasks there are, where one is not. That it cannot be written changes nothing.
+fn tell_tasks<E: Write>(complaints: &mut E, answer: &Answer) {
+    if let Answer::Stopped(Stop::NoTask(unknown)) = answer {
+        let _told = writeln!(complaints, "{unknown}");
+    }
 }
 
 /// Writes the answer's lines; how the program ends.
-fn report<W: Write, E: Write>(
-    out: &mut W,
-    complaints: &mut E,
-    answer: &Answer,
-) -> io::Result<ExitStatus>
+fn report<W: Write>(out: &mut W, answer: &Answer) -> io::Result<ExitStatus>
     ensures text { OnOk result
         (Appends (W.contents out.old) (W.contents out.new) (printed_answer answer.now)) }
     ensures status { IfOk result (λ status. status ≡ status_of answer.now) }
@@ -56,15 +61,14 @@ fn report<W: Write, E: Write>(
             Ok(ExitStatus::Accepted)
         }
         Answer::Stopped(stop) => {
-            stopped(out, complaints, stop)?;
+            stopped(out, stop)?;
             Ok(ExitStatus::of_stop(stop))
         }
     }
 }
 
-/// Writes the line of what stands against a text; of a task that is not there `complaints` gets
-/// which there are.
-fn stopped<W: Write, E: Write>(out: &mut W, complaints: &mut E, stop: &Stop) -> io::Result<()>
+/// Writes the line of what stands against a text.
+fn stopped<W: Write>(out: &mut W, stop: &Stop) -> io::Result<()>
     ensures { OnOk result
         (Appends (W.contents out.old) (W.contents out.new) (stop_text stop.now)) }
 {
@@ -72,11 +76,7 @@ fn stopped<W: Write, E: Write>(out: &mut W, complaints: &mut E, stop: &Stop) -> 
         Stop::Memory => writeln!(out, "no memory"),
         Stop::Binding(fault) => writeln!(out, "{fault}"),
         Stop::Load(fault) => writeln!(out, "{fault}"),
-        Stop::NoTask(unknown) => {
-            unknown_task(out, unknown)?;
-            let _told = writeln!(complaints, "{unknown}");
-            Ok(())
-        }
+        Stop::NoTask(unknown) => unknown_task(out, unknown),
     }
 }
 
