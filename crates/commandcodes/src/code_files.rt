@@ -50,15 +50,10 @@ pub fn serve_code<'a, D: Disk, W: Write + Drop, E: Write>(
             Ok((out, ExitStatus::Accepted))
         }
         Err(stop) => {
-            let read = read_of(files, &binding, &text);
+            let read = ReadFiles::of_files(files, &binding, &text);
             Ok(print_stop(alloc, out, complaints, stop, read)?)
         }
     }
-}
-
-/// What was read of the files.
-fn read_of<'a>(files: Files<'a>, binding: &'a Option<Vec<u8>>, text: &'a Vec<u8>) -> ReadFiles<'a> {
-    ReadFiles::of_text(files, binding.as_deref(), text)
 }
 
 /// The code file of a task, under what a binding's file says.

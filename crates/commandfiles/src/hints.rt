@@ -65,7 +65,7 @@ pub struct ReadFiles<'a> {
 
 impl<'a> ReadFiles<'a> {
     /// A text, and a binding where there is one.
-    pub fn of_text(files: Files<'a>, binding: Option<&'a [u8]>, text: &'a [u8]) -> ReadFiles<'a> {
+    fn of_text(files: Files<'a>, binding: Option<&'a [u8]>, text: &'a [u8]) -> ReadFiles<'a> {
         ReadFiles {
             text: Some(ReadFile {
                 path: files.text,
@@ -77,6 +77,15 @@ impl<'a> ReadFiles<'a> {
             },
             scenario: None,
         }
+    }
+
+    /// The same, of files as they were read.
+    pub fn of_files(
+        files: Files<'a>,
+        binding: &'a Option<Vec<u8>>,
+        text: &'a Vec<u8>,
+    ) -> ReadFiles<'a> {
+        ReadFiles::of_text(files, binding.as_deref(), text)
     }
 
     /// A text and a binding of a building.

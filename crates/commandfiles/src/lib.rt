@@ -4,8 +4,8 @@
 //! What crosses the boundary: paths go in, and the bytes that a [`Disk`] gives for them come out,
 //! or an [`Unserved`], the first file that is not read or written. [`HostDisk`] is the machine's.
 //! [`serve`] reads the files of an inquiry, has `inquiries` answer what they hold, and prints the
-//! answer by [`print_answer`]; [`tell_hint`] says behind a fault which of the [`ReadFiles`] it is in,
-//! of the bytes that were read. [`setup_of`] gives the setup of a text under a binding, and
+//! answer by [`print_answer`]; [`tell_hint`] says behind a fault which of the [`ReadFiles`] it is
+//! in, of the bytes that were read. [`setup_of`] gives the setup of a text under a binding, and
 //! [`beginning_of`] the [`Beginning`] with the values of a file of kept ones, with a [`KeptNote`]
 //! on what became of that. The definitions to read first are `IsServed` (specs/Served.antt), with
 //! the lines of an answer (specs/Reports.antt), and `HasBegun` (specs/Beginnings.antt). No contract

@@ -85,8 +85,8 @@ impl<R: Files> Disk for HostDisk<'_, R> {
         }
     }
 
-    /// Writes the file as FILE.new, which becomes FILE, so that what was there stays where it cannot
-    /// be written. A device is written itself.
+    /// Writes the file as FILE.new, which becomes FILE, so that what was there stays where it
+    /// cannot be written. A device is written itself.
     fn write(&self, alloc: Global, path: &str, bytes: &[u8]) -> Result<(), DiskFault> {
         if is_device(self.rt, path) {
             return write_to(self.rt, path, bytes);

@@ -61,7 +61,7 @@ pub fn serve<'a, D: Disk, W: Write + Drop, E: Write>(
     let text = bytes_at(alloc, disk, files.text)?;
     let answer = respond(alloc, inquiry, binding.as_deref(), &text);
     let done = report::print_answer(alloc, to, complaints, &answer)?;
-    let read = ReadFiles::of_text(files, binding.as_deref(), &text);
+    let read = ReadFiles::of_files(files, &binding, &text);
     tell_hint(alloc, complaints, read, place_of(&answer));
     Ok(done)
 }

@@ -33,8 +33,8 @@ struct Seen {
 /// each variable that is watched, as SVG or as lines for a terminal; the writer, which then has all
 /// of it, and how the program ends. Where the picture goes to a file, the writer has nothing. What
 /// stands against playing goes to the standard error, and which file has the fault, as does what
-/// became of the file of kept values. Names that are watched and that no variable has go there too; then nothing is played.
-/// What is printed is by rows alone.
+/// became of the file of kept values. Names that are watched and that no variable has go there too;
+/// then nothing is played. What is printed is by rows alone.
 ///
 /// # Errors
 ///

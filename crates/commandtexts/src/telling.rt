@@ -32,7 +32,7 @@ struct Sheets {
 impl Sheets {
     /// What was read of the text and the binding at these paths.
     fn read_from<'a>(&'a self, files: Files<'a>) -> ReadFiles<'a> {
-        ReadFiles::of_text(files, self.binding.as_deref(), &self.text)
+        ReadFiles::of_files(files, &self.binding, &self.text)
     }
 }
 
