@@ -106,14 +106,14 @@ def wait_for(bench, case, presser, neighbour):
 
 
 class Events:
-    """What an event log says: the moments of the scans of the task `clock`, and which buses went down or came up, in all and
-    before the last of these scans."""
+    """What an event log says: the moments of the scans of the task `clock` that changed a variable, which is each but the first,
+    and which buses went down or came up, in all and before the last of these scans."""
 
     def __init__(self, lines):
         self.scans, self.turns, self.early_turns = [], [], []
         for text in lines:
             words = text.split()
-            if words[3:5] == ["take", "clock"]:
+            if words[3:5] == ["commit", "clock"]:
                 self.scans.append(int(words[1]))
                 self.early_turns = self.turns[:]
             elif words[3:5] in (["!", "down"], ["!", "up"]):
@@ -131,10 +131,12 @@ def judge_presses(found, said, presser):
 
 
 def judge_timer(found, said, events, seconds):
-    """The timer ran from the first scan of its task to the last one, and these go on until the end was asked for, so many
-    seconds after bus 0 greeted. The clock begins at the greeting at the soonest, and a second later at the latest."""
+    """The timer ran from the first scan of its task, before those of the log, to the last one, and these go on until the end was
+    asked for, so many seconds after bus 0 greeted. The clock begins at the greeting at the soonest, and a second later at the
+    latest."""
     first, last = events.scans[:1] or [0], events.scans[-1:] or [0]
-    found.same("the timer ran, in ms", said.values.get("elapsed"), str(last[0] - first[0]))
+    elapsed = int(said.values.get("elapsed", -1))
+    found.hold(last[0] - first[0] <= elapsed <= last[0], f"the timer ran {elapsed} ms of {last[0]}")
     ran = last[0] / 1000
     found.hold(seconds - 2.5 < ran < seconds + 0.5, f"the last scan is at {ran:.1f} s of {seconds:.1f}")
 

@@ -95,8 +95,8 @@ fn it_ends_when_it_is_asked_to(rt: HostRuntime) -> Result<(), Fail> {
         1000,
         StopFlag(&flag),
     )?;
-    assert!(rt; clock.now() == Some(0));
     flag.set(true);
+    assert!(rt; clock.now() == Some(0), "the first moment is given at once");
     assert!(rt; clock.now().is_none());
     Ok(())
 }
@@ -107,8 +107,8 @@ fn it_ends_where_its_timer_fails(rt: HostRuntime) -> Result<(), Fail> {
         millis: Cell::new(Some(0)),
     };
     let mut clock = LiveClock::new(&timer, period().ok_or("a period")?, 0, 1000, NoStop)?;
-    assert!(rt; clock.now() == Some(0));
     timer.millis.set(None);
+    assert!(rt; clock.now() == Some(0), "the first moment needs no timer");
     assert!(rt; clock.now().is_none());
     assert!(rt; LiveClock::new(&timer, period().ok_or("a period")?, 0, 1000, NoStop).is_err());
     Ok(())

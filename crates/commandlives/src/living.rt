@@ -327,7 +327,7 @@ fn begun_of(alloc: Global, pages: &LivePages) -> Result<Beginning, Stop>
 }
 
 /// Who writes beside a building what its options ask for. A file of kept values that is not used is
-/// put aside.
+/// put aside; where it cannot be, it stays as it is, and no values are kept.
 ///
 /// # Errors
 ///
@@ -342,10 +342,12 @@ fn observer_of<'o, 'a, S: Storage, R: Wait>(
     ensures { IfErr result (IsUnobserved pages.now.binding pages.now.text) }
 {
     let begun = begun_of(alloc, pages)?;
-    if let Some(path) = aside(&begun.note, options.beside.keep) {
-        put_aside(alloc, storage, path);
+    let mut beside = options.beside;
+    if let Some(path) = aside(&begun.note, beside.keep) {
+        if !put_aside(alloc, storage, path) {
+            beside.keep = None;
+        }
     }
-    let beside = &options.beside;
     let kept = used_bytes(&begun.note, pages);
     let begins = begun.begins();
     let workers = options.size.workers as usize;
@@ -353,7 +355,7 @@ fn observer_of<'o, 'a, S: Storage, R: Wait>(
         rt,
         alloc,
         storage,
-        beside,
+        &beside,
         begun.setup,
         kept,
         begins,
@@ -391,9 +393,18 @@ fn aside<'a>(note: &KeptNote, path: Option<&'a str>) -> Option<&'a str> {
     }
 }
 
-/// Gives a file the name FILE.old, where it can be renamed.
-fn put_aside<S: Storage>(alloc: Global, storage: &S, path: &str) {
-    if let Ok(old) = format!(in alloc; "{path}.old") {
-        let _renamed = storage.rename(path, &old);
+/// Gives a file the name FILE.old. Answers whether it has it; where it cannot be renamed, that is
+/// told.
+fn put_aside<S: Storage>(alloc: Global, storage: &S, path: &str) -> bool {
+    let Ok(old) = format!(in alloc; "{path}.old") else {
+        return false;
+    };
+    if storage.rename(path, &old).is_ok() {
+        return true;
     }
+    let line = format!(in alloc; "{path} cannot be renamed {old}: it stays, and nothing is kept\n");
+    if let Ok(line) = line {
+        let _told = storage.tell(&line);
+    }
+    false
 }

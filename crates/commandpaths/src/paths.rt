@@ -119,11 +119,17 @@ pub enum Misplaced {
     Directory,
     /// A device, a FIFO or a socket is there.
     NoRegularFile,
+    /// A link is there, which the file would replace.
+    Link,
     NoFolder,
     /// A file is there that is no code file, so none goes in its place.
     NoCode,
     /// So, and it is a binding, though the command names none.
     Binding,
+    /// It is `-`, which is no path of a file.
+    NoFile {
+        what: &'static str,
+    },
 }
 
 /// Why a command may not write where it is to.
@@ -144,13 +150,18 @@ impl fmt::Display for PathFault {
             Misplaced::Taken { .. } => ("error: '", "' is for "),
             Misplaced::Directory => ("error: '", "' is a directory"),
             Misplaced::NoRegularFile => ("error: '", "' is no regular file"),
+            Misplaced::Link => ("error: '", "' is a link"),
+            Misplaced::NoFile { .. } => ("error: '", "' is no file"),
             Misplaced::NoFolder => ("error: the folder of '", "' is not there"),
             Misplaced::NoCode => ("error: '", "' is no code file"),
             Misplaced::Binding => ("error: '", "' seems to be the binding"),
         };
         write!(f, "{before}{path}{behind}")?;
         match why {
-            Misplaced::Read { what } => write!(f, ", so {what} can't go there"),
+            Misplaced::Read { what } | Misplaced::NoFile { what } => write!(
+                f,
+                ", so {what} can't go there"
+            ),
             Misplaced::Taken { other, what } => write!(f, "{other}, so {what} can't go there"),
             Misplaced::NoCode => f.write_str(", so the code file can't go there"),
             Misplaced::Binding => f.write_str(
@@ -213,9 +224,12 @@ fn check_written<R: Files>(
     path: &str,
     written: &Written,
 ) -> Result<(), PathFault> {
+    if path == "-" {
+        return Err(fault_at(alloc, path, Misplaced::NoFile { what: written.what }));
+    }
     hold(alloc, held, place_of(rt, alloc, path)?, path, written.what)?;
     if written.writing != Writing::Anew {
-        if let Err(why) = check_kind(rt, path) {
+        if let Err(why) = check_kind(rt, path, written.writing) {
             return Err(fault_at(alloc, path, why));
         }
     }
@@ -289,8 +303,11 @@ fn check_free(held: &[Held], place: &Place, what: &'static str) -> Result<(), Mi
 ///
 /// # Errors
 ///
-/// A directory or a device is there, or no folder for it.
-fn check_kind<R: Files>(rt: &R, path: &str) -> Result<(), Misplaced> {
+/// A directory or a device is there, or a link that a file would replace, or no folder for it.
+fn check_kind<R: Files>(rt: &R, path: &str, writing: Writing) -> Result<(), Misplaced> {
+    if writing != Writing::Behind && is_link(rt, path) {
+        return Err(Misplaced::Link);
+    }
     match rt.metadata(path) {
         Ok(there) if there.is_file() => Ok(()),
         Ok(there) if there.is_dir() => Err(Misplaced::Directory),
@@ -298,6 +315,14 @@ fn check_kind<R: Files>(rt: &R, path: &str) -> Result<(), Misplaced> {
         Err(_) if is_missing(rt, folder_of(path)) => Err(Misplaced::NoFolder),
         // Whatever else it is, it is tried again.
         Err(_) => Ok(()),
+    }
+}
+
+/// Whether a link is at a path.
+fn is_link<R: Files>(rt: &R, path: &str) -> bool {
+    match rt.symlink_metadata(path) {
+        Ok(there) => there.is_symlink(),
+        Err(_) => false,
     }
 }
 

@@ -145,7 +145,7 @@ fn serve_keep<S: Storage>(
             date: storage.seconds(),
             moment: history.moment,
         };
-        let bytes = keeper.bytes(alloc, at, history.follower.plant());
+        let bytes = keeper.bytes(alloc, at, history.follower.plant(), at_once);
         try_page(alloc, storage, page, history.moment, bytes.ok());
     }
 }

@@ -5,6 +5,7 @@ use crate::follower::Follower;
 use crate::levels::Levels;
 use crate::log_lines::{EventWords, Stamp};
 use crate::record::Record;
+use crate::seen::SeenValues;
 use crate::unsorted::Told;
 use ilcompile::Setup;
 use jiff::Timestamp;
@@ -27,8 +28,8 @@ pub(crate) struct History {
     /// The milliseconds of the last tick; before the first the moment at which the clock begins.
     pub(crate) moment: u64,
     pub(crate) record: Option<Record>,
-    /// Whether lines of its events are wanted.
-    is_logged: bool,
+    /// The values of its global variables, where lines of its events are wanted.
+    seen: Option<SeenValues>,
 }
 
 impl History {
@@ -48,6 +49,10 @@ impl History {
     ) -> Result<History, AllocError> {
         let levels = Levels::new(alloc, setup.plan())?;
         let counts = Counts::new(alloc, setup.plan())?;
+        let seen = match is_logged {
+            true => Some(SeenValues::new(alloc, setup.plan())?),
+            false => None,
+        };
         let Ok(follower) = Follower::open(alloc, setup, workers) else {
             return Err(AllocError);
         };
@@ -60,7 +65,7 @@ impl History {
             waiting: Vec::new(alloc),
             moment: begins,
             record,
-            is_logged,
+            seen,
         })
     }
 
@@ -113,16 +118,28 @@ impl History {
         if let Some(record) = &mut self.record {
             record.note(&event.happened)?;
         }
-        if self.is_logged {
-            self.write_event(event, date, lines)?;
+        let has_changed = self.see();
+        if self.seen.is_some() {
+            self.write_event(event, has_changed, date, lines)?;
         }
         Ok(())
     }
 
-    /// Writes the lines of an event.
+    /// Notes the values of the global variables, where lines of events are wanted. Answers whether
+    /// one was another before.
+    fn see(&mut self) -> bool {
+        match &mut self.seen {
+            Some(seen) => seen.note(self.follower.plant()),
+            None => false,
+        }
+    }
+
+    /// Writes the lines of an event. Of a tick and of a Take there is none, and of a scan only where
+    /// it changed a global variable.
     fn write_event(
         &mut self,
         event: &Told,
+        has_changed: bool,
         date: Timestamp,
         lines: &mut Vec<u8>,
     ) -> io::Result<()> {
@@ -136,7 +153,14 @@ impl History {
             plan: plant.setup().plan(),
             happened: &event.happened,
         };
-        writeln!(lines, "{stamp} {words}")?;
+        let has_line = match event.happened {
+            Happened::Ticked { .. } | Happened::Took { .. } => false,
+            Happened::Committed { .. } => has_changed,
+            _ => true,
+        };
+        if has_line {
+            writeln!(lines, "{stamp} {words}")?;
+        }
         match event.happened {
             Happened::Committed { .. } | Happened::Heard { .. } => {
                 self.counts.write(lines, &stamp, plant)

@@ -6,6 +6,7 @@ ghost use Rattle.limits.specs.Limits.{most_bytes};
 ghost use Rattle.ilplan.specs.Beginnings.{HasEach};
 ghost use Rattle.livekeep.specs.Printed.{printed_file};
 
+use ilblocks::{BlockKind, BlockState};
 use ilplan::TaskState;
 use iltypes::Value;
 use limits::MOST_BYTES;
@@ -36,7 +37,8 @@ impl Keeper {
     }
 
     /// The file of the values that a plant has at this date and moment. Where none changed since
-    /// they were kept, within the last hour, it is the file of then.
+    /// they were kept, within the last hour, and no TON counts time meanwhile, it is the file of
+    /// then; but not where it is the last one.
     ///
     /// # Errors
     ///
@@ -46,14 +48,45 @@ impl Keeper {
         alloc: Global,
         at: KeptAt,
         plant: &Plant,
+        is_last: bool,
     ) -> io::Result<Vec<u8>> {
         let values = values_of(alloc, plant)?;
-        if !is_within_hour(self.at.date, at.date) || !are_same(&self.values, &values) {
+        if is_last
+            || !is_within_hour(self.at.date, at.date)
+            || !are_same(&self.values, &values)
+            || counts_time(alloc, plant)?
+        {
             self.at = at;
             self.values = values;
         }
         kept_bytes(alloc, self.at, &self.values)
     }
+}
+
+/// Whether a TON of a plant counts time: what it keeps stays the same until its next call, while
+/// the moment goes on.
+///
+/// # Errors
+///
+/// The allocator is out of memory.
+fn counts_time(alloc: Global, plant: &Plant) -> io::Result<bool> {
+    let plan = plant.setup().plan();
+    for task in 0..plan.tasks() {
+        let state = plant.task_state(alloc, task)?;
+        for (block, kept) in plan.task(task).blocks().iter().zip(state.blocks()) {
+            if matches!(block.kind, BlockKind::Ton) && is_counting(kept) {
+                return Ok(true);
+            }
+        }
+    }
+    Ok(false)
+}
+
+/// Whether a TON counts time: IN was TRUE at its last call, and Q is not.
+fn is_counting(ton: &BlockState) -> bool {
+    /// The place of Q among its ports.
+    const Q: usize = 2;
+    ton.before() && !matches!(ton.ports().get(Q), Some(Value::Bool(true)))
 }
 
 /// Whether a date, in seconds, is one of the hour up to another one.

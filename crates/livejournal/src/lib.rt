@@ -30,6 +30,7 @@ mod opening;
 mod page;
 mod pages;
 mod record;
+mod seen;
 mod status;
 mod storage;
 mod told;

@@ -25,7 +25,8 @@ impl fmt::Display for Stamp {
     }
 }
 
-/// An event in words, behind `! ` where something went wrong, or is right again.
+/// An event in words, behind `! ` where something went wrong, or is right again. A tick and a Take
+/// have no words.
 #[derive(Clone, Copy)]
 pub(crate) struct EventWords<'e> {
     pub(crate) plan: &'e Plan,
@@ -35,12 +36,9 @@ pub(crate) struct EventWords<'e> {
 impl fmt::Display for EventWords<'_> {
     fn fmt<W: fmt::Write>(&self, f: &mut fmt::Formatter<W>) -> fmt::Result {
         match self.happened {
-            Happened::Ticked { .. } => write!(f, "tick"),
+            Happened::Ticked { .. } | Happened::Took { .. } => Ok(()),
             Happened::Heard { bus, frame } => {
                 write!(f, "heard bus {bus}: {} ({frame})", HeardWords(*frame))
-            }
-            Happened::Took { worker, task } => {
-                write!(f, "take {} worker {worker}", task_name(self.plan, *task))
             }
             Happened::Committed { task, steps, .. } => {
                 write!(f, "commit {} steps {steps}", task_name(self.plan, *task))

@@ -1,6 +1,6 @@
 //! What is done before a record is written for the first time.
 
-use crate::record::KEPT_LINE;
+use crate::record::{END_AT_UP, KEPT_LINE};
 use crate::storage::{Care, Storage};
 use std::alloc::{AllocError, Global};
 use std::io;
@@ -62,7 +62,8 @@ fn copy_of(alloc: Global, bytes: &[u8]) -> Result<Vec<u8>, AllocError> {
     Ok(copy)
 }
 
-/// Gives the file at a path the name FILE.old, unless it is a record of no event. The kept values
+/// Gives the file at a path the name FILE.old, unless it is a record to which nothing came. The
+/// kept values
 /// with which it begins go with it.
 ///
 /// # Errors
@@ -94,8 +95,8 @@ fn put_kept_aside<S: Storage>(alloc: Global, storage: &S, path: &str) -> io::Res
     }
 }
 
-/// Whether these are the bytes of a record of no event: it has gear and ticks, and may say that it
-/// begins with kept values.
+/// Whether these are the bytes of a record to which nothing came: it has gear, ticks and lines that
+/// were away, and may say that it begins with kept values.
 fn is_uneventful(bytes: &[u8]) -> bool {
     match str::from_utf8(bytes) {
         Ok(text) => text.lines().all(is_quiet_line),
@@ -103,9 +104,14 @@ fn is_uneventful(bytes: &[u8]) -> bool {
     }
 }
 
-/// Whether a line of a record is of no event.
+/// Whether a line of a record is of nothing that came: that a line is away, or is back, is none.
 fn is_quiet_line(line: &str) -> bool {
-    line.starts_with("gear ") || line.starts_with("tick ") || line == KEPT_LINE
+    line.starts_with("gear ")
+        || line.starts_with("tick ")
+        || line.starts_with("hearfault ")
+        || (line.starts_with("reply ") && line.ends_with(" fault"))
+        || line.ends_with(END_AT_UP)
+        || line == KEPT_LINE
 }
 
 /// Whether these are the bytes of a record that begins with kept values.

@@ -15,6 +15,9 @@ use std::io::Write;
 pub(crate) const KEPT_LINE: &str = "# this FILE begins with the values that FILE.keep keeps: \
     dalictl play TEXT BIND FILE --keep FILE.keep";
 
+/// How the last line of a record ends where a bus came up again.
+pub(crate) const END_AT_UP: &str = " came up again, and the record ends here";
+
 /// What is known of a bus.
 #[derive(Drop)]
 struct BusRecord {
@@ -159,10 +162,7 @@ impl Record {
             self.write_tick()?;
         }
         if self.has_room() {
-            writeln!(
-                self.body,
-                "# bus {bus} came up again, and the record ends here"
-            )?;
+            writeln!(self.body, "# bus {bus}{END_AT_UP}")?;
             self.end = Some(RecordEnd::CameUp);
         }
         Ok(())

@@ -1,6 +1,6 @@
 //! A building before it runs: its lines, its clock, and what stands against it.
 
-ghost use Rattle.std.specs.Prelude.{◌≡◌, ◌<◌, All, IfOk, IfSome, OnOk, Some, codes, false};
+ghost use Rattle.std.specs.Prelude.{◌≡◌, ◌<◌, All, IfOk, IfSome, None, OnOk, Some, codes, false};
 ghost use Rattle.std.specs.Prelude.{option_map, slice_get};
 ghost use Rattle.std.specs.Arc.{arc_value};
 ghost use Rattle.std.specs.List.{Contains};
@@ -125,5 +125,23 @@ pub fn low_limit_is_no_bad_count<'a, S: Site>(
     matches!(
         open(alloc, site, setup, lines, options, 0),
         Err(LiveStop::Start(StartFault::Plant(OpenFault::BadCount)))
+    )
+}
+
+/// `a_building_is_over_before_it_begins`: a building did not begin, and the program ended as if all
+/// were well, though no file was to end it.
+pub fn building_that_no_file_ends_is_not_over<'a, S: Site>(
+    alloc: Global,
+    site: &S,
+    setup: Setup,
+    lines: &[LineWord<'a>],
+    options: &LiveOptions,
+) -> bool
+    requires { options.now.stop ≡ None }
+    ensures { result ≡ false }
+{
+    matches!(
+        open(alloc, site, setup, lines, options, 0),
+        Err(LiveStop::Ended)
     )
 }

@@ -140,6 +140,12 @@ impl RowsDisk {
         Ok(())
     }
 
+    /// Whether a file lies below this path.
+    fn is_folder(&self, path: &str) -> io::Result<bool> {
+        let left = self.left()?;
+        Ok(left.files.iter().any(|file| is_below(file, path)))
+    }
+
     /// The bytes of the file at a path, none where it is not there.
     fn read_or_none(&self, path: &str) -> Vec<u8> {
         match self.read(path) {
@@ -155,6 +161,14 @@ impl RowsDisk {
         let size = file.len() as u64;
         self.put(path, file)?;
         Ok(size)
+    }
+}
+
+/// Whether a file lies below this path.
+fn is_below(file: &StoredFile, path: &str) -> bool {
+    match file.path.as_str().strip_prefix(path) {
+        Some(rest) => rest.starts_with('/'),
+        None => false,
     }
 }
 
@@ -194,6 +208,9 @@ impl<S> Storage for RowsSite<'_, S> {
     }
 
     fn rename(&self, from: &str, to: &str) -> io::Result<()> {
+        if self.disk.is_folder(to)? {
+            return Err(io::Error::from(ErrorKind::IsADirectory));
+        }
         let bytes = self.disk.read(from)?;
         self.disk.put(to, bytes)?;
         remove(&mut self.disk.left()?.files, from);

@@ -19,7 +19,8 @@ use std::sync::Arc;
 /// scenario, a file of the row, and all that comes on it has come. Any other line gives the answers
 /// of the file of the row at the path that is read; where the row has none it is not there. The
 /// clock is that of the host, which has no moment but the first where the file that ends it is
-/// named `once`. What is written beside a building goes to the row's disk.
+/// named `once`, and cannot be read where that is named `unread`. What is written beside a building
+/// goes to the row's disk.
 #[derive(Clone, Copy)]
 pub struct RowsSite<'a, S> {
     pub host: &'a S,
@@ -73,6 +74,7 @@ impl<'r, S: Site> Site for RowsSite<'r, S> {
     ) -> Result<Self::Clock, SiteFault> {
         let End { until, stop, watch } = end;
         let (period, until) = match stop {
+            Some("unread") => return Err(SiteFault::Failed),
             Some("once") => (NonZeroU64::MIN, begins),
             _ => (period, until),
         };

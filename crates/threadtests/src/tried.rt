@@ -1,7 +1,9 @@
-//! What is written beside a building over 300 ticks, 30 seconds, by a storage that is away for some
-//! of them, and whose date may be set back: how often each file is tried, and what it took.
+//! What is written beside a building over 300 ticks, 30 seconds, with a frame before each, by a
+//! storage that is away for some of them, and whose date may be set back: how often each file is
+//! tried, and what it took.
 
 use crate::house::House;
+use daliframe::Frame24;
 use livejournal::{BuildingObserver, Care, Storage};
 use options::Beside;
 use plantdriving::Happened;
@@ -12,7 +14,7 @@ use std::io::ErrorKind;
 use std::sync::{Mutex, Wait};
 use std::test::Fail;
 
-/// A house to which only ticks come.
+/// A house to which ticks come, and a frame before each that starts nothing.
 const HOUSE: House = House {
     buses: 1,
     tasks: 1,
@@ -22,6 +24,9 @@ const HOUSE: House = House {
 };
 
 const TICKS: u64 = 300;
+
+/// A frame that is no event message.
+const FRAME: u32 = 0xFFFE00;
 
 /// The date at the start, in seconds since the beginning of 1970.
 const DATE: u64 = 1_795_815_310;
@@ -91,7 +96,7 @@ const ROWS: [Row; 4] = [
             log: (300, 300),
             status: (31, 31),
             keep: (4, 4),
-            record: (1, 1),
+            record: (2, 2),
             lines: 300,
             renamed: 9,
             failing: 0,
@@ -106,8 +111,8 @@ const ROWS: [Row; 4] = [
         outcome: Outcome {
             log: (201, 200),
             status: (31, 21),
-            keep: (1, 1),
-            record: (1, 1),
+            keep: (2, 2),
+            record: (2, 2),
             lines: 300,
             renamed: 9,
             failing: 2,
@@ -122,7 +127,7 @@ const ROWS: [Row; 4] = [
         outcome: Outcome {
             log: (200, 200),
             status: (31, 21),
-            keep: (2, 1),
+            keep: (3, 2),
             record: (2, 1),
             lines: 300,
             renamed: 9,
@@ -287,9 +292,11 @@ fn outcome_of<R: Wait + Sync>(rt: &R, alloc: Global, row: &Row) -> Result<Outcom
     else {
         return Err(Fail::new("memory"));
     };
+    let frame = Frame24::new(FRAME).ok_or("a frame")?;
     for tick in 0..TICKS {
         counting.set_away(row.from <= tick && tick < row.until);
-        observer.after(tick, Happened::Ticked { moment: tick * 100 });
+        observer.after(tick * 2, Happened::Heard { bus: 0, frame });
+        observer.after(tick * 2 + 1, Happened::Ticked { moment: tick * 100 });
     }
     counting.set_away(row.until > TICKS);
     observer.finish();
