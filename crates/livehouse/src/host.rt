@@ -139,7 +139,10 @@ where
             path,
             watch,
         };
-        LiveClock::new(self.rt, period, begins, until, stop).map_err(|_| SiteFault::Failed)
+        match LiveClock::new(self.rt, period, begins, until, stop) {
+            Ok(clock) => Ok(clock),
+            Err(_) => Err(SiteFault::Failed),
+        }
     }
 }
 
