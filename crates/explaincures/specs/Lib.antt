@@ -1,2 +1,3 @@
 pub mod LeavingOut
+pub mod Nearest
 pub mod Trying

@@ -32,7 +32,7 @@ pub use leaving_out::{in_place_of_sign, left_out};
 pub use marking::{
     first_column, line_number, line_of, shown_text, write_found, write_line, write_place,
 };
-pub use nearest::{is_near, near_word};
+pub use nearest::{is_near, meant_instruction, near_word};
 pub use possible::{Possible, list_words};
 pub use spots::{Spot, content_len, part, place_of};
 pub use surroundings::{OpenConstruct, Surroundings};

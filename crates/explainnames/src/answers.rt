@@ -8,7 +8,7 @@ use crate::standing::FaultPlace;
 use crate::tokens::{Role, next_same, token_at};
 use explaincures::{
     Advice, Edit, EditOutcome, Example, FaultAnswer, Side, is_near, line_number, line_of,
-    near_word, shown_text,
+    meant_instruction, near_word, shown_text,
 };
 use iltokens::What;
 use std::alloc::AllocError;
@@ -62,7 +62,12 @@ impl FaultPlace<'_, '_> {
             let Some(one) = self.slot(said, name, number, &mut at) else {
                 return Ok(());
             };
-            text.push_str(if number > 0 { ", " } else { "" })?;
+            let is_last = name == 'm' && self.meant_at(number.saturating_add(1)).is_none();
+            text.push_str(match number {
+                0 => "",
+                _ if is_last => " or ",
+                _ => ", ",
+            })?;
             self.push(text, one)?;
         }
         Ok(())
@@ -71,8 +76,8 @@ impl FaultPlace<'_, '_> {
     /// What stands for a slot: `{0}` to `{2}`, `{l}` and `{g}` as said; `{b}` is how many buses
     /// there are, `{z}` the last of them, and `{c}` how many inputs the function has. Or what
     /// stands at a number of a list: `{p}` has the ports of the block whose port is meant, `{i}`
-    /// the inputs of the function, `{e}` the sources, and `{s}` the lines that store to the
-    /// variable, which are looked for from a place on.
+    /// the inputs of the function, `{e}` the sources, `{m}` the instructions that may be meant, and
+    /// `{s}` the lines that store to the variable, which are looked for from a place on.
     fn slot(&self, said: &Said, name: char, number: usize, at: &mut usize) -> Option<Slot> {
         let [first, second, third] = said.slots;
         let buses = u64::from(self.asked.binding.buses());
@@ -84,6 +89,7 @@ impl FaultPlace<'_, '_> {
             }
             'i' => Some(Slot::of(self.inputs().get(number)?.name)),
             'e' if number < MOST_TOLD => self.source(number, 0),
+            'm' => Some(Slot::Word(self.meant_at(number)?)),
             's' if number < MOST_TOLD => {
                 let found = next_same(&self.spot, *at, Role::Stored)?;
                 *at = found.to;
@@ -100,6 +106,11 @@ impl FaultPlace<'_, '_> {
             'c' => Some(Slot::Number(self.inputs().len() as u64)),
             _ => None,
         }
+    }
+
+    /// The instruction of this number that may be meant by what was found.
+    fn meant_at(&self, number: usize) -> Option<&'static str> {
+        meant_instruction(self.spot.token(), number)
     }
 
     /// Adds what stands there in place of a slot: a number, and then bytes.

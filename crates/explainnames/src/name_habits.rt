@@ -31,7 +31,7 @@ const TYPES: &[Row] = habits! {
     "f_trig", "" => "there is no F_TRIG, a falling edge";
         "hand the opposite of the input to an R_TRIG";
         "LDN button\nST release.CLK\nCAL release";
-    "timer,s5time", "se,sd,sa,sf" => "a timer as other languages have it";
+    "timer,s5time", "se,sd,sa,sf,sv,si,sp" => "a timer as other languages have it";
         "a timer is an instance of TON, which CAL calls: its Q is TRUE once IN has been\n\
             TRUE for PT";
         "VAR rest : TON; END_VAR\nCAL rest(IN := pressed, PT := T#3m)\nLD rest.Q";
@@ -77,6 +77,9 @@ const STATEMENTS: &[Row] = habits! {
         "nothing stands for a rotation; for a shift alone, one bit to the left is MUL 2,\n\
             one to the right is DIV 2";
         "LD n\nMUL 2";
+    "", "len,left,right,mid,concat,insert,delete,replace,find" => "there are no texts";
+        "what works on texts elsewhere is not there: give each state a number";
+        "VAR state : USINT (0..3); END_VAR";
     "", "rem" => "a comment as other languages have it";
         "a comment begins with (* and ends with *)";
         "(* the stairs *)";
@@ -97,6 +100,9 @@ const INSTRUCTIONS: &[Row] = habits! {
         "CAL calls a block instance; a line that calls a function begins with its\n\
             name, and the current result is the first argument";
         "CAL rest(PT := T#3m)\nLD level\nhalf";
+    "", "les" => "no instruction of this language";
+        "do you mean LT, which is less, or LE, which is less or equal?";
+        "LD level\nLT 5";
     "", "inc,dec" => "there is no INC and no DEC";
         "load the number, add 1 or take it off, and store it; MIN and MAX keep it\n\
             within its range";
@@ -113,7 +119,7 @@ const INSTRUCTIONS: &[Row] = habits! {
     "", "sn,rn" => "S and R have no form with N";
         "they act where the result is TRUE: write NOT on a line of its own before them";
         "LD button\nNOT\nS light";
-    "", "cmp,cp,jz,jnz,je,jne,jg,jl,jge,jle,jmpz,jmpnz,beq,bne,bz,bnz" =>
+    "", "cmp,cp,jz,jnz,je,jne,jg,jl,jge,jle,jp,jm,jn,jo,jmpz,jmpnz,beq,bne,bz,bnz" =>
         "a comparison as machines have it";
         "EQ, NE, GT, GE, LE and LT compare, and leave TRUE or FALSE, which JMPC and\n\
             JMPCN look at";

@@ -5,7 +5,7 @@ use crate::name_habits::{is_among, name_habit};
 use crate::said::{Change, Row, Said, Slot, advice};
 use crate::standing::{FaultPlace, lines_at};
 use crate::tokens::{Token, token_at, type_behind};
-use explaincures::{Spot, content_len, part};
+use explaincures::{Spot, content_len, meant_instruction, near_word, part};
 use ilsource::{Declared, Name, Purpose, Specification};
 use iltokens::Keyword;
 
@@ -59,6 +59,17 @@ fn unknown(place: &FaultPlace) -> Row {
                 "TASK clock (INTERVAL := T#100ms, PRIORITY := 1);\n\
                     PROGRAM hall WITH clock : light;")
         }
+        (Some(Purpose::Invoke), _) if is_conditional(place.spot.token()) => {
+            advice!("no instruction, and no function that is declared above";
+                "do you mean {m}? with C behind its word it is carried out\n\
+                    where the result is TRUE, with CN where it is FALSE, and else always";
+                "LD button\nJMPCN below\nLD 200\nST lamp\nbelow: LD level")
+        }
+        (Some(Purpose::Invoke), _) if instruction_asked(place.spot.token()).is_some() => {
+            advice!("no instruction, and no function that is declared above";
+                "do you mean {m}? else declare the function above the line that calls it";
+                "LD level\nSUB 5\nST level")
+        }
         (Some(Purpose::Invoke), _) => {
             advice!("no instruction, and no function that is declared above";
                 "correct the name, or declare the function above the line that calls it; no\n\
@@ -84,6 +95,25 @@ fn unknown(place: &FaultPlace) -> Row {
             "correct the name, or declare it in this program: its own variables in\n\
                 VAR, those of the configuration in VAR_EXTERNAL";
             "VAR_EXTERNAL lamp : USINT (0..254); END_VAR"),
+    }
+}
+
+/// The first instruction that may be meant by what was found, where none is plainly meant.
+fn instruction_asked(found: &[u8]) -> Option<&'static str> {
+    match near_word(found) {
+        Some(_) => None,
+        None => meant_instruction(found, 0),
+    }
+}
+
+/// Whether that has forms with C and CN.
+fn is_conditional(found: &[u8]) -> bool {
+    match instruction_asked(found) {
+        Some(word) => is_among(
+            "JMP,JMPC,JMPCN,CAL,CALC,CALCN,RET,RETC,RETCN",
+            word.as_bytes(),
+        ),
+        None => false,
     }
 }
 

@@ -1,7 +1,8 @@
 //! What a word is by itself.
 
 use crate::bytes::{byte_at, digits_len, is_digits, last_of};
-use explaincures::{is_one_of, near_word, part};
+use crate::standing::CALLS;
+use explaincures::{is_one_of, meant_instruction, near_word, part};
 use iltokens::{Lexed, What, keyword_of, token};
 
 /// What a word may be.
@@ -32,6 +33,8 @@ pub(crate) enum Kind {
     Function,
     /// It is near to a word of the language.
     Near,
+    /// CAL, CALC or CALCN may be meant by it, and none is plainly meant.
+    Calling,
 }
 
 /// Whether a word is of a kind.
@@ -50,6 +53,7 @@ pub(crate) fn is_kind(word: &[u8], kind: Kind) -> bool {
         Kind::End => is_reserved(word) && part(word, 0, 4).eq_ignore_ascii_case(b"END_"),
         Kind::Function => is_reserved(word) && is_function(word),
         Kind::Near => near_word(word).is_some(),
+        Kind::Calling => near_word(word).is_none() && is_calling(word),
         Kind::Name => is_name(word),
         Kind::Other => !is_name(word),
         Kind::Time | Kind::Amount | Kind::Constant | Kind::Address => is_literal(word, kind),
@@ -77,6 +81,14 @@ fn what_of(word: &[u8]) -> Option<What> {
 /// Whether a word is a name.
 pub(crate) fn is_name(word: &[u8]) -> bool {
     matches!(what_of(word), Some(What::Name))
+}
+
+/// Whether a word may be meant that calls a block.
+fn is_calling(word: &[u8]) -> bool {
+    match meant_instruction(word, 0) {
+        Some(meant) => is_one_of(meant.as_bytes(), CALLS),
+        None => false,
+    }
 }
 
 /// Whether a word is reserved.

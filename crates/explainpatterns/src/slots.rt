@@ -11,7 +11,8 @@ use explaincures::{Spot, is_one_of, near_word, part};
 const KINDS: &[(&str, Kind)] = names! { Kind: "name" Name, "other" Other, "word" Word,
     "number" Number, "digit" Digit, "signed" Signed, "dotted" Dotted, "group" Group,
     "thousands" Thousands, "time" Time, "amount" Amount, "constant" Constant, "address" Address,
-    "operand" Operand, "end" End, "function" Function, "near" Near };
+    "operand" Operand, "end" End, "function" Function, "near" Near,
+    "calling" Calling };
 
 /// Slots for a word, by what stands around it.
 const AROUND: &[(&str, Around)] = names! { Around: "called" Called, "ported" Ported,

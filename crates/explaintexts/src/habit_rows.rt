@@ -44,7 +44,7 @@ pub(crate) const TRUTH_SIGN: Row = advice!("a sign that is not an operator";
     "operators are words: AND, OR, XOR and NOT combine truth values";
     "OR button");
 
-const UNIT: Row = advice!("a time without T# before it";
+pub(crate) const UNIT: Row = advice!("a time without T# before it";
     "a time begins with T#";
     "T#100ms");
 

@@ -1,11 +1,11 @@
-//! What is nearly right: a sign too many, apart or in another place, a time or an address in two
-//! words, or an expression where one operand stands; and what Siemens' lists have.
+//! What is nearly right: a sign or a word too many, apart or in another place, a time or an address
+//! in two words, or an expression where one operand stands; and what Siemens' lists have.
 
 use crate::habit::{Habit, habits};
-use crate::habit_rows::{LOGIC_SIGN, NESTED_COMMENT, TRUTH_SIGN};
+use crate::habit_rows::{LOGIC_SIGN, NESTED_COMMENT, TRUTH_SIGN, UNIT};
 use crate::said::advice;
 
-/// What is nearly right in comments, times, declarations and addresses.
+/// What is nearly right in comments, times, definitions, declarations and addresses.
 const DECLARED: &[Habit] = habits! {
     NESTED_COMMENT => Anywhere "^ {opens} {opens} {closes} *) {closes}" Nothing;
     advice!("a unit that times do not have"; "the units are d, h, m, s and ms"; "T#1m30s") =>
@@ -16,6 +16,20 @@ const DECLARED: &[Habit] = habits! {
         "T#2s500ms") => Anywhere "< {time} ~@ {digit}" Nothing;
     advice!("a time without its #"; "a time begins with T#"; "") =>
         Anywhere "< {} ~@ [ = ] ~{digit}" ["t time"] Put("#");
+    UNIT =>
+        Call "^ {} {name} ( pt := * [ ] {digits} ~@ h" ["cal calc calcn"] Put("T#"),
+        Call "^ {} {name} ( {front} , pt := * [ ] {digits} ~@ h" ["cal calc calcn"] Put("T#"),
+        Variables "^ var? {name} : time := * [ ] {digits} ~@ h" Put("T#"),
+        Anywhere "^ task {name} ( interval := * [ ] {digits} ~@ h" Put("T#");
+    advice!("a number with an h behind it";
+        "hexadecimal digits stand behind 16#, and hours behind T#: 16#{0} or T#{0}h";
+        "LD 16#C8") => Anywhere "# {digits} ~@ h" Nothing;
+    advice!("a definition as C has it";
+        "a value with a name is a variable with a first value, to which nothing stores";
+        "VAR full : USINT := 254; END_VAR") => Anywhere "@ {} _" ["#define"] Nothing;
+    advice!("a line as compilers of C read it";
+        "there are none: a text is one file, and each line of it counts";
+        "PROGRAM stairs") => Anywhere "@ {} _" ["#include #ifdef #ifndef #undef"] Nothing;
     advice!("a comma with no name behind it";
         "a comma stands between two names";
         "lamp, lamp2 : USINT (0..254);") => Declared "<< [ , ] @ :" Put("");
@@ -46,6 +60,15 @@ const INSTRUCTIONS: &[Habit] = habits! {
         "labels stand outside parentheses alone: leave it out, or write it above the line\n\
             with the (";
         "below: LD lux\nADD( lamp\nMUL 2\n)") => Inside "^ {word} @ :" Nothing;
+    advice!("a word before a label";
+        "a label is a name alone, first on its line, with a colon behind it";
+        "below: LD lamp") =>
+        Body "^ [ {} _ ] {name} @ :" ["label"] Put(""), Body "^ {name} {name} ~@ : $" Nothing;
+    advice!("{0} is no word of the language";
+        "do you mean CAL, CALC or CALCN? with C behind its word a call is made\n\
+            where the result is TRUE, with CN where it is FALSE, and else always";
+        "CAL rest(IN := pressed, PT := T#3m)") =>
+        Body "^ {calling} {called} @ (call) (" Nothing;
     advice!("a comma in parentheses";
         "in parentheses each instruction has a line of its own, without commas";
         "LD lux\nADD( lamp\nMUL 2\n)") => Inside "@ ," Nothing;
