@@ -28,6 +28,6 @@ pub use current::constant_of;
 pub use facts::{BlockCall, GlobalSlot, House, TaskFacts, Usage, house_of, place_of};
 pub use levels::{BROADCAST, Driven, FIRST_GROUP, Level, Levels};
 pub use line_starts::LineStarts;
-pub use load::{add_tenths, rate_of, write_load};
+pub use load::{Counted, add_tenths, rate_of, write_load};
 pub use planned::{is_stored, starts_task, uses_function, uses_source};
 pub use reads::Reads;

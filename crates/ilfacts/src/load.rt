@@ -12,6 +12,16 @@ use std::alloc::{AllocError, Global};
 use std::io;
 use std::io::Write;
 
+/// Which of the levels that a task stores count as a frame in each scan.
+#[derive(Clone, Copy)]
+pub enum Counted {
+    /// Each: no more are sent.
+    Stored,
+    /// Those that a cyclic task computes from what its scan before left, so that they may change in
+    /// each scan, whatever comes.
+    Moved,
+}
+
 /// Writes a line for each bus that the tasks may ask for frames: how many in a second by the cyclic
 /// tasks together, and how many for an event by each event task.
 ///
@@ -29,7 +39,7 @@ pub fn write_load<W: Write>(alloc: Global, out: &mut W, setup: &Setup) -> io::Re
 
 /// Adds the line of a bus, where it may be asked for frames.
 fn add_bus(alloc: Global, page: &mut Page, tasks: &[TaskFacts], bus: u8) -> Result<(), AllocError> {
-    let tenths = rate_of(alloc, tasks, bus)?;
+    let tenths = rate_of(alloc, tasks, bus, Counted::Stored)?;
     let mut is_begun = tenths > 0;
     if is_begun {
         begin_part(page, bus, false);
@@ -39,7 +49,7 @@ fn add_bus(alloc: Global, page: &mut Page, tasks: &[TaskFacts], bus: u8) -> Resu
     for facts in tasks {
         let frames = match facts.interval {
             Some(_) => 0,
-            None => asked_of(alloc, facts, bus)?,
+            None => asked_of(alloc, facts, bus, Counted::Stored)?,
         };
         if frames > 0 {
             begin_part(page, bus, is_begun);
@@ -73,16 +83,22 @@ pub fn add_tenths(page: &mut Page, tenths: i64) {
     page.number(tenths % 10);
 }
 
-/// How many tenths of a frame a second the cyclic tasks may ask a bus for together.
+/// How many tenths of a frame a second the cyclic tasks may ask a bus for together, at most, with
+/// these of their levels.
 ///
 /// # Errors
 ///
 /// The allocator is out of memory.
-pub fn rate_of(alloc: Global, tasks: &[TaskFacts], bus: u8) -> Result<i64, AllocError> {
+pub fn rate_of(
+    alloc: Global,
+    tasks: &[TaskFacts],
+    bus: u8,
+    counted: Counted,
+) -> Result<i64, AllocError> {
     let mut tenths: i64 = 0;
     for facts in tasks {
         if facts.interval.is_some() {
-            tenths = tenths.saturating_add(asked_of(alloc, facts, bus)?);
+            tenths = tenths.saturating_add(asked_of(alloc, facts, bus, counted)?);
         }
     }
     Ok(tenths)
@@ -92,9 +108,14 @@ pub fn rate_of(alloc: Global, tasks: &[TaskFacts], bus: u8) -> Result<i64, Alloc
 /// an event task for so many frames for an event. Requests are counted in halves of frames, of
 /// scans one after another: a block that is called once in a scan makes a request in each second
 /// scan at most, since REQ becomes FALSE in between.
-fn asked_of(alloc: Global, facts: &TaskFacts, bus: u8) -> Result<i64, AllocError> {
+fn asked_of(
+    alloc: Global,
+    facts: &TaskFacts,
+    bus: u8,
+    counted: Counted,
+) -> Result<i64, AllocError> {
     let requests = i64::from(most_halves(alloc, facts, bus)?);
-    let levels = i64::from(levels_on(facts, bus));
+    let levels = i64::from(levels_on(facts, bus, counted));
     let Some(interval) = facts.interval else {
         return Ok((requests / 2).saturating_add(levels));
     };
@@ -106,13 +127,15 @@ fn asked_of(alloc: Global, facts: &TaskFacts, bus: u8) -> Result<i64, AllocError
     Ok(all.checked_div(interval).unwrap_or(0))
 }
 
-/// How many levels of a bus a task stores.
-fn levels_on(facts: &TaskFacts, bus: u8) -> u32 {
+/// How many levels of a bus a task stores that count.
+fn levels_on(facts: &TaskFacts, bus: u8, counted: Counted) -> u32 {
     let mut count: u32 = 0;
     for global in &facts.globals {
-        match facts.stored_level(*global) {
-            Some(level) if level.driven.bus == bus => count = count.saturating_add(1),
-            _ => {}
+        if let Some(level) = facts.stored_level(*global) {
+            let is_counted = level.is_moved || matches!(counted, Counted::Stored);
+            if is_counted && level.driven.bus == bus {
+                count = count.saturating_add(1);
+            }
         }
     }
     count

@@ -174,9 +174,13 @@ fn question_of(call: &BlockCall) -> Option<(bool, i64, i64)> {
     Some((is_of_memory, call.port(3)?, call.port(4)?))
 }
 
-/// The note on a command to gear whose level a task stores, where there is one.
+/// The note on a command to gear whose level a task stores, where there is one. One that turns all
+/// gear of a bus off, by the command 0 or the level 0, is meant so.
 pub(crate) fn note_on_command(house: &House, facts: &TaskFacts, call: &BlockCall) -> Option<Note> {
     let driven = commanded_by(call)?;
+    if driven.address == BROADCAST && call.port(3) == Some(0) {
+        return None;
+    }
     let (kind, level) = match house.levels.get(driven) {
         Some(level) => (Kind::CommandToLevel, level),
         None => {

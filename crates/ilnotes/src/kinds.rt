@@ -330,8 +330,8 @@ pub(crate) fn text_of(kind: Kind) -> &'static str {
              class"
         }
         Kind::BusLoad => {
-            "bus-load: the cyclic tasks may ask bus {0} for {1} frames a second; it carries some \
-             40"
+            "bus-load: the requests of the cyclic tasks, and their levels that may change in each \
+             scan, come to at most {1} frames a second on bus {0}; it carries some 40"
         }
         Kind::ScenarioBus => "scenario-bus: the binding has no bus {0}; nothing comes of the line",
         Kind::ScenarioSource => {

@@ -4,7 +4,7 @@
 use crate::kinds::{Kind, Rule};
 use crate::note::{Added, Found, Note, NotePlace, Notes, note_at, note_of};
 use ilblocks::BlockKind;
-use ilfacts::{GlobalSlot, TaskFacts, rate_of};
+use ilfacts::{Counted, GlobalSlot, TaskFacts, rate_of};
 use ilplan::{Location, Plan};
 
 /// How many milliseconds a level takes on a bus, with the pause before it.
@@ -91,10 +91,12 @@ fn has_single_edge(facts: &TaskFacts) -> bool {
 /// How many tenths of a frame a bus carries in a second, with the pauses between frames.
 const MOST_TENTHS: i64 = 400;
 
-/// Adds a note for each bus that the cyclic tasks may ask for more frames than it carries.
+/// Adds a note for each bus that the cyclic tasks may ask for more frames than it carries, by their
+/// requests and by the levels that change from scan to scan. Other levels change when something
+/// happens, and say nothing of how often that is.
 pub(crate) fn add_load_notes(notes: &mut Notes, tasks: &[TaskFacts], buses: u8) -> Added {
     for bus in 0..buses {
-        let tenths = rate_of(notes.alloc, tasks, bus)?;
+        let tenths = rate_of(notes.alloc, tasks, bus, Counted::Moved)?;
         if tenths > MOST_TENTHS {
             let (bus, tenths) = (Found::Number(i64::from(bus)), Found::Tenths(tenths));
             notes.add(
