@@ -38,7 +38,7 @@ END_PROGRAM
 CONFIGURATION house
 VAR_GLOBAL
   pressed AT %IX0.0 : BOOL;             (* the button *)
-  event AT %IW0.128 : UINT (0..1023);    (* what it event last *)
+  event AT %IW0.128 : UINT (0..1023);    (* what it said last *)
   presses : UINT (0..9999);
   lamp AT %QB0.5 : USINT (0..254);
 END_VAR
