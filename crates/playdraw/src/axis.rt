@@ -1,7 +1,8 @@
 //! The axis of a picture: where its columns stand, in pixels or in letters.
 
+use crate::moment::Moment;
+use crate::parts::{Column, Picture};
 use crate::timeline::true_axis;
-use crate::{Column, Moment, Picture};
 use std::alloc::{AllocError, Global};
 
 /// From one column to the next, at least, where each column has the same width, in pixels.

@@ -1,6 +1,6 @@
 //! The kinds of rows, and which rows of a kind are drawn.
 
-use crate::{Kind, Row};
+use crate::parts::{Kind, Row};
 use std::alloc::{AllocError, Global};
 
 /// The kinds, in the order in which they are drawn, with what stands above their rows, and what is

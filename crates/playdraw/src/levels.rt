@@ -1,6 +1,6 @@
 //! What has a level: the rows of lamps, and the levels of control gear.
 
-use crate::Drawing;
+use crate::drawing::Drawing;
 use crate::parts::{Kind, Sign};
 use buslink::{Outcome, Report};
 use daliframe::{Fields16, Frame, ShortAddress};

@@ -1,8 +1,8 @@
 //! The marks of a row where they stand on an axis.
 
 use crate::axis::Axis;
+use crate::parts::{Row, RowMark, Sign};
 use crate::signs::lasting;
-use crate::{Row, RowMark, Sign};
 use std::alloc::{AllocError, Global};
 
 /// What is marked of a row from one place to another.

@@ -1,6 +1,6 @@
 //! What a picture is made of.
 
-use crate::Moment;
+use crate::moment::Moment;
 use crate::signs::lasting;
 use std::alloc::{AllocError, Global};
 

@@ -1,7 +1,7 @@
 //! Parts of a picture, and columns that are drawn as one.
 
+use crate::parts::{Column, Picture, Row, RowMark, Sign};
 use crate::signs::{gravity, lasting};
-use crate::{Column, Picture, Row, RowMark, Sign};
 use std::alloc::{AllocError, Global};
 use std::mem;
 

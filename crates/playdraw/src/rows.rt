@@ -1,7 +1,6 @@
 //! The rows of a picture before anything happened, but for those of lamps.
 
-use crate::Drawing;
-use crate::drawing::sign_of_value;
+use crate::drawing::{Drawing, sign_of_value};
 use crate::parts::Kind;
 use ilplan::{Activation, Location, Plan};
 use std::alloc::{AllocError, Global};

@@ -1,7 +1,7 @@
 //! Where things stand on the sheet of an SVG, in pixels.
 
-use crate::Kind;
 use crate::kinds::Block;
+use crate::parts::Kind;
 
 /// Left and right of all, and below.
 pub(crate) const EDGE: usize = 16;

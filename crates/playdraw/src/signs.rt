@@ -1,6 +1,6 @@
 //! What stands for each kind of mark, on a terminal and in an SVG: tables, a line for each.
 
-use crate::Sign;
+use crate::parts::Sign;
 use std::fmt;
 
 /// A mark that lasts until the next one.

@@ -1,11 +1,11 @@
 //! A picture as SVG.
 
-use crate::Picture;
 use crate::axis::{Axis, place_columns};
 use crate::elements::{fill, write_words};
 use crate::kinds::{Block, blocks_of, widest_of};
 use crate::marks::marks_of;
 use crate::moment::width_of;
+use crate::parts::Picture;
 use crate::sheet::{Base, EDGE, HEADING, LETTER, MOMENTS, NOTE, TOP, place_blocks};
 use crate::svg_rows::write_svg_row;
 use page::Page;

@@ -4,9 +4,9 @@ use crate::axis::{Axis, LEAST_STEP};
 use crate::elements::{begin_words, fill, write_words};
 use crate::marks::Mark;
 use crate::moment::width_of;
+use crate::parts::{Kind, Row, Sign};
 use crate::sheet::{Base, EDGE, LETTER};
 use crate::signs::{beside_of, element_of, gravity, level_of, words_of};
-use crate::{Kind, Row, Sign};
 use page::Page;
 
 /// The place of a row, which ends at a place.

@@ -3,7 +3,8 @@
 //! Places are in thousandths of a pixel, and times in milliseconds.
 
 use crate::axis::Axis;
-use crate::{Column, Moment, Picture};
+use crate::moment::Moment;
+use crate::parts::{Column, Picture};
 use std::alloc::{AllocError, Global};
 
 /// What a time gets that is left out.
