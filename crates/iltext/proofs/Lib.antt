@@ -18,8 +18,8 @@ mod FunctionParts
 mod FunctionTokens
 mod GlobalLaws
 mod Inner
-mod InstructionCounts
 mod InstructionLaws
+mod InstructionCounts
 mod InvocationLaws
 mod Laws
 mod LineEnds
