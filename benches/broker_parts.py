@@ -9,11 +9,11 @@ import socket
 import subprocess
 from typing import Any, DefaultDict, List, Optional
 
-import paho.mqtt.client as paho  # type: ignore[import]
+import paho.mqtt.client as paho
 
 from programs_parts import Bench, wait_for
 
-from mqtt import new_client
+from dalictl_mqtt.broker import new_client
 
 
 class Broker:
@@ -24,9 +24,9 @@ class Broker:
         with socket.socket() as it:
             it.bind(("127.0.0.1", 0))
             self.port = int(it.getsockname()[1])
-        self.path = bench.folder / "mosquitto.conf"
+        self.user, self.path = getpass.getuser(), bench.folder / f"mosquitto{self.port}.conf"
         self.path.write_text(
-            f"listener {self.port} 127.0.0.1\nallow_anonymous true\nuser {getpass.getuser()}\n"
+            f"listener {self.port} 127.0.0.1\nallow_anonymous true\nuser {self.user}\n"
             f"persistence true\npersistence_location {bench.folder}/\n"
         )
 
@@ -51,9 +51,13 @@ class Broker:
 class Home:
     """A client of the broker, as Home Assistant is one: it notes each message."""
 
-    def __init__(self, port: int) -> None:
+    def __init__(self, port: int, user: str = "", password: str = "", certificate: str = "") -> None:
         self.came: DefaultDict[str, List[str]] = collections.defaultdict(list)
         self.client = new_client()
+        if user:
+            self.client.username_pw_set(user, password)
+        if certificate:
+            self.client.tls_set(certificate)
         self.client.on_connect = lambda client, *rest: client.subscribe("#")
         self.client.on_message = self.hear
         self.client.reconnect_delay_set(1, 1)

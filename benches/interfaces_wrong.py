@@ -12,21 +12,23 @@ HERE = os.path.dirname(os.path.dirname(os.path.abspath(__file__)))
 sys.path[:0] = [f"{HERE}/programs", f"{HERE}/examples/interfaces"]
 sys.dont_write_bytecode = True
 from gushewa_line.ends import End  # noqa: E402
-from gushewa_line.line import QUIET, Bus, Events, Interface, answer_to  # noqa: E402
+from gushewa_line.line import LOST, QUIET, Bus, Events, Interface, answer_to  # noqa: E402
 from hardware import Adapter  # noqa: E402
+
+PRESS_SECONDS = 0.3
 
 # An adapter that is none, for the skeleton.
 
 
 class NoAdapter(Adapter):
-    """Answers that gear 63 is there, and hears a button each half second."""
+    """Answers that gear 63 is there, and hears a button three times a second."""
 
     def __init__(self, on_frame: Callable[[int, int], None]) -> None:
         threading.Thread(target=self.press, args=(on_frame,), daemon=True).start()
 
     def press(self, on_frame: Callable[[int, int], None]) -> None:
         while True:
-            time.sleep(0.5)
+            time.sleep(PRESS_SECONDS)
             on_frame(16, 0x0A80)
             on_frame(24, 0x0A8809)
 
@@ -39,7 +41,7 @@ class NoAdapter(Adapter):
 
 
 class PlainBus:
-    """A bus with a button that is pressed ten times a second."""
+    """A bus with a button that is pressed three times a second."""
 
     def __init__(self) -> None:
         self.events, self.next = Events(), 0.0
@@ -48,14 +50,13 @@ class PlainBus:
         return QUIET
 
     def take(self) -> Optional[int]:
-        now = time.monotonic()
-        if now >= self.next:
-            self.next = now + 0.1
-            return 0x0A8809
-        return None
+        if time.monotonic() < self.next:
+            return None
+        self.next += PRESS_SECONDS
+        return 0x0A8809
 
     def forget(self) -> None:
-        self.next = time.monotonic() + 0.1
+        self.next = time.monotonic() + PRESS_SECONDS
 
 
 class Echoing(PlainBus):
@@ -68,6 +69,54 @@ class Echoing(PlainBus):
 
     def take(self) -> Optional[int]:
         return self.events.take()
+
+
+class LateEcho(Echoing):
+    """Hears its own frames a while later."""
+
+    def send(self, bits: int, frame: int, priority: int) -> str:
+        if bits == 24:
+            threading.Timer(0.4, self.events.add, [frame]).start()
+        return QUIET
+
+
+class ShortEcho(Echoing):
+    """Hears its own frames of 16 bits."""
+
+    def send(self, bits: int, frame: int, priority: int) -> str:
+        if bits == 16:
+            self.events.add(frame)
+        return QUIET
+
+
+class Doubling(PlainBus):
+    """Gives each event twice."""
+
+    def __init__(self) -> None:
+        super().__init__()
+        self.again: Optional[int] = None
+
+    def take(self) -> Optional[int]:
+        if self.again is not None:
+            frame, self.again = self.again, None
+            return frame
+        self.again = super().take()
+        return self.again
+
+
+class Losing(PlainBus):
+    """Loses each frame."""
+
+    def send(self, bits: int, frame: int, priority: int) -> str:
+        return LOST
+
+
+class Forgetful(PlainBus):
+    """Keeps two events."""
+
+    def take(self) -> Optional[int]:
+        self.next = max(self.next, time.monotonic() - PRESS_SECONDS)
+        return super().take()
 
 
 class Remembering(PlainBus):
@@ -112,6 +161,47 @@ class Wrong(Interface):
 
     def meet(self, request: str) -> None:
         self.end.write(self.bytes_for(self.bus, request))
+
+
+class Chattering(Interface):
+    """Says `none` where nobody asked for two seconds."""
+
+    def __init__(self, end: End) -> None:
+        super().__init__(PlainBus(), end)
+        self.timer = threading.Timer(2, end.say, ["none"])
+
+    def meet(self, request: str) -> None:
+        self.timer.cancel()
+        super().meet(request)
+        self.timer = threading.Timer(2, self.end.say, ["none"])
+        self.timer.start()
+
+
+class Tiring(Interface):
+    """Ends after sixty answers."""
+
+    def __init__(self, end: End) -> None:
+        super().__init__(PlainBus(), end)
+        self.left = 60
+
+    def meet(self, request: str) -> None:
+        self.left -= 1
+        if self.left < 0:
+            raise SystemExit
+        super().meet(request)
+
+
+class Hurried(Interface):
+    """Answers a greeting at once, and a frame that is under way then behind it."""
+
+    def __init__(self, end: End) -> None:
+        super().__init__(PlainBus(), end)
+
+    def meet(self, request: str) -> None:
+        if request.startswith("send"):
+            threading.Timer(0.03, super().meet, [request]).start()
+        else:
+            super().meet(request)
 
 
 def right(bus: Bus, request: str) -> bytes:
@@ -171,6 +261,20 @@ WRONG: Dict[str, Tuple[Callable[[End], Interface], str]] = {
         lambda end: Wrong(end, whole_line),
         "forgets half a request before it",
     ),
+    "answers a frame behind a greeting": (Hurried, "answers in order"),
+    "hears its own frames later": (
+        lambda end: Interface(LateEcho(), end),
+        "does not hear its own frames",
+    ),
+    "hears its own frames of 16 bits": (
+        lambda end: Interface(ShortEcho(), end),
+        "does not hear its own frames",
+    ),
+    "gives each event twice": (lambda end: Interface(Doubling(), end), "gives each event once"),
+    "loses each frame": (lambda end: Interface(Losing(), end), "loses not each frame"),
+    "keeps two events": (lambda end: Interface(Forgetful(), end), "keeps events"),
+    "says none unasked": (Chattering, "says nothing unasked"),
+    "ends after sixty answers": (Tiring, "answers 300 requests"),
     "answers a greeting twice": (lambda end: Wrong(end, greets_twice), "answers in order"),
     "ends lines by two bytes": (lambda end: Wrong(end, carriage_return), "hears"),
     "says none at all": (lambda end: Wrong(end, padded), "hears"),

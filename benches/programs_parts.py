@@ -15,6 +15,8 @@ from typing import Any, Callable, Iterator, List, Optional
 HERE = pathlib.Path(__file__).resolve().parent.parent
 PROGRAMS, INTERFACES = HERE / "programs", HERE / "examples/interfaces"
 PROGRAM = HERE / "crates/dalictl/out/dalictl"
+TOO_LATE = -1
+SIGNALS = (signal.SIGTERM, signal.SIGINT, signal.SIGHUP)
 sys.path[:0] = [str(PROGRAMS), str(INTERFACES)]
 sys.dont_write_bytecode = True
 
@@ -54,8 +56,12 @@ class Bench:
         return process
 
     def run(self, *words: Any, seconds: float = 60) -> subprocess.CompletedProcess[str]:
-        """A process that ends by itself, with what it printed."""
-        return subprocess.run([str(word) for word in words], capture_output=True, text=True, timeout=seconds)
+        """A process that ends by itself, with what it printed; what takes longer than this time ends with TOO_LATE."""
+        command = [str(word) for word in words]
+        try:
+            return subprocess.run(command, capture_output=True, text=True, timeout=seconds)
+        except subprocess.TimeoutExpired:
+            return subprocess.CompletedProcess(command, TOO_LATE, "", "")
 
     def end(self, process: Optional[subprocess.Popen[str]] = None) -> None:
         """Ends a process that was started, or all of them."""
@@ -66,6 +72,31 @@ class Bench:
             except subprocess.TimeoutExpired:
                 it.kill()
                 it.wait()
+
+
+def look_at_links(bench: Bench, name: str, *words: Any) -> None:
+    """No link of a program stays where a signal ends it; that of another program does."""
+    link = bench.folder / "link"
+    for number in SIGNALS:
+        process = bench.interface(link, name, *words, stderr=subprocess.DEVNULL)
+        process.send_signal(number)
+        bench.same(f"{name} at {number.name}: status", process.wait(10), 0)
+        bench.hold(not os.path.islink(link), f"{name} at {number.name}: its link stays")
+    first = bench.interface(link, name, *words, stderr=subprocess.DEVNULL)
+    second = bench.interface(link, name, *words, stderr=subprocess.DEVNULL)
+    bench.end(first)
+    bench.hold(link.exists(), f"{name}: it takes the link of another program away")
+    bench.end(second)
+    nowhere = bench.run(path_of(name), "--pty", bench.folder / "none" / "link", *words)
+    bench.same(f"{name}: a folder that is not there", nowhere.returncode, 1)
+    bench.same(f"{name}: how many lines it says then", nowhere.stderr.count("\n"), 1)
+
+
+def look_at_package(bench: Bench, package: str, *words: Any) -> None:
+    """Without a package of Debian a program says which one it needs, in one line."""
+    done = bench.run("/usr/bin/python3", "-S", *words)
+    bench.same(f"without {package}", [done.returncode, done.stderr.count("\n")], [1, 1])
+    bench.hold(f"apt install {package}" in done.stderr, f"without {package}: it says {done.stderr!r}")
 
 
 def wait_for(holds: Callable[[], Any], seconds: float = 10.0) -> bool:

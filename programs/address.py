@@ -23,7 +23,7 @@ The picture has a cell for each short address from 0 to 63: `.` free, `o` taken,
 more than one gear.
 
 The exit status is 0 where all was done, 1 where it was refused or gear is left without an address,
-and 3 where the line did not come back.
+and 3 where the line did not come back, 20 attempts in a row failed, or the bus is disturbed.
 """
 
 from __future__ import annotations
@@ -204,7 +204,7 @@ def main() -> None:
         picture.note(f"refused: {refusal}")
         sys.exit(1)
     except (Gone, LineFailed) as failure:
-        picture.note(f"the line did not come back: {failure}")
+        picture.note(f"given up: {failure}")
         sys.exit(3)
     except KeyboardInterrupt:
         picture.note("ended by hand: start it again, and it goes on with what has no address yet")

@@ -16,7 +16,7 @@ Exactly one space stands between words, numbers are decimal, and a line feed end
                            (0 to 1023)
 
 The binding has an event as `source B.K device-instance S I`. Any other line is reported on standard
-error, and does nothing. At the end of standard input no more events come, and levels still go out.
+error, and does nothing; of one with more than 64 bytes no more are kept. At the end of standard input no more events come, and levels still go out.
 Where nobody reads standard output any more, the bus fails.
 
 KNX, BACnet or a page need a program that has these lines on one side. None is here, and none was
@@ -30,11 +30,13 @@ import os
 import re
 import sys
 import threading
+from typing import IO, Iterator
 
-from gushewa_line.ends import FifoEnd, PtyEnd
 from gushewa_line.gateway import Gateway, device_event, name_of
-from gushewa_line.line import Fault, serve
+from gushewa_line.line import Fault
+from gushewa_line.program import add_ends, report, run
 
+MOST_BYTES = 64
 EVENT = re.compile(r"event ([0-9]{1,2}) ([0-9]{1,2}) ([0-9]{1,4})")
 
 
@@ -44,6 +46,15 @@ def say(line: str) -> None:
         print(line, flush=True)
     except OSError as error:
         raise Fault from error
+
+
+def lines_of(stream: IO[bytes]) -> Iterator[bytes]:
+    """Each line without its line feed. Of a longer one than any event has, its first bytes."""
+    while line := stream.readline(MOST_BYTES):
+        more = line
+        while len(more) == MOST_BYTES and not more.endswith(b"\n"):
+            more = stream.readline(MOST_BYTES)
+        yield line.removesuffix(b"\n")
 
 
 class Bridge(Gateway):
@@ -58,30 +69,28 @@ class Bridge(Gateway):
 
     def read_events(self) -> None:
         """Puts each event of standard input, up to its end."""
-        for number, line in enumerate(sys.stdin.buffer, 1):
-            event = EVENT.fullmatch(line.decode("ascii", "replace").rstrip("\n"))
+        for number, line in enumerate(lines_of(sys.stdin.buffer), 1):
+            event = EVENT.fullmatch(line.decode("ascii", "replace"))
             try:
                 if not event:
                     raise ValueError("it is no line event S I N")
                 self.events.add(device_event(*(int(word) for word in event.groups())))
             except ValueError as error:
-                print(f"bridge.py: line {number} does nothing: {error}", file=sys.stderr, flush=True)
+                report(f"line {number} does nothing: {error}")
 
 
 def main() -> None:
     parser = argparse.ArgumentParser(usage=__doc__)
-    end = parser.add_mutually_exclusive_group(required=True)
-    end.add_argument("--pty")
-    end.add_argument("--fifo", nargs=2)
-    args = parser.parse_args()
+    add_ends(parser)
+    given = parser.parse_args()
     bridge = Bridge()
     threading.Thread(target=bridge.read_events, daemon=True).start()
+    status = 0
     try:
-        serve(bridge, PtyEnd(args.pty) if args.pty else FifoEnd(*args.fifo))
-    except KeyboardInterrupt:
-        pass  # ended by hand
-    sys.stderr.flush()
-    os._exit(0)  # a thread may wait in a read of standard input, which an orderly end would wait for
+        run(bridge, given)
+    except SystemExit as ended:
+        status = int(ended.code or 0)
+    os._exit(status)  # a thread may wait in a read of standard input, which an orderly end would wait for
 
 
 if __name__ == "__main__":

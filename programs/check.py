@@ -3,7 +3,8 @@
 
   check.py PATH                  PATH is a serial device or a pseudo terminal
   check.py SOURCE,SINK           or two FIFOs
-  check.py --press SECONDS ..    waits twice so long for somebody to press a button
+  check.py --press SECONDS ..    waits three times so long for somebody to press a button; it says each
+                                 time how often
 
 It prints a line for each duty: `ok`, or what came. It exits with 1 where something came that should
 not, and with 2 where the line cannot be opened. On the bus it only asks: whether gear 63 is there,
@@ -20,6 +21,9 @@ from typing import Callable, List, Sequence, Tuple
 
 from gushewa_line.controller import SILENT_SECONDS, Ended, Line, answer_to
 
+MANY_REQUESTS, MOST_EVENTS, PRESSES, TRIES = 300, 256, 4, 5
+SHORTEST_FRAME = 0.02  # seconds, of a 24-bit frame and the time before the next one
+OWN_SECONDS, UNASKED_SECONDS = 0.5, 3.0
 QUERY_GEAR = "send 4 7F91"
 QUERY_GEAR_AGAIN = "send 1 7F91"
 QUERY_DEVICE = "send 4 7FFE30"
@@ -32,6 +36,7 @@ ANSWER_SECONDS = 2.0
 GREETING_SECONDS = 0.5
 PAIR_SECONDS = 0.1
 HEAR_SECONDS = 0.03
+PAUSE_SECONDS = 0.002
 
 
 class Otherwise(Exception):
@@ -110,13 +115,23 @@ class Trial:
 
     def answers_in_order(self) -> None:
         """A greeting that comes while a request is under way is answered last."""
-        self.line.write("hear\ngushewa 2 8\n")
-        lines = [self.read("hear")]
-        if MESSAGE.fullmatch(lines[0]):
-            lines.append(self.read("gushewa 2 8"))
-        if lines[-1] != answer_to("gushewa 2 8"):
-            raise Otherwise(f"'hear' and a greeting at once: {', '.join(map(repr, lines))}")
-        self.stay_silent(SILENT_SECONDS, "a greeting")
+        for request, form in (("hear", MESSAGE), (QUERY_GEAR, REPLY)):
+            self.line.write(f"{request}\ngushewa 2 8\n")
+            lines = [self.read(request)]
+            if form.fullmatch(lines[0]):
+                lines.append(self.read("gushewa 2 8"))
+            if lines[-1] != answer_to("gushewa 2 8"):
+                raise Otherwise(f"{request!r} and a greeting at once: {', '.join(map(repr, lines))}")
+            self.stay_silent(SILENT_SECONDS, "a greeting")
+
+    def sends_at_last(self) -> None:
+        """A collision may come, but not each time; and a bus without power is a fault."""
+        if all(self.ask(QUERY_GEAR, REPLY) == "lost" for _ in range(TRIES)):
+            raise Otherwise(f"{QUERY_GEAR!r}: 'lost' {TRIES} times in a row")
+
+    def goes_on(self) -> None:
+        for _ in range(MANY_REQUESTS):
+            self.ask("hear", MESSAGE)
 
     def hears(self) -> None:
         self.ask("hear", MESSAGE)
@@ -128,9 +143,15 @@ class Trial:
         self.ask(QUERY_DEVICE, REPLY)
 
     def hears_no_own_frame(self) -> None:
-        self.ask(QUERY_DEVICE, REPLY)
-        if self.ask("hear", MESSAGE).upper().endswith(QUERY_DEVICE.split()[2]):
-            raise Otherwise("its own frame")
+        """Neither at once nor later, and no frame of 16 bits in any place of an event."""
+        for request in (QUERY_DEVICE, QUERY_GEAR):
+            self.ask(request, REPLY)
+            end = time.monotonic() + OWN_SECONDS
+            while time.monotonic() < end:
+                heard = self.ask("hear", MESSAGE)
+                if request.split()[2] in heard.upper():
+                    raise Otherwise(f"its own frame, {heard!r} after {request!r}")
+                time.sleep(PAUSE_SECONDS)
 
     def refuses_unknown(self) -> None:
         for request in UNKNOWN:
@@ -143,7 +164,7 @@ class Trial:
         for request, form in (("hear", MESSAGE), (QUERY_GEAR, REPLY), ("hear", MESSAGE)):
             self.ask(request, form)
             self.stay_silent(SILENT_SECONDS, request)
-        self.stay_silent(1.0, "a second")
+        self.stay_silent(UNASKED_SECONDS, "some seconds")
 
     def sends_pairs_in_time(self) -> None:
         self.ask(QUERY_GEAR, REPLY)
@@ -153,8 +174,8 @@ class Trial:
         self.asks_within(HEAR_SECONDS, "hear", MESSAGE)
 
     def asks_within(self, wanted: float, request: str, form: "re.Pattern[str]") -> None:
-        """The best of three exchanges, since the machine may have other work."""
-        self.is_within(wanted, min(self.time_of(request, form) for _ in range(3)), repr(request))
+        """The best of some exchanges, since the machine may have other work."""
+        self.is_within(wanted, min(self.time_of(request, form) for _ in range(TRIES)), repr(request))
 
     def is_within(self, wanted: float, took: float, what: str) -> None:
         if took > wanted:
@@ -167,7 +188,7 @@ class Trial:
 
     def forgets_events(self) -> None:
         """An event may come just now, but not three times."""
-        self.wait_for_presses()
+        self.wait_for_presses("press a button")
         for _ in range(3):
             self.greet()
             heard = self.ask("hear", MESSAGE)
@@ -176,15 +197,40 @@ class Trial:
         raise Otherwise(f"{heard!r} behind a greeting")
 
     def keeps_events(self) -> None:
-        if not self.press:
-            raise NotTried("not tried without --press")
-        self.wait_for_presses()
-        if self.ask("hear", MESSAGE) == "none":
+        """Each press is an event, or more of them; they wait until they are heard."""
+        self.need_presses()
+        self.wait_for_presses(f"press a button {PRESSES} times")
+        heard = 0
+        while heard < MOST_EVENTS and self.ask("hear", MESSAGE) != "none":
+            heard += 1
+        if heard < PRESSES:
+            raise Otherwise(f"{heard} events of {PRESSES} presses")
+
+    def gives_events_once(self) -> None:
+        """Two equal events in less time than a frame takes are one that was given twice."""
+        self.need_presses()
+        self.ask_for("press a button")
+        end, before, at = time.monotonic() + self.press, "", 0.0
+        while time.monotonic() < end:
+            heard, now = self.ask("hear", MESSAGE), time.monotonic()
+            if heard != "none":
+                if heard == before and now - at < SHORTEST_FRAME:
+                    raise Otherwise(f"{heard!r} twice within {1000 * (now - at):.0f} ms")
+                before, at = heard, now
+            time.sleep(PAUSE_SECONDS)
+        if not before:
             raise Otherwise("no event of the press")
 
-    def wait_for_presses(self) -> None:
+    def need_presses(self) -> None:
+        if not self.press:
+            raise NotTried("not tried without --press")
+
+    def ask_for(self, what: str) -> None:
+        print(f"  {what} within {self.press:.0f} s", file=sys.stderr, flush=True)
+
+    def wait_for_presses(self, what: str) -> None:
         if self.press:
-            print(f"  press a button within {self.press:.0f} s", file=sys.stderr, flush=True)
+            self.ask_for(what)
             time.sleep(self.press)
 
     def is_opened_again(self) -> None:
@@ -211,6 +257,7 @@ DUTIES: Sequence[Tuple[str, Callable[[Trial], None]]] = (
     ("hears", Trial.hears),
     ("sends 16 bits", Trial.sends_16),
     ("sends 24 bits", Trial.sends_24),
+    ("loses not each frame", Trial.sends_at_last),
     ("does not hear its own frames", Trial.hears_no_own_frame),
     ("answers no unknown request", Trial.refuses_unknown),
     ("says nothing unasked", Trial.says_nothing_unasked),
@@ -218,6 +265,8 @@ DUTIES: Sequence[Tuple[str, Callable[[Trial], None]]] = (
     ("hears within 30 ms", Trial.hears_in_time),
     ("forgets events at a greeting", Trial.forgets_events),
     ("keeps events", Trial.keeps_events),
+    ("gives each event once", Trial.gives_events_once),
+    ("answers 300 requests", Trial.goes_on),
     ("is opened again", Trial.is_opened_again),
     ("writes plain lines", Trial.writes_plain_lines),
 )

@@ -33,14 +33,13 @@ from __future__ import annotations
 
 import argparse
 import datetime
-import sys
 import time
 import zoneinfo
 from typing import Callable, Dict, Iterator, List, Optional, Tuple
 
-from gushewa_line.ends import FifoEnd, PtyEnd
 from gushewa_line.gateway import device_event
-from gushewa_line.line import QUIET, Events, serve
+from gushewa_line.line import QUIET, Events
+from gushewa_line.program import add_ends, give_up, run
 from sun import Sun
 from week import BadLine, Table, read_table
 
@@ -128,44 +127,38 @@ def scenario(calendar: Calendar, day: datetime.date, bus: int, address: int, onl
         yield f"event {bus} {device_event(address, instance, information):06X}"
 
 
-def read_calendar(args: argparse.Namespace) -> Calendar:
-    zone = zoneinfo.ZoneInfo(args.zone) if args.zone else None
+def read_calendar(given: argparse.Namespace) -> Calendar:
+    zone = zoneinfo.ZoneInfo(given.zone) if given.zone else None
     sun = None
-    if args.place:
-        latitude, _, longitude = args.place.partition(",")
+    if given.place:
+        latitude, _, longitude = given.place.partition(",")
         sun = Sun(float(latitude), float(longitude or "none"), zone)
         sun.minutes(datetime.date.today())  # says at once where astral is missing
     lines = []
-    if args.table:
-        with open(args.table, encoding="utf-8") as file:
+    if given.table:
+        with open(given.table, encoding="utf-8") as file:
             lines = file.read().splitlines()
     return Calendar(zone, sun, read_table(lines, sun))
 
 
 def main() -> None:
     parser = argparse.ArgumentParser(usage=__doc__)
-    end = parser.add_mutually_exclusive_group(required=True)
-    end.add_argument("--pty")
-    end.add_argument("--fifo", nargs=2)
-    end.add_argument("--day", type=datetime.date.fromisoformat)
+    add_ends(parser).add_argument("--day", type=datetime.date.fromisoformat)
     parser.add_argument("--place")
     parser.add_argument("--zone")
     parser.add_argument("--table")
     parser.add_argument("--device", type=int, default=63, choices=range(64), metavar="N")
     parser.add_argument("--bus", type=int, default=1, choices=range(64), metavar="B")
     parser.add_argument("--only", type=lambda text: [int(word) for word in text.split(",")], default=[])
-    args = parser.parse_args()
+    given = parser.parse_args()
     try:
-        calendar = read_calendar(args)
-    except (BadLine, OSError, ValueError, ImportError, zoneinfo.ZoneInfoNotFoundError) as error:
-        sys.exit(f"clock.py: {error}")
-    if args.day:
-        print("\n".join(scenario(calendar, args.day, args.bus, args.device, args.only)))
-        return
-    try:
-        serve(ClockBus(calendar, args.device), PtyEnd(args.pty) if args.pty else FifoEnd(*args.fifo))
-    except KeyboardInterrupt:
-        pass  # ended by hand
+        calendar = read_calendar(given)
+    except (BadLine, OSError, ValueError, zoneinfo.ZoneInfoNotFoundError) as error:
+        give_up(str(error))
+    if given.day:
+        print("\n".join(scenario(calendar, given.day, given.bus, given.device, given.only)))
+    else:
+        run(ClockBus(calendar, given.device), given)
 
 
 if __name__ == "__main__":

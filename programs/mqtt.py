@@ -1,222 +1,195 @@
 #!/usr/bin/python3
-"""A bus of somebody else, over an MQTT broker: levels go out, and events come in.
+"""A house over an MQTT broker: what passes on its lines goes out, and wishes come in as events.
 
-  mqtt.py --pty LINK ..           makes a pseudo terminal, and the symbolic link LINK to it
-  mqtt.py --fifo SOURCE SINK ..   uses two FIFOs, and makes them where they are missing
+  mqtt.py --pty LINK ..             is a bus of its own, behind a pseudo terminal and the link LINK to it
+  mqtt.py --fifo SOURCE SINK ..     the same over two FIFOs, which it makes where they are missing
+  mqtt.py --line B=PATH ..          stands between the controller and the interface of bus B
+
+  --line 0=PATH              the interface of bus 0: a device, a pseudo terminal, or two FIFOs (FROM,TO);
+                             each bus from 0 on needs its own. May stand beside --pty
+  --folder FOLDER            with --line: where the lines for the controller are, FOLDER/dali0 and so on
+
+The broker:
 
   --broker HOST[:PORT]       the broker (localhost:1883 if none is given)
   --user NAME                the name to log in with
   --password-file FILE       a file with the password alone
   --tls FILE                 speaks TLS, and trusts the certificates of FILE
   --base TOPIC               what all topics begin with (gushewa/house if none is given)
+
+What Home Assistant finds, and by which names:
+
   --discovery PREFIX         where Home Assistant looks for what there is (homeassistant)
-  --lamp A=NAME              announces the lamp with address A, 0 to 63; may stand again
-  --button S.I=NAME          announces a button, instance I of device S; may stand again
+  --lamp A=NAME[@B.P]        a light: its wishes are those for address A of this bus. What it shows was sent
+                             to A here, or to address P of bus B. May stand again
+  --button S.I=NAME          a button on the screen, instance I of device S of this bus. May stand again
+  --status FILE              the status of the building, which it writes with --json: each value
+  --text FILE, --bind FILE   the text and the binding: lamps, buttons and sensors of the lines
+  --names FILE               a table of names; dalictl_page/names.py has its lines
 
 It needs python3-paho-mqtt. Topics stand behind the base:
 
-  out   available      `online` or `offline`, retained: whether this program has the broker
-        lamp/A         {"state": "ON", "brightness": 200, ..}, retained: the level that the
-                       controller sent last. A is an address, group-0 to group-15, or all
+  out   available      `online` or `offline`, retained: whether the controller is at its line (at that of
+                       this bus where it has one), and this program has the broker
+        lamp/A         {"state": "ON", "brightness": 200, ..}, retained: the level that the controller sent
+                       last to A of this bus. A is an address, group-0 to group-15, or all
+        bus/B          {"state": "up", "why": ..}, retained: what the line of bus B is like
+        bus/B/lamp/A   as lamp/A, of bus B, with the level that it answered last, where it was asked
+        bus/B/event/SCHEME/X/Y   the information of an event, in the words of a binding
+        value/NAME     a value of the status, retained: a number, ON or OFF
   in    lamp/A/set     {"state": "ON", "brightness": 120}, ON, OFF, or a level, 0 to 254:
                        the event of instance 31 of device A whose information is the level,
                        or 255 for ON without a level
-        event/S/I      an information, 0 to 1023: the event of instance I of device S
+        event/S/I      an information, 0 to 1023: the event of instance I of device S; I is 0 to 30
 
-The text decides what becomes of a wish: lamp/A says what the controller sent, and not what somebody
-asked for. The binding has events as `source B.K device-instance S I`. While the broker is away
-levels are kept, and each goes out with its last value once it is back. Events that are sent
-meanwhile are lost, and retained ones do nothing: a press of some minutes ago must not switch a
-light now.
+The text decides what becomes of a wish. The binding has events as `source B.K device-instance S I`. A
+number has one spelling, as 5 and not 05. While the broker is away what is retained is kept, and each
+goes out with its last value once it is back. Events that are sent meanwhile are lost, and retained
+ones do nothing: a press of some minutes ago must not switch a light now. On the lines of --line it
+passes on all that comes, and sends no frame of its own.
 """
 
 from __future__ import annotations
 
 import argparse
-import json
-import re
-import sys
+import os
+import queue
 import threading
-from typing import Any, Dict, List, Tuple
+import time
+from typing import Optional
 
-import paho.mqtt.client as paho
+from dalictl_mqtt.broker import KEEP_ALIVE, LONGEST_PAUSE, Broker, is_here, new_client
+from dalictl_mqtt.discovery import Announced
+from dalictl_mqtt.house import House, Values, lines_of, read_names
+from dalictl_mqtt.lines import Lines
+from dalictl_mqtt.topics import address_topic, event_of, state_message
+from gushewa_line.ends import end_in_order
+from gushewa_line.gateway import Gateway
+from gushewa_line.program import add_ends, give_up, report, run
 
-from gushewa_line.ends import FifoEnd, PtyEnd
-from gushewa_line.gateway import Gateway, device_event, name_of
-from gushewa_line.line import serve
-
-WISH, ON_AT_ANY_LEVEL, SHORT_PRESS = 31, 255, 2
-MOST_BYTES = 256  # of a message that comes in
-KEEP_ALIVE, LONGEST_PAUSE = 30, 30  # seconds
-LAMP = re.compile(r"([0-9]{1,2})=(.+)")
-BUTTON = re.compile(r"([0-9]{1,2})\.([0-9]{1,2})=(.+)")
-
-
-def state_message(level: int) -> str:
-    """What is said of a lamp at a level."""
-    if not level:
-        return json.dumps({"state": "OFF"})
-    return json.dumps({"state": "ON", "brightness": level, "color_mode": "brightness"})
+# The controller is taken for away from a line that nobody asked for so many seconds.
+UNASKED_SECONDS = 10.0
+LOOK_SECONDS = 1.0
 
 
-def wish_of(text: str) -> int:
-    """The information of a wish: a level, or 255 for 'on' without one. Raises ValueError."""
-    if text in ("ON", "OFF"):
-        return ON_AT_ANY_LEVEL if text == "ON" else 0
-    wish = json.loads(text)
-    if isinstance(wish, dict):
-        if wish.get("state") == "OFF":
-            return 0
-        if wish.get("state") != "ON":
-            raise ValueError("state is ON or OFF")
-        if "brightness" not in wish:
-            return ON_AT_ANY_LEVEL
-        wish = wish["brightness"]
-    if type(wish) is not int or not 0 <= wish < ON_AT_ANY_LEVEL:
-        raise ValueError("a level is 0 to 254")
-    return wish
-
-
-class Announced:
-    """The lamps and buttons that Home Assistant is to find."""
-
-    def __init__(self, base: str, prefix: str, lamps: List[str], buttons: List[str]) -> None:
-        self.base, self.prefix, self.messages = base, prefix, dict[str, str]()
-        for text in lamps:
-            address, name = parts(LAMP, text, "A=NAME")
-            device_event(int(address), WISH, 0)  # raises where it is no address
-            self.announce("light", f"lamp_{int(address)}", name, self.lamp(int(address)))
-        for text in buttons:
-            device, instance, name = parts(BUTTON, text, "S.I=NAME")
-            device_event(int(device), int(instance), 0)
-            topic = f"{base}/event/{int(device)}/{int(instance)}"
-            press = {"command_topic": topic, "payload_press": str(SHORT_PRESS)}
-            self.announce("button", f"button_{int(device)}_{int(instance)}", name, press)
-
-    def lamp(self, address: int) -> Dict[str, Any]:
-        return {
-            "schema": "json",
-            "command_topic": f"{self.base}/lamp/{address}/set",
-            "state_topic": f"{self.base}/lamp/{address}",
-            "brightness": True,
-            "brightness_scale": 254,
-            "supported_color_modes": ["brightness"],
-        }
-
-    def announce(self, kind: str, thing: str, name: str, config: Dict[str, Any]) -> None:
-        house = re.sub(r"\W", "_", self.base)
-        config.update(
-            name=name,
-            unique_id=f"{house}_{thing}",
-            availability_topic=f"{self.base}/available",
-            device={"identifiers": [house], "name": self.base, "manufacturer": "Gushewa"},
-        )
-        self.messages[f"{self.prefix}/{kind}/{house}_{thing}/config"] = json.dumps(config)
-
-
-def parts(form: re.Pattern[str], text: str, shown: str) -> Tuple[str, ...]:
-    found = form.fullmatch(text)
-    if not found:
-        raise ValueError(f"{text} is not {shown}")
-    return found.groups()
-
-
-class Broker(Gateway):
+class OwnBus(Gateway):
     """A bus whose levels and events are messages of a broker."""
 
-    def __init__(self, client: paho.Client, base: str, announced: Announced) -> None:
-        super().__init__(lambda address, level: self.publish_level(address))
-        self.client, self.base, self.announced = client, base, announced
-        self.publishing = threading.Lock()
-        client.will_set(f"{base}/available", "offline", retain=True)
-        client.on_connect, client.on_disconnect, client.on_message = self.came, self.went, self.hear
+    def __init__(self, broker: Broker) -> None:
+        super().__init__(lambda address, level: broker.say(f"lamp/{address_topic(address)}", state_message(level)))
+        self.asked: Optional[float] = None
+        broker.subscribe(["lamp/+/set", "event/+/+"], lambda topic, text: self.events.add(event_of(topic, text)))
 
-    def publish_level(self, address: int) -> None:
-        """Says the level that an address has now, so that what is said last is what was sent last.
+    def forget(self) -> None:
+        self.asked = time.monotonic()
+        super().forget()
 
-        It asks for no receipt (QoS 0): what a broken connection took away, `came` says again.
-        """
-        with self.publishing:
-            topic = f'{self.base}/lamp/{name_of(address).replace(" ", "-")}'
-            self.client.publish(topic, state_message(self.known()[address]), retain=True)
+    def take(self) -> Optional[int]:
+        self.asked = time.monotonic()
+        return super().take()
 
-    def came(self, client: paho.Client, *rest: Any) -> None:
-        """The broker is there. It may have forgotten what was said before, so all is said anew."""
-        if rest[2]:
-            print(
-                f"mqtt.py: the broker refuses: {paho.connack_string(rest[2])}",
-                file=sys.stderr,
-                flush=True,
-            )
+    def send(self, bits: int, frame: int, priority: int) -> str:
+        self.asked = time.monotonic()
+        return super().send(bits, frame, priority)
+
+    def is_up(self) -> bool:
+        """Whether the controller is at its line."""
+        return self.asked is not None and time.monotonic() - self.asked < UNASKED_SECONDS
+
+
+class Program:
+    """What the command line asks for."""
+
+    def __init__(self, given: argparse.Namespace) -> None:
+        """Raises OSError or ValueError where a word or a file is none."""
+        self.given = given
+        self.broker = connect(given)
+        announced = Announced(given.base, given.discovery, self.broker.say_at)
+        self.bus = OwnBus(self.broker) if given.pty or given.fifo else None
+        self.values = Values(given.status, self.broker, announced) if given.status else None
+        paths = lines_of(given.line)
+        names = read_names(given.text, given.bind, given.names)
+        self.lines = Lines([(path, os.path.join(given.folder, f"dali{bus}")) for bus, path in enumerate(paths)])
+        self.house = House(names, len(paths), self.broker, announced)
+        for word in given.lamp:
+            announced.lamp(word)
+        for word in given.button:
+            announced.button(word)
+        self.broker.become(False)
+
+    def run(self) -> None:
+        """Goes on until the program ends."""
+        end_in_order()
+        self.broker.client.loop_start()
+        self.lines.start()
+        if not self.bus:
+            self.look()
             return
-        print("mqtt.py: the broker is there", file=sys.stderr, flush=True)
-        client.subscribe([(f"{self.base}/lamp/+/set", 0), (f"{self.base}/event/+/+", 0)])
-        for topic, message in self.announced.messages.items():
-            client.publish(topic, message, retain=True)
-        for address in self.known():
-            self.publish_level(address)
-        client.publish(f"{self.base}/available", "online", retain=True)
+        threading.Thread(target=self.look, daemon=True).start()
+        run(self.bus, self.given)
 
-    def went(self, *rest: Any) -> None:
-        print("mqtt.py: the broker is away", file=sys.stderr, flush=True)
-
-    def hear(self, client: paho.Client, data: Any, message: paho.MQTTMessage) -> None:
-        """A message is an event, if it is not an old one that the broker kept."""
-        if message.retain:
-            return
-        words = message.topic[len(self.base) + 1 :].split("/")
-        try:
-            if len(message.payload) > MOST_BYTES:
-                raise ValueError("it is too long")
-            text = message.payload.decode("ascii")
-            if words[0] == "lamp":
-                frame = device_event(int(words[1]), WISH, wish_of(text))
-            else:
-                frame = device_event(int(words[1]), int(words[2]), int(text))
-        except ValueError as error:
-            print(f"mqtt.py: {message.topic} does nothing: {error}", file=sys.stderr, flush=True)
-            return
-        self.events.add(frame)
+    def look(self) -> None:
+        """Says what is seen on the lines, and each second what else there is."""
+        looked = 0.0
+        while True:
+            try:
+                self.house.see(self.lines.sights.get(timeout=LOOK_SECONDS))
+            except queue.Empty:
+                pass
+            if time.monotonic() - looked >= LOOK_SECONDS:
+                looked = time.monotonic()
+                self.broker.become(self.bus.is_up() if self.bus else self.house.is_up())
+                if self.values:
+                    self.values.look()
 
 
-def new_client() -> paho.Client:
-    if hasattr(paho, "CallbackAPIVersion"):  # paho 2 wants to know which callbacks it calls
-        return paho.Client(paho.CallbackAPIVersion.VERSION1)
-    return paho.Client()
+def connect(given: argparse.Namespace) -> Broker:
+    """The broker, to which the client connects once it runs."""
+    client = new_client()
+    broker = Broker(client, given.base)
+    if given.user:
+        password = open(given.password_file, encoding="utf-8").read().strip() if given.password_file else None
+        client.username_pw_set(given.user, password)
+    if given.tls:
+        client.tls_set(given.tls)
+    host, _, port = given.broker.partition(":")
+    if not (given.user or given.tls or is_here(host)):
+        report(
+            f"warning: the broker {host} is another machine, and neither --tls nor --user is given: "
+            "whoever is on the network may switch your lamps"
+        )
+    client.connect_async(host, int(port or 1883), KEEP_ALIVE)
+    client.reconnect_delay_set(1, LONGEST_PAUSE)
+    return broker
+
+
+def read_words() -> argparse.Namespace:
+    parser = argparse.ArgumentParser(usage=__doc__)
+    add_ends(parser, is_required=False)
+    parser.add_argument("--line", action="append", default=[])
+    parser.add_argument("--folder")
+    parser.add_argument("--broker", default="localhost:1883")
+    parser.add_argument("--base", default="gushewa/house")
+    parser.add_argument("--discovery", default="homeassistant")
+    for option in ("--user", "--password-file", "--tls", "--status", "--text", "--bind", "--names"):
+        parser.add_argument(option)
+    for option in ("--lamp", "--button"):
+        parser.add_argument(option, action="append", default=[])
+    given = parser.parse_args()
+    if not (given.pty or given.fifo or given.line):
+        parser.error("one of --pty, --fifo and --line is needed")
+    if bool(given.line) != bool(given.folder):
+        parser.error("--line and --folder belong together")
+    return given
 
 
 def main() -> None:
-    parser = argparse.ArgumentParser(usage=__doc__)
-    end = parser.add_mutually_exclusive_group(required=True)
-    end.add_argument("--pty")
-    end.add_argument("--fifo", nargs=2)
-    parser.add_argument("--broker", default="localhost:1883")
-    parser.add_argument("--user")
-    parser.add_argument("--password-file")
-    parser.add_argument("--tls")
-    parser.add_argument("--base", default="gushewa/house")
-    parser.add_argument("--discovery", default="homeassistant")
-    parser.add_argument("--lamp", action="append", default=[])
-    parser.add_argument("--button", action="append", default=[])
-    args = parser.parse_args()
-    host, _, port = args.broker.partition(":")
-    client = new_client()
+    given = read_words()
     try:
-        bus = Broker(client, args.base, Announced(args.base, args.discovery, args.lamp, args.button))
-        if args.user:
-            password = open(args.password_file, encoding="utf-8").read().strip() if args.password_file else None
-            client.username_pw_set(args.user, password)
-        if args.tls:
-            client.tls_set(args.tls)
-        client.connect_async(host, int(port or 1883), KEEP_ALIVE)
+        program = Program(given)
     except (OSError, ValueError) as error:
-        sys.exit(f"mqtt.py: {error}")
-    client.reconnect_delay_set(1, LONGEST_PAUSE)
-    client.loop_start()
-    try:
-        serve(bus, PtyEnd(args.pty) if args.pty else FifoEnd(*args.fifo))
-    except KeyboardInterrupt:
-        pass  # ended by hand
+        give_up(str(error))
+    program.run()
 
 
 if __name__ == "__main__":

@@ -8,7 +8,7 @@ twice without harm.
 from __future__ import annotations
 
 import time
-from typing import Callable, List, Optional, Sequence
+from typing import Callable, List, NoReturn, Optional, Sequence
 
 from gushewa_line.controller import Controller, LineFailed
 
@@ -22,11 +22,13 @@ YES, QUIET, LOST, DAMAGED = "answer 255", "quiet", "lost", "damaged"
 
 GREATEST_RANDOM = 0xFFFFFF
 ADDRESSES = 64
-ATTEMPTS = 20  # of a transaction that is lost
+ATTEMPTS = 20  # of a transaction that is lost, or at which the interface fails
 RANDOMISE_SECONDS = 0.15  # gear has 100 ms to find a random address
 PAUSE_SECONDS = 0.5  # between two tries to open the line
 ROUNDS = 8
 MISSES = 4  # in a round
+CLASHES = ADDRESSES  # in a round
+DISTURBANCES = 8  # in a row, at an address that nobody has
 
 
 class Gone(Exception):
@@ -46,18 +48,23 @@ class Wire:
 
     def transaction(self, *frames: int) -> str:
         """Sends frames one after another, all anew where one failed. Returns the last answer."""
-        lost = 0
-        while lost < ATTEMPTS:
+        why = ""
+        for attempt in range(ATTEMPTS):
             try:
                 came = self.attempt(frames)
+                if came != LOST:
+                    return came
+                why = "the frame was lost"
             except LineFailed as failure:
-                self.come_back(str(failure))
-                continue
-            if came != LOST:
-                return came
-            lost += 1
+                why = str(failure)
+                if attempt:
+                    time.sleep(PAUSE_SECONDS)
+                self.come_back(why)
+        self.give_up(f"{ATTEMPTS} attempts in a row failed, the last one since {why}")
+
+    def give_up(self, why: str) -> NoReturn:
         self.is_gone = True
-        raise Gone(f"each frame was lost in {ATTEMPTS} attempts")
+        raise Gone(why)
 
     def attempt(self, frames: Sequence[int]) -> str:
         came = LOST
@@ -78,8 +85,7 @@ class Wire:
                 break
             except LineFailed as again:
                 if time.monotonic() > end:
-                    self.is_gone = True
-                    raise Gone(str(again)) from None
+                    self.give_up(f"the line did not come back: {again}")
                 time.sleep(PAUSE_SECONDS)
         self.note("the line is back: going on")
 
@@ -143,18 +149,28 @@ class Search:
         self.wire.special_twice(INITIALISE, WITHOUT_ADDRESS)
         self.wire.special_twice(RANDOMISE)
         time.sleep(RANDOMISE_SECONDS)
+        self.need_undisturbed()
         self.searched = [None, None, None]
-        low, misses = 0, 0
-        while misses < MISSES and self.free and (random := self.lowest(low)) is not None:
+        low, misses, clashes = 0, 0, 0
+        while misses < MISSES and clashes < CLASHES and self.free and (random := self.lowest(low)) is not None:
             came = self.program(random, self.free[0])
             if came == YES:
                 given(self.free.pop(0), random)
             elif came == DAMAGED:
+                self.need_undisturbed()
                 equal(random)
             self.wire.special(WITHDRAW)
             # Where nobody is, a disturbance led the search astray: it begins anew.
             misses += came == QUIET
+            clashes += came == DAMAGED
             low = 0 if came == QUIET else random + 1
+
+    def need_undisturbed(self) -> None:
+        """Gives up where something answers again and again at a short address that nobody has."""
+        if all(self.wire.is_there(self.free[0]) for _ in range(DISTURBANCES)):
+            self.wire.give_up(
+                f"the bus is disturbed: something answers at short address {self.free[0]}, which was free"
+            )
 
     def program(self, random: int, short: int) -> str:
         """Gives a short address to the gear with this random one.

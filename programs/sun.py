@@ -7,6 +7,8 @@ import datetime
 import functools
 from typing import Any, Optional, Tuple
 
+from gushewa_line.program import needs
+
 MINUTES_OF_DAY = 24 * 60
 # Sunrise and sunset where the sun does not cross the horizon: of a day without a night, and of a
 # night without a day.
@@ -66,8 +68,10 @@ def aware(moment: Any) -> datetime.datetime:
 
 
 def astral() -> Any:
-    import astral as module  # type: ignore[import]
-
+    try:
+        import astral as module  # type: ignore[import]
+    except ImportError:
+        needs("astral, which knows the sun,", "python3-astral")
     return module
 
 

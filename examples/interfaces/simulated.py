@@ -50,8 +50,8 @@ HERE = os.path.dirname(os.path.realpath(__file__))
 sys.path.insert(1, os.path.join(HERE, "../../programs"))  # the library of the line, gushewa_line
 from addresses import random_addresses  # noqa: E402
 from gear import AllGear, Gear  # noqa: E402
-from gushewa_line.ends import FifoEnd, PtyEnd  # noqa: E402
 from gushewa_line.line import QUIET, Events, note_nothing  # noqa: E402
+from gushewa_line.program import add_ends, end_of, give_up  # noqa: E402
 from trouble import TroubledInterface, add_words, plan_of  # noqa: E402
 
 # Seconds: a frame with its stop condition; a backward frame with the wait for it; that wait.
@@ -148,9 +148,7 @@ def noting(log: Optional[TextIO]) -> Callable[[str, str], None]:
 
 def read_words() -> argparse.Namespace:
     parser = argparse.ArgumentParser(usage=__doc__)
-    end = parser.add_mutually_exclusive_group(required=True)
-    end.add_argument("--pty")
-    end.add_argument("--fifo", nargs=2)
+    add_ends(parser)
     parser.add_argument("--gear", default="0,1,2,3,4,5,6,7")
     parser.add_argument("--unaddressed", type=int, default=0)
     for option in ("--type", "--group", "--scene", "--button"):
@@ -170,10 +168,11 @@ def main() -> None:
     bus = SimulatedBus(gear_of(given), [Button(text) for text in given.button], given.real)
     try:
         time.sleep(given.start_after)
-        end = PtyEnd(given.pty) if given.pty else FifoEnd(*given.fifo)
-        TroubledInterface(bus, end, note, plan_of(given)).serve()
+        TroubledInterface(bus, end_of(given), note, plan_of(given)).serve()
     except (KeyboardInterrupt, BrokenPipeError):
         pass  # ended by hand, or nobody reads the log
+    except OSError as error:
+        give_up(f"the line is not there: {error}")
 
 
 if __name__ == "__main__":

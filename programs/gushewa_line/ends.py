@@ -3,15 +3,20 @@
 from __future__ import annotations
 
 import abc
+import atexit
 import os
 import pty
 import select
+import signal
+import stat
 import termios
 import tty
-from typing import IO, Optional
+from typing import IO, Any, Optional, Set
 
 # No request is longer, with half a request before it.
 MOST_BYTES = 64
+CLOSED = -1
+ENDING = (signal.SIGTERM, signal.SIGINT, signal.SIGHUP)
 
 
 class End(abc.ABC):
@@ -53,26 +58,60 @@ class End(abc.ABC):
         self.write(line.encode("ascii") + b"\n")
 
 
+def share(terminal: int, folder: str) -> None:
+    """Lets the group that may write in the folder of a link open the pseudo terminal too.
+
+    So a controller that runs as another user reaches it, where both are in that group (docs/LIVE.md).
+    Whoever may write there could put another line in its place, and so gets nothing more. In a folder
+    for all, as /tmp, nothing is shared.
+    """
+    there = os.stat(folder)
+    is_own = there.st_gid in (os.getegid(), *os.getgroups())
+    if there.st_mode & stat.S_IWGRP and not there.st_mode & stat.S_ISVTX and is_own:
+        os.fchown(terminal, -1, there.st_gid)
+        os.fchmod(terminal, 0o660)
+
+
 class PtyEnd(End):
-    """A pseudo terminal, to which the symbolic link `link` leads: `--line 0=link`."""
+    """A pseudo terminal, to which the symbolic link `link` leads: `--line 0=link`.
+
+    A link that stayed behind would lead to whoever gets the number of the pseudo terminal next. So
+    a program that makes one calls `end_in_order` first.
+    """
 
     def __init__(self, link: str) -> None:
         super().__init__()
         self.link = link
+        self.ours = self.theirs = CLOSED
         self.plug()
 
     def plug(self) -> None:
         self.left = b""
+        THERE.add(self)
         self.ours, self.theirs = pty.openpty()
         tty.setraw(self.theirs)  # no echo, no translation; kept open, so that it stays so
+        share(self.theirs, os.path.dirname(self.link) or ".")
         if os.path.islink(self.link):
             os.unlink(self.link)
         os.symlink(os.ttyname(self.theirs), self.link)
 
     def unplug(self) -> None:
-        os.unlink(self.link)
+        """Ends the line. The link goes first, as long as nobody else has the number."""
+        THERE.discard(self)
+        if self.theirs == CLOSED:
+            return
+        if self.is_linked():
+            os.unlink(self.link)
         os.close(self.theirs)
         os.close(self.ours)
+        self.ours = self.theirs = CLOSED
+
+    def is_linked(self) -> bool:
+        """Whether the link is this one, and not that of another program under the same name."""
+        try:
+            return os.readlink(self.link) == os.ttyname(self.theirs)
+        except OSError:
+            return False
 
     def read(self) -> bytes:
         while not select.select([self.ours], [], [], 1)[0]:
@@ -129,3 +168,32 @@ class FifoEnd(End):
             self.out.write(data)
         except BrokenPipeError:
             pass  # the controller has ended; `read` meets its end too
+
+
+# The pseudo terminals of this program that are there.
+THERE: Set[PtyEnd] = set()
+
+
+def end_in_order() -> None:
+    """From now on no link of a pseudo terminal stays where this program ends.
+
+    SIGTERM, SIGINT and SIGHUP end it with 0. A signal that is ignored, as by nohup, stays so.
+    """
+    atexit.register(unplug_all)
+    for number in ENDING:
+        if signal.getsignal(number) != signal.SIG_IGN:
+            signal.signal(number, end_by_signal)
+
+
+def end_by_signal(number: int, frame: Any) -> None:
+    """Ends the program. A second signal does not disturb that."""
+    for it in ENDING:
+        signal.signal(it, signal.SIG_IGN)
+    unplug_all()
+    raise SystemExit(0)
+
+
+def unplug_all() -> None:
+    """Ends all lines of this program that are pseudo terminals."""
+    for end in list(THERE):
+        end.unplug()

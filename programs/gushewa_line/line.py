@@ -17,7 +17,7 @@ import re
 import threading
 from typing import Callable, Optional, Protocol
 
-from gushewa_line.ends import End
+from gushewa_line.ends import End, end_in_order
 
 FIRST_GREETING = "gushewa 1"
 GREETING = re.compile(r"gushewa 2 ([0-9]{1,20})\Z")
@@ -150,5 +150,6 @@ class Interface:
 
 
 def serve(bus: Bus, end: End, note: Callable[[str, str], None] = note_nothing) -> None:
-    """Answers each request, until the line ends."""
+    """Answers each request, until the line ends. Where the program ends, its pseudo terminal is gone."""
+    end_in_order()
     Interface(bus, end, note).serve()

@@ -1,0 +1,157 @@
+"""The process of the lines: it passes on, and starts the process of the browser beside it.
+
+That one may end, hang, or read slowly: the lines go on, and it is started again.
+"""
+
+from __future__ import annotations
+
+import contextlib
+import selectors
+import socket
+import subprocess
+import sys
+import time
+from typing import Callable, Dict, List, NoReturn, Optional, Tuple, Union
+
+from gushewa_line.ends import end_in_order
+
+from .channel import Channel, Sight
+from .wires import READ, WRITE, Wire
+
+LOOK_SECONDS = 0.2
+RESTART_SECONDS = 5.0
+START_SECONDS = 30.0
+READY = "ready"
+
+
+class Browser:
+    """The process of the browser, and the channel to it."""
+
+    def __init__(self, command: List[str]) -> None:
+        self.command, self.started = command, 0.0
+        self.process: Optional[subprocess.Popen[bytes]] = None
+        self.channel: Optional[Channel] = None
+
+    def start(self) -> None:
+        ours, theirs = socket.socketpair()
+        with theirs:
+            number = theirs.fileno()
+            self.process = subprocess.Popen([*self.command, "--channel", str(number)], pass_fds=[number])
+        self.channel, self.started = Channel(ours), time.monotonic()
+
+    def wait_until_ready(self) -> None:
+        """Ends this process where the other one ends before it listens: it has said why."""
+        end = self.started + START_SECONDS
+        while time.monotonic() < end and self.process and self.channel:
+            with contextlib.suppress(OSError):
+                if READY in self.channel.read():
+                    return
+            if self.process.poll() is not None:
+                sys.exit(self.process.returncode or 1)
+            time.sleep(0.02)
+        sys.exit("page.py: the page does not listen")
+
+    def drop(self) -> None:
+        """Ends the process, if it has not ended yet; it has nothing that it could lose."""
+        if self.channel:
+            self.channel.end.close()
+        if self.process:
+            self.process.kill()
+            self.process.wait()
+        self.channel, self.process = None, None
+
+
+class Desk:
+    """All lines, and the browser's process."""
+
+    def __init__(self, lines: List[Tuple[str, str]], command: List[str]) -> None:
+        """`lines` has the path of each bus's interface, and the link for the controller."""
+        self.wires = [Wire(path, link, self.telling(bus)) for bus, (path, link) in enumerate(lines)]
+        self.browser = Browser(command)
+        self.selector = selectors.DefaultSelector()
+        self.watched: Dict[Union[Wire, Browser], Dict[int, int]] = {}
+        self.looked, self.second = 0.0, 0
+
+    def telling(self, bus: int) -> Callable[[str, str], None]:
+        return lambda way, text: self.say(bus, way, text)
+
+    def say(self, bus: int, way: str, text: str) -> None:
+        if self.browser.channel:
+            self.browser.channel.say(Sight(time.time(), bus, way, text).line())
+
+    def serve(self) -> NoReturn:
+        """Passes on until the process is asked to end."""
+        end_in_order()
+        try:
+            self.browser.start()
+            self.browser.wait_until_ready()
+            self.look()
+            while True:
+                self.turn()
+        finally:
+            for wire in self.wires:
+                wire.close("closed")
+            self.browser.drop()
+
+    def turn(self) -> None:
+        for key, mask in self.selector.select(LOOK_SECONDS):
+            if isinstance(key.data, Wire):
+                key.data.serve(key.fd, mask)
+                self.watch(key.data, key.data.interests())
+            else:
+                self.hear_browser()
+        if time.monotonic() - self.looked >= LOOK_SECONDS:
+            self.look()
+        self.flush()
+
+    def watch(self, whose: Union[Wire, Browser], wanted: Dict[int, int]) -> None:
+        """Watches these files, and no other ones, for somebody."""
+        before = self.watched.get(whose, {})
+        if before != wanted:
+            for file in before:  # some may be closed already
+                self.selector.unregister(file)
+            for file, mask in wanted.items():
+                self.selector.register(file, mask, whose)
+            self.watched[whose] = wanted
+
+    def look(self) -> None:
+        """What is done now and then: opens lines, says what they are like, starts the browser's process."""
+        self.looked = time.monotonic()
+        is_second = int(self.looked) != self.second
+        self.second = int(self.looked)
+        for bus, wire in enumerate(self.wires):
+            wire.try_to_open()
+            self.watch(wire, wire.interests())
+            if is_second:
+                requests, waits = wire.look()
+                self.say(bus, "~", f"{requests} {waits}")
+        if not self.browser.channel and self.looked - self.browser.started > RESTART_SECONDS:
+            self.browser.start()
+            for wire in self.wires:
+                wire.tell_anew()
+
+    # The browser's process.
+
+    def flush(self) -> None:
+        channel = self.browser.channel
+        if channel:
+            try:
+                channel.flush()
+            except OSError:
+                return self.lose_browser()
+            self.watch(self.browser, {channel.end.fileno(): READ | (WRITE if channel.waiting else 0)})
+
+    def hear_browser(self) -> None:
+        """Takes the events that are put in by hand: `NUMBER BUS FRAME`."""
+        try:
+            for line in self.browser.channel.read() if self.browser.channel else []:
+                if line != READY:
+                    number, bus, frame = line.split(" ")
+                    self.wires[int(bus)].relay.press(number, int(frame, 16), time.monotonic())
+        except OSError:
+            self.lose_browser()
+
+    def lose_browser(self) -> None:
+        print("page.py: the page has ended, and is started again; the lines go on", file=sys.stderr, flush=True)
+        self.watch(self.browser, {})
+        self.browser.drop()
