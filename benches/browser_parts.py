@@ -26,11 +26,11 @@ class Chromium:
         self.bench, self.loop, self.numbers = bench, asyncio.new_event_loop(), itertools.count(1)
         self.folder = bench.folder / "chromium"
         words = ("--headless=new", "--no-sandbox", "--disable-gpu", "--disable-dev-shm-usage", "--no-first-run")
-        quiet = {"stdout": -3, "stderr": -3}
+        quiet = {"stdout": -3, "stderr": -3, "start_new_session": True}
         where = (f"--user-data-dir={self.folder}", "--remote-debugging-port=0", "--hide-scrollbars", "about:blank")
         self.process = bench.start(CHROMIUM, *words, *where, **quiet)
         port = self.folder / "DevToolsActivePort"
-        if not wait_for(lambda: port.exists() and len(port.read_text().split()) == 2, 60):
+        if not wait_for(lambda: port.exists() and len(port.read_text().split()) == 2, 120):
             raise TimeoutError("chromium does not listen")
         self.run(self.attach(port.read_text().split()[0]))
         for part in ("Page", "Runtime", "Accessibility", "Log"):
@@ -44,7 +44,7 @@ class Chromium:
         self.troubles: list[str] = []
 
     def run(self, work: Coroutine[Any, Any, Answer]) -> Answer:
-        return self.loop.run_until_complete(asyncio.wait_for(work, 60))
+        return self.loop.run_until_complete(asyncio.wait_for(work, 120))
 
     def ask(self, method: str, **words: Any) -> Dict[str, Any]:
         return self.run(self.exchange(method, words))

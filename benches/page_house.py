@@ -16,41 +16,46 @@ from programs_parts import PROGRAMS, Bench, wait_for
 
 # A name that would be more than text, if it were put into the page as HTML.
 EVIL = "<img src=x onerror=document.title='stolen'> & \"hall\""
-TEXT = """(* The hall: the button switches the lamp; it is asked each second. The garden: on while somebody is there. *)
-PROGRAM sw
+ROOMS = {"hall": 7, "kitchen": 8, "stairs": 9, "living": 10}  # the lamps of bus 0
+SWITCH = """PROGRAM sw_{room}
 VAR_EXTERNAL
-  event : UINT (0..1023);
-  hall : USINT (0..254);
+  said_{room} : UINT (0..1023);
+  {room} : USINT (0..254);
 END_VAR
-  LD event
+  LD said_{room}
   NE 2
   RETC
-  LD hall
+  LD {room}
   EQ 0
   JMPC lit
   LD 0
-  ST hall
+  ST {room}
   RET
 lit:
   LD 200
-  ST hall
+  ST {room}
 END_PROGRAM
 
-PROGRAM each
-VAR_EXTERNAL
-  there : UINT (0..1023);
-  path : USINT (0..254);
-END_VAR
+PROGRAM ask_{room}
 VAR
   ask : GEAR_ASK;
-  rest : TON;
 END_VAR
   LD FALSE
   ST ask.REQ
   CAL ask
   LD TRUE
   ST ask.REQ
-  CAL ask(BUS := 0, ADR := 7, CMD := 16)
+  CAL ask(ADR := {address}, CMD := 16)
+END_PROGRAM
+"""
+GARDEN = """PROGRAM garden
+VAR_EXTERNAL
+  there : UINT (0..1023);
+  path : USINT (0..254);
+END_VAR
+VAR
+  rest : TON;
+END_VAR
   LD there
   EQ 0
   ST rest.IN
@@ -67,24 +72,43 @@ dark:
   LD 0
   ST path
 END_PROGRAM
-
-CONFIGURATION house
-VAR_GLOBAL
-  pressed AT %IX0.0 : BOOL;
-  event AT %IW0.128 : UINT (0..1023);
-  there AT %IW1.128 : UINT (0..1023);
-  hall AT %QB0.7 : USINT (0..254);
-  path AT %QB1.9 : USINT (0..254);
-END_VAR
-TASK push (SINGLE := pressed, PRIORITY := 0);
-TASK clock (INTERVAL := T#1s, PRIORITY := 1);
-PROGRAM light WITH push : sw;
-PROGRAM garden WITH clock : each;
-END_CONFIGURATION
 """
 DOOR, GATE = "0 device-instance 2 1", "1 device-instance 4 0"
-BINDING = "buses 2\nsource 0.0 device-instance 2 1\nsource 1.0 device-instance 4 0\n"
-TABLE = f"bus 0 House\nbus 1 Garden\nlamp 0.7 Hall\nlamp 1.9 {EVIL}\nbutton 0.0 Hall door\npresence 1.0 Gate\n"
+NICE = "Garden path"
+TABLE = """# names for the page
+bus 0 House
+bus 1 Garden
+lamp 0.7 Hall
+lamp 0.8 Kitchen
+lamp 0.9 Stairs
+lamp 0.10 Living room
+lamp 1.9 {garden}
+button 0.0 Hall door
+button 0.1 Kitchen door
+button 0.2 Stairs, below
+button 0.3 Living room
+presence 1.0 Gate
+"""
+
+
+def text_of_house() -> str:
+    """A button for each lamp of bus 0, which is asked each second; the garden is lit while somebody is there."""
+    text = "".join(SWITCH.format(room=room, address=address) for room, address in ROOMS.items()) + GARDEN
+    text += "CONFIGURATION house\nVAR_GLOBAL\n"
+    for place, (room, address) in enumerate(ROOMS.items()):
+        text += f"  pressed_{room} AT %IX0.{place} : BOOL;\n  said_{room} AT %IW0.{128 + place} : UINT (0..1023);\n"
+        text += f"  {room} AT %QB0.{address} : USINT (0..254);\n"
+    text += "  there AT %IW1.128 : UINT (0..1023);\n  path AT %QB1.9 : USINT (0..254);\nEND_VAR\n"
+    text += "".join(f"TASK push_{room} (SINGLE := pressed_{room}, PRIORITY := 0);\n" for room in ROOMS)
+    text += "TASK clock (INTERVAL := T#1s, PRIORITY := 1);\n"
+    for room in ROOMS:
+        text += f"PROGRAM light_{room} WITH push_{room} : sw_{room};\nPROGRAM look_{room} WITH clock : ask_{room};\n"
+    return text + "PROGRAM outside WITH clock : garden;\nEND_CONFIGURATION\n"
+
+
+def binding_of_house() -> str:
+    sources = [f"source 0.{place} device-instance {place + 2} 1\n" for place in range(len(ROOMS))]
+    return "buses 2\n" + "".join(sources) + "source 1.0 device-instance 4 0\n"
 
 
 def free_port() -> int:
@@ -96,21 +120,23 @@ def free_port() -> int:
 class House:
     """The interfaces, the page and the controller, in a folder of their own."""
 
-    def __init__(self, bench: Bench, program: pathlib.Path, table: str = TABLE) -> None:
+    def __init__(self, bench: Bench, program: pathlib.Path, garden: str = EVIL) -> None:
         self.bench, self.program, self.port = bench, program, free_port()
         self.folder = bench.folder
-        for name, text in (("house.il", TEXT), ("house.bind", BINDING), ("names", table)):
-            (self.folder / name).write_text(text)
+        (self.folder / "house.il").write_text(text_of_house())
+        (self.folder / "house.bind").write_text(binding_of_house())
+        (self.folder / "names").write_text(TABLE.format(garden=garden))
         self.gear = {bus: self.start_interface(bus) for bus in (0, 1)}
         self.said = self.folder / "page.said"
         self.page = self.start_page()
         self.live = self.start_live()
 
     def start_interface(self, bus: int, gear: Any = None) -> subprocess.Popen[str]:
-        """The simulated interface of a bus, with its lamp, or with other gear."""
-        there = (7, 9)[bus] if gear is None else gear
+        """The simulated interface of a bus, with its lamps, or with other gear."""
+        there = ("7,8,9,10", 9)[bus] if gear is None else gear
         log = self.folder / f"gear{bus}"
-        return self.bench.interface(self.folder / f"interface{bus}", "simulated.py", "--gear", there, "--log", log)
+        words = (self.folder / f"interface{bus}", "simulated.py", "--gear", there, "--log", log)
+        return self.bench.interface(*words, start_new_session=True)
 
     def start_page(self, *words: Any) -> subprocess.Popen[str]:
         files: List[Any] = []
@@ -121,8 +147,9 @@ class House:
         for option in ("status", "log", "record", "keep"):
             files += [f"--{option}", self.folder / option]
         at = ("--at", f"127.0.0.1:{self.port}", "--program", self.program, "--folder", self.folder)
-        process = self.bench.start(PROGRAMS / "page.py", *files, *at, *words, stderr=open(self.said, "a"))
-        self.bench.hold(wait_for((self.folder / "dali1").exists, 30), "page.py makes no line")
+        said = open(self.said, "a")
+        process = self.bench.start(PROGRAMS / "page.py", *files, *at, *words, stderr=said, start_new_session=True)
+        self.bench.hold(wait_for((self.folder / "dali1").exists, 120), "page.py makes no line")
         return process
 
     def start_live(self) -> subprocess.Popen[str]:
@@ -132,7 +159,8 @@ class House:
         for option in ("status", "log", "record", "keep"):
             words += [f"--{option}", self.folder / option]
         said = open(self.folder / "live.said", "w")
-        return self.bench.start(self.program, "live", *words, "--json", stdout=subprocess.PIPE, stderr=said)
+        own = {"stdout": subprocess.PIPE, "stderr": said, "start_new_session": True}
+        return self.bench.start(self.program, "live", *words, "--json", **own)
 
     def address(self) -> str:
         return f"http://127.0.0.1:{self.port}"
@@ -148,7 +176,7 @@ class House:
     def end(self) -> Tuple[int, str]:
         """Ends the building in order: its status, and what it printed."""
         (self.folder / "stop").touch()
-        printed = self.live.communicate(timeout=30)[0]
+        printed = self.live.communicate(timeout=60)[0]
         return self.live.returncode, printed
 
 
@@ -163,7 +191,7 @@ def ask(
 
     request = urllib.request.Request(address, body, headers or {}, method=method)
     try:
-        with urllib.request.build_opener(Stay).open(request, timeout=20) as answer:
+        with urllib.request.build_opener(Stay).open(request, timeout=60) as answer:
             return answer.status, answer.read().decode()
     except urllib.error.HTTPError as error:
         return error.code, error.headers.get("Location") or error.read().decode()
@@ -176,7 +204,7 @@ class Visit:
         self.house, self.browser, self.bench = house, browser, house.bench
         browser.open(house.address())
 
-    def sees(self, what: str, script: str, wanted: Any, seconds: float = 20.0) -> None:
+    def sees(self, what: str, script: str, wanted: Any, seconds: float = 60.0) -> None:
         wrong = self.browser.becomes(script, wanted, seconds)
         self.bench.hold(wrong is None, f"{what}: {wrong}")
 
@@ -195,7 +223,7 @@ class Visit:
         self.sees("no image of a name", "document.querySelectorAll('main img:not(#picture)').length", 0)
         self.sees("the log", "document.querySelectorAll('#log li').length > 2", True)
         self.sees("no scans", "/ (tick|take|commit) /.test(document.getElementById('log').textContent)", False)
-        self.sees("the summary", "document.getElementById('summary').textContent", "All is well: 0 of 2 lamps lit")
+        self.sees("the summary", "document.getElementById('summary').textContent", "All is well: 0 of 5 lamps lit")
 
     def press_by_keys(self) -> None:
         """Without a mouse: by the tabulator to the button of the hall, and Enter."""
@@ -218,7 +246,9 @@ class Visit:
         self.bench.same("frames", self.house.frames(0).count("0EC8"), 1)
         self.bench.hold(words in self.house.said.read_text(), "standard error does not tell the press")
         heard = " heard bus 0: device 2 instance 1, scheme device-instance, information 2 (048402)"
-        self.bench.hold(wait_for(lambda: heard in (self.house.folder / "log").read_text()), "not in the house's log")
+        self.bench.hold(
+            wait_for(lambda: heard in (self.house.folder / "log").read_text(), 60), "not in the house's log"
+        )
 
     def measure(self) -> None:
         """Other words of a press, and a sensor: the lamp in the garden is on while somebody is there."""
@@ -227,7 +257,7 @@ class Visit:
         self.sees("the garden", self.text("1.9", "level"), "120")
         self.sees("the gate", self.text(GATE, "said"), "somebody is there, movement")
         self.browser.value(f"{gate}.elements.choice.value = '0', {gate}.requestSubmit()")
-        self.sees("the timer", "document.querySelector('#timers [data-name]')?.textContent", "garden.rest", 40)
+        self.sees("the timer", "document.querySelector('#timers [data-name]')?.textContent", "outside.rest")
         left = "/^4:[0-9][0-9] left$/.test(document.querySelector('#timers [data-left]').textContent)"
         self.sees("what is left", left, True)
 
@@ -239,9 +269,9 @@ class Visit:
         self.sees("since", "/^since /.test(document.querySelector('[data-id=\"0\"] [data-since]').textContent)", True)
         self.sees("the summary", "document.getElementById('summary').textContent", "Bus 0 is down")
         down = f"bus 0 down: {self.house.folder}/dali0: closed"
-        self.bench.hold(wait_for(lambda: down in self.house.told()), "the controller does not see its bus down")
+        self.bench.hold(wait_for(lambda: down in self.house.told(), 60), "the controller does not see its bus down")
         self.bench.same("a press of a bus that is down", self.press(DOOR, 2)[0], 409)
-        self.house.gear[0] = self.house.start_interface(0, gear="")
+        self.house.gear[0] = self.house.start_interface(0, gear="8,9,10")
         self.sees("bus 0 again", self.text("0", "state"), "up")
         self.sees("no lamp", self.text("0.7", "differs"), "differs: sent 200, answered nothing")
         self.sees("it is red", "document.querySelector('[data-id=\"0.7\"]').classList.contains('differs')", True)
@@ -250,7 +280,7 @@ class Visit:
         self.house.gear[0] = self.house.start_interface(0)
         self.sees("the lamp again", self.text("0.7", "answered"), "answered 200")
         self.sees("it is not red", self.text("0.7", "differs"), "")
-        self.bench.hold(wait_for(lambda: "0EC8" in self.house.frames(0)), "the level is not sent again")
+        self.bench.hold(wait_for(lambda: "0EC8" in self.house.frames(0), 60), "the level is not sent again")
 
     def press(self, source: str, information: int, **headers: str) -> Tuple[int, str]:
         """A press by a program, as the page's own script would do it."""
@@ -258,12 +288,27 @@ class Visit:
         own = {"Content-Type": "application/json", "Origin": self.house.address()}
         return ask(f"{self.house.address()}/press", "POST", body, {**own, **headers})
 
+    def pose(self, path: pathlib.Path) -> None:
+        """The picture of the pages: some lamps are lit, and one does not answer."""
+        for source, information in (("0 device-instance 3 1", 2), ("0 device-instance 5 1", 2), (GATE, 3), (GATE, 0)):
+            self.bench.same(source, self.press(source, information)[0], 200)
+        self.bench.end(self.house.gear[0])
+        self.house.gear[0] = self.house.start_interface(0, gear="7,8,10")
+        self.sees("bus 0 again", self.text("0", "state"), "up")
+        self.sees("no lamp", self.text("0.9", "differs"), "differs: sent 0, answered nothing")
+        self.sees("the timer", "document.querySelector('#timers [data-name]')?.textContent", "outside.rest")
+        self.draw()
+        self.press(DOOR, 2)
+        self.sees("hall", self.text("0.7", "answered"), "answered 200")
+        self.browser.value("document.activeElement.blur(), scrollTo(0, 0)")
+        self.browser.picture(path)
+
     def draw(self) -> None:
         """The last hour, once the record was written."""
         record = self.house.folder / "record"
-        self.bench.hold(wait_for(lambda: "event" in record.read_text(), 80), "the record has no press")
+        self.bench.hold(wait_for(lambda: "event" in record.read_text(), 100), "the record has no press")
         self.browser.value("document.getElementById('draw').click()")
-        self.sees("the picture", "document.getElementById('picture').naturalWidth > 300", True, 40)
+        self.sees("the picture", "document.getElementById('picture').naturalWidth > 300", True)
         self.sees("drawn", "/^Drawn at/.test(document.getElementById('drawn').textContent)", True)
 
 

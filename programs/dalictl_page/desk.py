@@ -20,7 +20,7 @@ from .wires import READ, WRITE, Wire
 
 LOOK_SECONDS = 0.2
 RESTART_SECONDS = 5.0
-START_SECONDS = 30.0
+START_SECONDS = 120.0
 READY = "ready"
 
 
@@ -36,7 +36,8 @@ class Browser:
         ours, theirs = socket.socketpair()
         with theirs:
             number = theirs.fileno()
-            self.process = subprocess.Popen([*self.command, "--channel", str(number)], pass_fds=[number])
+            words = [*self.command, "--channel", str(number)]
+            self.process = subprocess.Popen(words, pass_fds=[number], start_new_session=True)
         self.channel, self.started = Channel(ours), time.monotonic()
 
     def wait_until_ready(self) -> None:
