@@ -18,8 +18,7 @@ from __future__ import annotations
 import time
 from typing import Callable, Dict, Optional, Sequence, Set
 
-from addresses import MASK, YES, Addresses
-from gushewa_line.line import DAMAGED, QUIET, answer
+from addresses import MASK, YES, Addresses, Pairs, answer_of
 
 TWICE = range(0x20, 0x82)
 GO_TO_SCENE, SET_SCENE, REMOVE_FROM_SCENE, QUERY_SCENE_LEVEL = 0x10, 0x40, 0x50, 0xB0
@@ -35,7 +34,6 @@ SETTINGS = {
     0x2F: "fade_rate",
 }
 LAMP_ON, FADE_RUNNING, MISSING_SHORT_ADDRESS = 0x04, 0x10, 0x40
-PAIR_SECONDS = 0.1
 
 
 class Gear:
@@ -203,22 +201,10 @@ class AllGear:
     """The gear of one bus, and the frame that came before."""
 
     def __init__(self, gear: Sequence[Gear], has_bus_time: bool) -> None:
-        self.gear, self.has_bus_time = gear, has_bus_time
-        self.before, self.came = -1, 0.0
+        self.gear, self.pairs = gear, Pairs(has_bus_time)
 
     def send(self, frame: int) -> str:
-        """What comes in answer to a 16-bit frame: more than one answer at once is damaged."""
-        is_pair = self.is_second(frame)
+        """What comes in answer to a 16-bit frame."""
+        is_pair = self.pairs.is_second(frame)
         given = [gear.obey(frame, is_pair) for gear in self.gear]
-        answers = [number for number in given if number is not None]
-        if len(answers) > 1:
-            return DAMAGED
-        return answer(answers[0]) if answers else QUIET
-
-    def is_second(self, frame: int) -> bool:
-        """Whether it is the second of two equal frames; where frames take time, within 100 ms."""
-        now = time.monotonic()
-        is_late = self.has_bus_time and now - self.came > PAIR_SECONDS
-        is_pair = frame == self.before and not is_late
-        self.before, self.came = -1 if is_pair else frame, now
-        return is_pair
+        return answer_of([number for number in given if number is not None])

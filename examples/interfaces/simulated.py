@@ -1,21 +1,27 @@
 #!/usr/bin/env python3
-"""An interface that simulates a DALI bus: control gear, and push buttons that press themselves.
+"""An interface that simulates a DALI bus: control gear, control devices, and buttons that press themselves.
 
   simulated.py --pty LINK ..           makes a pseudo terminal, and the symbolic link LINK to it
   simulated.py --fifo SOURCE SINK ..   uses two FIFOs, and makes them where they are missing
 
-The bus (gear.py says what the gear knows):
+The bus (gear.py says what the gear knows, and devices.py what the control devices do):
 
   --gear 0,1,5            the short addresses of the gear (0 to 7 if nothing is said; '' is none)
   --unaddressed COUNT     as many gear without a short address
   --type ADDRESS:6,8      the device types of a gear; type 6 if nothing is said. May stand again
   --group ADDRESS:0,3     the groups of a gear. May stand again
   --scene ADDRESS:2:100   a scene of a gear, with its level. May stand again
+  --device ADDRESS:1,1,3  a control device, with the types of its instances: 1 is a push button, 3 an
+                          occupancy sensor, 4 a light sensor. May stand again
+  --unaddressed-devices COUNT
+                          as many control devices without a short address: four buttons each, and
+                          each fourth of them the two sensors
   --random 123456,0000FF  the random addresses that RANDOMISE gives first, one after another
   --seed NUMBER           the seed of the random addresses behind these
   --button 0A8809:3       an event message (here device 5, instance 2) each three seconds. May
                           stand again
   --real                  takes the time that frames take on a bus of 1200 baud
+  --lose N                one frame in N, by chance, meets a collision
 
 The interface:
 
@@ -42,6 +48,7 @@ from __future__ import annotations
 
 import argparse
 import os
+import random
 import sys
 import time
 from typing import Callable, List, Optional, Sequence, TextIO
@@ -49,14 +56,17 @@ from typing import Callable, List, Optional, Sequence, TextIO
 HERE = os.path.dirname(os.path.realpath(__file__))
 sys.path.insert(1, os.path.join(HERE, "../../programs"))  # the library of the line, gushewa_line
 from addresses import random_addresses  # noqa: E402
+from devices import BUTTON, LIGHT, OCCUPANCY, AllDevices, Device  # noqa: E402
 from gear import AllGear, Gear  # noqa: E402
-from gushewa_line.line import QUIET, Events, note_nothing  # noqa: E402
+from gushewa_line.line import LOST, QUIET, Events, note_nothing  # noqa: E402
 from gushewa_line.program import add_ends, end_of, give_up  # noqa: E402
 from trouble import TroubledInterface, add_words, plan_of  # noqa: E402
 
 # Seconds: a frame with its stop condition; a backward frame with the wait for it; that wait.
 FRAME_TIMES = {16: 0.0165, 24: 0.0231}
 ANSWER_TIME, WAIT_TIME = 0.0155, 0.0105
+# The instances of control devices without an address.
+BUTTONS, SENSORS = (BUTTON,) * 4, (OCCUPANCY, LIGHT)
 
 
 class Button:
@@ -77,14 +87,14 @@ class Button:
 
 
 class SimulatedBus:
-    """Gear, and buttons."""
+    """Gear, control devices, and buttons."""
 
-    def __init__(self, gear: Sequence[Gear], buttons: Sequence[Button], has_bus_time: bool) -> None:
-        self.gear, self.buttons, self.has_bus_time = (
-            AllGear(gear, has_bus_time),
-            buttons,
-            has_bus_time,
-        )
+    def __init__(
+        self, gear: AllGear, devices: AllDevices, buttons: Sequence[Button], given: argparse.Namespace
+    ) -> None:
+        self.gear, self.devices, self.buttons = gear, devices, buttons
+        self.has_bus_time, self.lose = given.real, given.lose
+        self.chance = random.Random(given.seed)
         self.events = Events()
 
     def press_buttons(self) -> None:
@@ -102,8 +112,11 @@ class SimulatedBus:
 
     def send(self, bits: int, frame: int, priority: int) -> str:
         self.spend(FRAME_TIMES[bits])
-        # No device is simulated that would obey or answer frames of 24 bits.
-        came = self.gear.send(frame) if bits == 16 else QUIET
+        if self.lose and self.chance.randrange(self.lose) == 0:
+            self.gear.pairs.break_off()
+            self.devices.pairs.break_off()
+            return LOST
+        came = self.gear.send(frame) if bits == 16 else self.devices.send(frame)
         self.spend(WAIT_TIME if came == QUIET else ANSWER_TIME)
         return came
 
@@ -124,8 +137,12 @@ def of_gear(words: Sequence[str], address: int) -> List[List[str]]:
     return [rest for first, *rest in (word.split(":") for word in words) if int(first) == address]
 
 
-def gear_of(given: argparse.Namespace) -> List[Gear]:
-    chance = random_addresses([int(word, 16) for word in given.random.split(",") if word], given.seed)
+def chance_of(given: argparse.Namespace) -> Callable[[], int]:
+    """What RANDOMISE gives."""
+    return random_addresses([int(word, 16) for word in given.random.split(",") if word], given.seed)
+
+
+def gear_of(given: argparse.Namespace, chance: Callable[[], int]) -> List[Gear]:
     made: List[Gear] = []
     for address in numbers(given.gear):
         types = of_gear(given.type, address)
@@ -136,6 +153,16 @@ def gear_of(given: argparse.Namespace) -> List[Gear]:
             gear.scenes[int(scene)] = int(level)
         made.append(gear)
     return made + [Gear(None, [6], chance) for _ in range(given.unaddressed)]
+
+
+def devices_of(given: argparse.Namespace, chance: Callable[[], int]) -> List[Device]:
+    made: List[Device] = []
+    for word in given.device:
+        address, _, kinds = word.partition(":")
+        made.append(Device(int(address), numbers(kinds), chance))
+    for count in range(given.unaddressed_devices):
+        made.append(Device(None, SENSORS if count % 4 == 3 else BUTTONS, chance))
+    return made
 
 
 def noting(log: Optional[TextIO]) -> Callable[[str, str], None]:
@@ -151,11 +178,13 @@ def read_words() -> argparse.Namespace:
     add_ends(parser)
     parser.add_argument("--gear", default="0,1,2,3,4,5,6,7")
     parser.add_argument("--unaddressed", type=int, default=0)
-    for option in ("--type", "--group", "--scene", "--button"):
+    parser.add_argument("--unaddressed-devices", type=int, default=0)
+    for option in ("--type", "--group", "--scene", "--device", "--button"):
         parser.add_argument(option, action="append", default=[])
     parser.add_argument("--random", default="")
     parser.add_argument("--seed", type=int)
     parser.add_argument("--real", action="store_true")
+    parser.add_argument("--lose", type=int, default=0)
     parser.add_argument("--log")
     parser.add_argument("--start-after", type=float, default=0.0)
     add_words(parser)
@@ -165,7 +194,10 @@ def read_words() -> argparse.Namespace:
 def main() -> None:
     given = read_words()
     note = noting(open(given.log, "w", buffering=1) if given.log else None)
-    bus = SimulatedBus(gear_of(given), [Button(text) for text in given.button], given.real)
+    chance = chance_of(given)
+    gear = AllGear(gear_of(given, chance), given.real)
+    devices = AllDevices(devices_of(given, chance), given.real)
+    bus = SimulatedBus(gear, devices, [Button(text) for text in given.button], given)
     try:
         time.sleep(given.start_after)
         TroubledInterface(bus, end_of(given), note, plan_of(given)).serve()
