@@ -114,7 +114,7 @@ BRIGHTNESS = InstanceType(
     Flags(("level",)),
     [
         own(304, "report", "REPORT TIMER", 0x30, 0x3E, Time(1000, 1, 255, has_off=True)),
-        own(304, "hysteresis", "HYSTERESIS", 0x31, 0x3F, Number(0, 25, unit="%")),
+        own(304, "hysteresis", "HYSTERESIS", 0x31, 0x3F, Number(0, 25)),
         own(304, "dead", "DEADTIME TIMER", 0x32, 0x3D, Time(50, 1, 255, has_off=True)),
         own(304, "hysteresis-min", "HYSTERESIS MIN", 0x33, 0x3C, Number(0, 255)),
     ],

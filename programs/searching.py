@@ -1,5 +1,7 @@
 """The search for gear without a short address, and changes of short addresses (IEC 62386-102).
 
+`DeviceWire` (device_wire.py) is the same for control devices (IEC 62386-103).
+
 Each frame is sent until it is known to have been sent. Where the line fails, it is opened anew, and
 the search goes on where it was, since the gear keeps what it was sent. Every command here may come
 twice without harm.
@@ -12,11 +14,18 @@ from typing import Callable, List, NoReturn, Optional, Sequence
 
 from gushewa_line.controller import Controller, LineFailed
 
-TERMINATE, DTR0, INITIALISE, RANDOMISE = 0xA1, 0xA3, 0xA5, 0xA7
-COMPARE, WITHDRAW, PROGRAM, VERIFY = 0xA9, 0xAB, 0xB7, 0xB9
-SEARCH = (0xB1, 0xB3, 0xB5)
+TERMINATE, INITIALISE, RANDOMISE, COMPARE, WITHDRAW = "TERMINATE", "INITIALISE", "RANDOMISE", "COMPARE", "WITHDRAW"
+PROGRAM, VERIFY = "PROGRAM SHORT ADDRESS", "VERIFY SHORT ADDRESS"
+SEARCH = ("SEARCHADDRH", "SEARCHADDRM", "SEARCHADDRL")
+DTRS = ("DTR0", "DTR1", "DTR2")
+# The special commands of gear. Those of control devices stand in device_codes.py.
+OF_GEAR = {
+    **{TERMINATE: 0xA1, INITIALISE: 0xA5, RANDOMISE: 0xA7, COMPARE: 0xA9, WITHDRAW: 0xAB, PROGRAM: 0xB7, VERIFY: 0xB9},
+    **dict(zip(SEARCH, (0xB1, 0xB3, 0xB5))),
+    **dict(zip(DTRS, (0xA3, 0xC3, 0xC5))),
+}
 SET_SHORT_ADDRESS, QUERY_PRESENT, QUERY_MISSING_SHORT_ADDRESS = 0x80, 0x91, 0x96
-WITHOUT_ADDRESS = MASK = 0xFF
+MASK = 0xFF
 ALL_GEAR = 0xFF
 YES, QUIET, LOST, DAMAGED = "answer 255", "quiet", "lost", "damaged"
 
@@ -69,7 +78,8 @@ class Wire:
     def attempt(self, frames: Sequence[int]) -> str:
         came = LOST
         for place, frame in enumerate(frames):
-            came = self.line.send(frame, priority=1 if place else 3)
+            # The first byte of a frame of 24 bits is never 0.
+            came = self.line.send(frame, 24 if frame > 0xFFFF else 16, 1 if place else 3)
             if came == LOST:
                 break
         return came
@@ -89,31 +99,54 @@ class Wire:
                 time.sleep(PAUSE_SECONDS)
         self.note("the line is back: going on")
 
-    def special(self, command: int, data: int = 0) -> str:
-        return self.transaction(command << 8 | data)
+    def number(self, *frames: int) -> Optional[int]:
+        """The byte that answers the last of these frames, or None."""
+        came = self.transaction(*frames)
+        return int(came.split()[1]) if came.startswith("answer") else None
 
-    def special_twice(self, command: int, data: int = 0) -> str:
-        return self.transaction(command << 8 | data, command << 8 | data)
+    # How gear is spoken to.
 
-    def query(self, address: int, query: int) -> str:
-        return self.transaction((address << 1 | 1) << 8 | query)
+    noun = some = several = "gear"
+    without_address = 0xFF  # behind INITIALISE
+
+    def special_frame(self, command: str, data: int = 0) -> int:
+        return OF_GEAR[command] << 8 | data
+
+    def address_byte(self, short: Optional[int]) -> int:
+        """A short address as a byte behind a command, or no address."""
+        return MASK if short is None else short << 1 | 1
+
+    def cell(self, address: int) -> str:
+        """Who has this short address, as far as it can be heard: `.` nobody, `o` one, `?` several."""
+        return {QUIET: ".", YES: "o"}.get(self.transaction((address << 1 | 1) << 8 | QUERY_PRESENT), "?")
+
+    def is_missing(self) -> bool:
+        """Whether gear has no short address."""
+        return self.transaction(ALL_GEAR << 8 | QUERY_MISSING_SHORT_ADDRESS) != QUIET
+
+    def set_address(self, old: int, new: Optional[int]) -> None:
+        """Gives another short address, or takes it away."""
+        command = (old << 1 | 1) << 8 | SET_SHORT_ADDRESS
+        self.transaction(self.special_frame("DTR0", self.address_byte(new)), command, command)
+
+    # What follows from that.
+
+    def special(self, command: str, data: int = 0) -> str:
+        return self.transaction(self.special_frame(command, data))
+
+    def special_twice(self, command: str, data: int = 0) -> str:
+        frame = self.special_frame(command, data)
+        return self.transaction(frame, frame)
 
     def is_there(self, address: int) -> bool:
-        """Whether gear has this short address."""
-        return self.query(address, QUERY_PRESENT) != QUIET
+        return self.cell(address) != "."
 
     def is_one(self, address: int) -> bool:
-        """Whether one gear has this short address, as far as it can be heard."""
-        return self.query(address, QUERY_PRESENT) == YES
-
-    def set_address(self, old: int, data: int) -> None:
-        """Gives gear the short address that 0AAAAAA1 says, or takes it away with MASK."""
-        command = (old << 1 | 1) << 8 | SET_SHORT_ADDRESS
-        self.transaction(DTR0 << 8 | data, command, command)
+        return self.cell(address) == "o"
 
 
 class Search:
-    """Gives free short addresses to gear that has none.
+    """Gives free short addresses to gear, or to control devices, that have none.
 
     `watch(low, high)` sees between which random addresses the next gear is.
     """
@@ -123,30 +156,26 @@ class Search:
         self.searched: List[Optional[int]] = [None, None, None]
 
     def rounds(self, given: Callable[[int, int], None], equal: Callable[[int], None]) -> bool:
-        """Searches until no gear lacks an address. Returns whether that came about.
+        """Searches until none lacks an address. Returns whether that came about.
 
-        In each round all gear without an address takes a new random address. `given` sees each
-        short address with the random one. `equal` sees a random address at which several gear
-        answered, or one whose answer was disturbed; what is there waits for the next round.
+        In each round all that have no address take a new random address. `given` sees each short
+        address with the random one. `equal` sees a random address at which several answered, or one
+        whose answer was disturbed; what is there waits for the next round.
         """
         try:
             for _ in range(ROUNDS):
-                if not self.is_missing() or not self.free:
+                if not self.wire.is_missing() or not self.free:
                     break
                 self.round(given, equal)
-            return not self.is_missing()
+            return not self.wire.is_missing()
         finally:
             if not self.wire.is_gone:
                 self.wire.special(TERMINATE)
 
-    def is_missing(self) -> bool:
-        """Whether gear has no short address."""
-        return self.wire.transaction(ALL_GEAR << 8 | QUERY_MISSING_SHORT_ADDRESS) != QUIET
-
     def round(self, given: Callable[[int, int], None], equal: Callable[[int], None]) -> None:
         """One round."""
         self.wire.special(TERMINATE)
-        self.wire.special_twice(INITIALISE, WITHOUT_ADDRESS)
+        self.wire.special_twice(INITIALISE, self.wire.without_address)
         self.wire.special_twice(RANDOMISE)
         time.sleep(RANDOMISE_SECONDS)
         self.need_undisturbed()
@@ -179,10 +208,10 @@ class Search:
         QUIET where nobody did.
         """
         self.set_search(random)
-        self.wire.special(PROGRAM, short << 1 | 1)
-        came = self.wire.special(VERIFY, short << 1 | 1)
+        self.wire.special(PROGRAM, self.wire.address_byte(short))
+        came = self.wire.special(VERIFY, self.wire.address_byte(short))
         if came != YES:
-            self.wire.special(PROGRAM, MASK)
+            self.wire.special(PROGRAM, self.wire.address_byte(None))
         return came if came in (YES, QUIET) else DAMAGED
 
     def lowest(self, low: int) -> Optional[int]:

@@ -27,24 +27,19 @@ class Value(Protocol):
 class Number:
     """A number within limits. Some of the numbers outside them may have names, as `last` is 255."""
 
-    def __init__(self, least: int, greatest: int, names: Mapping[str, int] = {}, unit: str = "") -> None:
-        self.least, self.greatest, self.names, self.unit = least, greatest, names, unit
+    def __init__(self, least: int, greatest: int, names: Mapping[str, int] = {}) -> None:
+        self.least, self.greatest, self.names = least, greatest, names
 
     def parse(self, words: str) -> int:
         if words in self.names:
             return self.names[words]
-        digits = words[: len(words) - len(self.unit)] if words.endswith(self.unit) else ""
-        if not (digits.isascii() and digits.isdecimal() and self.least <= int(digits) <= self.greatest):
-            raise ValueError(self.says())
-        return int(digits)
+        if not (re.fullmatch("[0-9]{1,9}", words) and self.least <= int(words) <= self.greatest):
+            raise ValueError(" or ".join([f"it is {self.least} to {self.greatest}", *self.names]))
+        return int(words)
 
     def show(self, number: int) -> str:
         named = [name for name, value in self.names.items() if value == number]
-        return named[0] if named else f"{number}{self.unit}"
-
-    def says(self) -> str:
-        words = [f"{self.least}{self.unit} to {self.greatest}{self.unit}", *self.names]
-        return "it is " + " or ".join(words)
+        return named[0] if named else str(number)
 
 
 class Time:
@@ -90,20 +85,22 @@ class Choice:
 
 
 class Flags:
-    """Some of some words, with `+` between them, or `none`. The first word is bit 0."""
+    """Some of some words, with `+` between them, or `none` or `all`. The first word is bit 0."""
 
     def __init__(self, names: Sequence[str]) -> None:
         self.names = names
 
     def parse(self, words: str) -> int:
-        if words == "none":
-            return 0
+        if words in ("none", "all"):
+            return 0 if words == "none" else self.mask()
         parts = words.split("+")
         if not set(parts) <= set(self.names) or len(set(parts)) < len(parts):
-            raise ValueError("it is none, or with + between them some of " + ", ".join(self.names))
+            raise ValueError("it is all, none, or with + between them some of " + ", ".join(self.names))
         return sum(1 << self.names.index(part) for part in parts)
 
     def show(self, number: int) -> str:
+        if number == self.mask():
+            return "all"
         return "+".join(name for place, name in enumerate(self.names) if number >> place & 1) or "none"
 
     def mask(self) -> int:
