@@ -177,6 +177,8 @@ class Cells:
             self.fault(
                 f"settings: scheme is {', '.join(SCHEMES.values())} here, since a table has no groups of devices"
             )
+        elif INPUTS[kind] is None and SCHEMES[settings["scheme"]] != "device-instance":
+            self.fault("settings: the scheme of an input is device-instance, since its type is not known")
         return self.number("device", ADDRESSES), self.number("instance", INSTANCES), settings
 
 
@@ -197,11 +199,13 @@ def rows_of(text: str) -> List[Row]:
     for cells in lines_of(text):
         row = cells.row() if cells.cells else None
         faults += cells.faults
-        if row:
+        if row and not cells.faults:
             rows.append(row)
-    faults += [fault for find in FINDERS for fault in find(rows)]
     if not rows and not faults:
         faults.append((1, "no line below the first one says anything"))
+    if not faults:
+        faults = empty_groups(rows)  # a lamp may stand in a line with a fault
+    faults += [fault for find in FINDERS for fault in find(rows)]
     if faults:
         raise Faulty(faults)
     return rows
@@ -304,7 +308,6 @@ def source_of(row: Row) -> Tuple[str, int, int]:
 FINDERS: Tuple[Callable[[List[Row]], Found], ...] = (
     same_places,
     same_names,
-    empty_groups,
     too_many_inputs,
     hidden_inputs,
 )

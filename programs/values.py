@@ -99,7 +99,7 @@ class Flags:
         return sum(1 << self.names.index(part) for part in parts)
 
     def show(self, number: int) -> str:
-        if number == self.mask():
+        if number == self.mask() and len(self.names) > 1:
             return "all"
         return "+".join(name for place, name in enumerate(self.names) if number >> place & 1) or "none"
 
