@@ -24,9 +24,11 @@ class DeviceWire(Wire):
     def address_byte(self, short: Optional[int]) -> int:
         return MASK if short is None else short
 
-    def cell(self, address: int) -> str:
-        came = self.transaction(self.frame(address, DEVICE, code("QUERY DEVICE STATUS")))
-        return "." if came == QUIET else "o" if came.startswith("answer") else "?"
+    def presence(self, address: int) -> str:
+        return self.transaction(self.frame(address, DEVICE, code("QUERY DEVICE STATUS")))
+
+    def is_of_one(self, came: str) -> bool:
+        return came.startswith("answer")
 
     def is_missing(self) -> bool:
         frame = ALL_DEVICES << 16 | DEVICE << 8 | code("QUERY MISSING SHORT ADDRESS")

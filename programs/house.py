@@ -39,6 +39,7 @@ from typing import Dict, List, Tuple
 
 from device_wire import DeviceWire
 from gushewa_line.controller import Controller, LineFailed
+from gushewa_line.program import visible
 from house_bus import HouseBus
 from house_files import binding, global_variables
 from house_page import page
@@ -146,7 +147,7 @@ def main() -> None:
         sys.exit(0 if run(words) else 1)
     except Faulty as faulty:
         for line, fault in faulty.faults:
-            say(f"{words.table}:{line}: {fault}")
+            say(visible(f"{words.table}:{line}: {fault}"))
         sys.exit(1)
     except NotWritten as reason:
         note(str(reason))

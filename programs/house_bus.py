@@ -17,6 +17,7 @@ from lamps import Lamp
 from searching import ADDRESSES, Search, Wire
 from settings import bring, show
 
+PASSES = 2  # in which what differs is set
 GENERIC = 0  # a type that has no settings of its own
 FREE, ONE = ".", "o"  # a short address that nobody has, and one that one gear or device has
 
@@ -139,13 +140,19 @@ class HouseBus:
         found = self.compare()
         if any([self.give_addresses(wire, rows, found) for wire, rows in self.sides()]):
             found = self.compare()
-        if not found.settings:
-            return found
-        for it in found.settings:
-            is_kept = bring(it.thing, it.word, it.wanted)
-            now = it.wish if is_kept else f"keeps {show(it.thing, it.word, it.thing.read(it.word))}, not {it.wish}"
-            self.say(f"{it.row.where} ({it.row.title}): {now}, was {it.found}")
-        return self.compare()
+        # One setting may limit another one, as MIN LEVEL and MAX LEVEL do.
+        for _ in range(PASSES):
+            if not found.settings:
+                break
+            for it in found.settings:
+                self.set(it)
+            found = self.compare()
+        return found
+
+    def set(self, it: Otherwise) -> None:
+        is_kept = bring(it.thing, it.word, it.wanted)
+        now = it.wish if is_kept else f"keeps {show(it.thing, it.word, it.thing.read(it.word))}, not {it.wish}"
+        self.say(f"{it.row.where} ({it.row.title}): {now}, was {it.found}")
 
     def give_addresses(self, wire: Wire, rows: List[Row], found: Comparison) -> bool:
         """Gives the addresses of the table that nobody has. Returns whether it searched."""

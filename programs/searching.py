@@ -116,9 +116,13 @@ class Wire:
         """A short address as a byte behind a command, or no address."""
         return MASK if short is None else short << 1 | 1
 
-    def cell(self, address: int) -> str:
-        """Who has this short address, as far as it can be heard: `.` nobody, `o` one, `?` several."""
-        return {QUIET: ".", YES: "o"}.get(self.transaction((address << 1 | 1) << 8 | QUERY_PRESENT), "?")
+    def presence(self, address: int) -> str:
+        """What comes where those who have a short address are asked whether they are there."""
+        return self.transaction((address << 1 | 1) << 8 | QUERY_PRESENT)
+
+    def is_of_one(self, came: str) -> bool:
+        """Whether an answer to that is one of one alone, as far as it can be heard."""
+        return came == YES
 
     def is_missing(self) -> bool:
         """Whether gear has no short address."""
@@ -137,6 +141,16 @@ class Wire:
     def special_twice(self, command: str, data: int = 0) -> str:
         frame = self.special_frame(command, data)
         return self.transaction(frame, frame)
+
+    def cell(self, address: int) -> str:
+        """Who has this short address: `.` nobody, `o` one, `?` several.
+
+        Where nobody answers it asks again, since an answer may have been disturbed.
+        """
+        came = self.presence(address)
+        if came == QUIET:
+            came = self.presence(address)
+        return "." if came == QUIET else "o" if self.is_of_one(came) else "?"
 
     def is_there(self, address: int) -> bool:
         return self.cell(address) != "."

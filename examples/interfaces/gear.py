@@ -26,8 +26,6 @@ ADD_TO_GROUP, REMOVE_FROM_GROUP = 0x60, 0x70
 SET_DTR = (0xA3, 0xC3, 0xC5)
 # Which variable a command sets from DTR0.
 SETTINGS = {
-    0x2A: "max_level",
-    0x2B: "min_level",
     0x2C: "system_failure_level",
     0x2D: "power_on_level",
     0x2E: "fade_time",
@@ -129,6 +127,10 @@ class Gear:
             self.go_to(254, fades=False)
         elif opcode == 0x21:
             self.dtr[0] = self.level()
+        elif opcode == 0x2A:
+            self.max_level = max(self.min_level, min(value, 254))
+        elif opcode == 0x2B:
+            self.min_level = max(1, min(value, self.max_level))
         elif opcode in SETTINGS:
             setattr(self, SETTINGS[opcode], min(value, 15) if opcode > 0x2D else value)
         elif opcode == 0x80:
