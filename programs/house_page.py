@@ -5,7 +5,7 @@ from __future__ import annotations
 import html
 from typing import Dict, Iterable, List, Sequence
 
-from house_table import GROUP, INPUTS, LAMP, Row
+from house_table import AT_FIRST, GROUP, INPUTS, LAMP, Row
 from instances import values_of
 from lamps import GROUPS, VALUES
 
@@ -74,7 +74,9 @@ def room_part(room: str, rows: List[Row]) -> str:
 
 def bus_part(bus: int, rows: List[Row]) -> str:
     """All addresses of a bus in their order."""
-    of_bus = sorted((row for row in rows if row.bus == bus), key=lambda row: (row.is_input, row.place))
+    of_bus = sorted(
+        (row for row in rows if row.bus == bus), key=lambda row: (row.is_input, row.kind == GROUP, row.place)
+    )
     lines = [[row.where, KINDS.get(row.kind, row.kind), row.title] for row in of_bus]
     return f"<section>\n<h3>Bus {bus}</h3>\n{table(('address', 'is', 'room and name'), lines)}</section>"
 
@@ -90,9 +92,12 @@ def name_of(groups: Dict[tuple[int, int], str], bus: int, group: int) -> str:
 
 
 def settings(row: Row) -> str:
-    """What a line says of its settings, in words."""
+    """What a line says of its settings, in words, as far as it tells the customer something."""
+    if row.is_input and not row.is_bound:
+        return "not used"
     values = VALUES if row.kind == LAMP else values_of(INPUTS[row.kind])
-    return ", ".join(f"{word} {values[word].show(number)}" for word, number in row.settings.items() if word != GROUPS)
+    said = ((word, number) for word, number in row.settings.items() if word not in (GROUPS, *AT_FIRST))
+    return ", ".join(f"{word} {values[word].show(number)}" for word, number in said)
 
 
 def table(heads: Iterable[str], lines: List[List[str]]) -> str:

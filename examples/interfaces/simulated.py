@@ -12,7 +12,8 @@ The bus (gear.py says what the gear knows, and devices.py what the control devic
   --group ADDRESS:0,3     the groups of a gear. May stand again
   --scene ADDRESS:2:100   a scene of a gear, with its level. May stand again
   --device ADDRESS:1,1,3  a control device, with the types of its instances: 1 is a push button, 3 an
-                          occupancy sensor, 4 a light sensor. May stand again
+                          occupancy sensor, 4 a light sensor. Without ADDRESS, as in :1,1, it has no
+                          short address. May stand again
   --unaddressed-devices COUNT
                           as many control devices without a short address: four buttons each, and
                           each fourth of them the two sensors
@@ -159,7 +160,7 @@ def devices_of(given: argparse.Namespace, chance: Callable[[], int]) -> List[Dev
     made: List[Device] = []
     for word in given.device:
         address, _, kinds = word.partition(":")
-        made.append(Device(int(address), numbers(kinds), chance))
+        made.append(Device(int(address) if address else None, numbers(kinds), chance))
     for count in range(given.unaddressed_devices):
         made.append(Device(None, SENSORS if count % 4 == 3 else BUTTONS, chance))
     return made
