@@ -138,6 +138,12 @@ CARRIED_OUT: Sequence[Tuple[Sequence[int], Optional[int]]] = (
     ([0x27008B], 2),
 )
 
+PLACED = "\n".join(
+    [HEAD]
+    + [f"Hall,lamp {it},0,lamp,{it},,,," for it in range(5)]
+    + [f"Hall,panel {it} right,0,button,,,{it},1," for it in range(4)]
+)
+
 SMALL = f"""{HEAD}
 Hall,ceiling,0,lamp,5,,,,
 Hall,wall,0,lamp,6,,,,

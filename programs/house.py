@@ -9,6 +9,9 @@ IT IS NOT PROVED, and was tried on simulated buses alone.
   house.py TABLE compare --line B=PATH      asks bus B what is there, and says what differs from the table
   house.py TABLE carry-out --line B=PATH    gives the addresses of the table to gear and devices that have
                                             none, sets what differs, reads it back, and says what is left
+  house.py TABLE place --line B=PATH        blinks one lamp after another, and waits for a press of each
+                                            button: you say which it is, and it changes its address with
+                                            what stands at the right one
 
 The columns of TABLE are room, name, bus, kind, address, group, device, instance and settings, with
 commas or semicolons between them; docs/PROGRAMS.md says what stands in each. Where a line has a fault
@@ -22,8 +25,8 @@ the building on these lines first. Where a line fails, it is waited for, 60 seco
 SECONDS). Buses without a --line are left out. `compare` asks, and changes nothing. `carry-out` may be
 started again: where nothing differs it asks alone.
 
-Which gear takes which of the free addresses is left to chance. `dalictl blink` shows which lamp it
-is, and `address.py PATH swap A B` brings it to its place; then carry the table out once more.
+Which gear takes which of the free addresses is left to chance. `place` brings it to its own; then carry
+the table out once more, since settings and groups went along with the gear.
 
 The exit status is 0 where nothing is left that differs, 1 where something is or the table has faults,
 2 at wrong usage, and 3 where a file or a line failed.
@@ -34,8 +37,9 @@ from __future__ import annotations
 import argparse
 import os
 import pathlib
+import select
 import sys
-from typing import Dict, List, Tuple
+from typing import Callable, Dict, List, Tuple
 
 from device_wire import DeviceWire
 from gushewa_line.controller import Controller, LineFailed
@@ -43,6 +47,7 @@ from gushewa_line.program import visible
 from house_bus import HouseBus
 from house_files import binding, global_variables
 from house_page import page
+from house_place import Left, Person, Placing
 from house_table import BUSES, Faulty, Row, read_table
 from searching import Gone, Wire
 
@@ -82,7 +87,7 @@ def say(words: str) -> None:
 
 
 def at_buses(rows: List[Row], lines: Dict[int, str], command: str, patience: float) -> bool:
-    """Compares each bus that has a line, or carries the table out there. Returns whether nothing is left."""
+    """Does a command at each bus that has a line. Returns whether nothing is left that differs."""
     note(NOT_PROVED)
     is_same = True
     for bus in sorted({row.bus for row in rows} - set(lines)):
@@ -91,17 +96,34 @@ def at_buses(rows: List[Row], lines: Dict[int, str], command: str, patience: flo
     for controller in controllers.values():
         controller.open()  # before anything is sent on one of them
     for bus, controller in controllers.items():
-        house_bus = HouseBus(
-            [row for row in rows if row.bus == bus],
-            Wire(controller, note, patience),
-            DeviceWire(controller, note, patience),
-            lambda words: say(f"bus {bus}: {words}"),
-        )
-        found = house_bus.carry_out() if command == "carry-out" else house_bus.compare()
-        for words in found.words():
-            house_bus.say(words)
-        is_same = is_same and not found.words()
+        of_bus = [row for row in rows if row.bus == bus]
+        wires = Wire(controller, note, patience), DeviceWire(controller, note, patience)
+        if command == "place":
+            Placing(of_bus, *wires, Person(input, is_left, say)).place()
+        else:
+            is_same = at_bus(HouseBus(of_bus, *wires, bus_say(bus)), command) and is_same
     return is_same
+
+
+def bus_say(bus: int) -> Callable[[str], None]:
+    return lambda words: say(f"bus {bus}: {words}")
+
+
+def at_bus(bus: HouseBus, command: str) -> bool:
+    """Compares a bus with the table, or carries it out there. Returns whether nothing is left that differs."""
+    found = bus.carry_out() if command == "carry-out" else bus.compare()
+    for words in found.words():
+        bus.say(words)
+    return not found.words()
+
+
+def is_left() -> bool:
+    """Whether somebody pressed Enter, or the input has ended."""
+    if not select.select([sys.stdin], [], [], 0)[0]:
+        return False
+    if not sys.stdin.readline():
+        raise EOFError
+    return True
 
 
 def line_of(text: str) -> Tuple[int, str]:
@@ -119,7 +141,7 @@ def read_words() -> argparse.Namespace:
     command = commands.add_parser("write")
     command.add_argument("--into", type=pathlib.Path, default=pathlib.Path("."))
     command.add_argument("--title")
-    for name in ("compare", "carry-out"):
+    for name in ("compare", "carry-out", "place"):
         command = commands.add_parser(name)
         command.add_argument("--line", type=line_of, action="append", required=True)
         command.add_argument("--patience", type=float, default=60.0)
@@ -155,7 +177,7 @@ def main() -> None:
         note(f"{error.filename}: {error.strerror}")
     except (Gone, LineFailed) as failure:
         note(f"given up: {failure}")
-    except KeyboardInterrupt:
+    except (KeyboardInterrupt, EOFError, Left):
         note("ended by hand: start it again, and it goes on with what differs")
         sys.exit(1)
     sys.exit(3)
