@@ -52,7 +52,7 @@ class Bench:
         """A program behind a pseudo terminal, or the simulated bus, once that is there."""
         link.unlink(missing_ok=True)
         process = self.start(path_of(words[0]), "--pty", link, *words[1:], **options)
-        self.hold(wait_for(link.exists), f"{words[0]} makes no line")
+        self.hold(wait_for(link.exists, 60), f"{words[0]} makes no line")
         return process
 
     def run(self, *words: Any, seconds: float = 60) -> subprocess.CompletedProcess[str]:

@@ -45,10 +45,10 @@ import argparse
 import sys
 from typing import Any, Callable, Dict, List, Optional
 
-from device_wire import DeviceWire
+from dalictl_house.device_wire import DeviceWire
+from dalictl_house.instances import Instance, instances_of
+from dalictl_house.settings import bring, parse_settings
 from gushewa_line.controller import Controller, LineFailed
-from instances import Instance, instances_of
-from settings import bring, parse_settings
 from searching import ADDRESSES, Gone, Refused, Search, Wire
 
 NOT_PROVED = "address.py is not proved, and was tried on a simulated bus alone: look at what it did"

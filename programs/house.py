@@ -41,14 +41,14 @@ import select
 import sys
 from typing import Callable, Dict, List, Tuple
 
-from device_wire import DeviceWire
+from dalictl_house.bus import HouseBus
+from dalictl_house.device_wire import DeviceWire
+from dalictl_house.files import binding, global_variables
+from dalictl_house.page import page
+from dalictl_house.place import Left, Person, Placing
+from dalictl_house.table import BUSES, Faulty, Row, read_table
 from gushewa_line.controller import Controller, LineFailed
 from gushewa_line.program import visible
-from house_bus import HouseBus
-from house_files import binding, global_variables
-from house_page import page
-from house_place import Left, Person, Placing
-from house_table import BUSES, Faulty, Row, read_table
 from searching import Gone, Wire
 
 NOT_PROVED = "house.py is not proved, and was tried on simulated buses alone: look at what it did"

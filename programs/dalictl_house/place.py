@@ -9,10 +9,10 @@ from __future__ import annotations
 import time
 from typing import Callable, List, Optional, Sequence, Tuple
 
-from device_codes import code
-from device_wire import DeviceWire
-from house_table import INPUTS, LAMP, Row
-from lamps import Lamp
+from dalictl_house.device_codes import code
+from dalictl_house.device_wire import DeviceWire
+from dalictl_house.lamps import Lamp
+from dalictl_house.table import INPUTS, LAMP, Row
 from searching import ADDRESSES, Wire
 
 RECALL_MAX_LEVEL, OFF, QUERY_ACTUAL_LEVEL = 0x05, 0x00, 0xA0

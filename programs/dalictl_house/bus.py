@@ -9,13 +9,13 @@ from __future__ import annotations
 import dataclasses
 from typing import Callable, Dict, List, Optional, Sequence, Tuple, Union
 
-from device_codes import DEVICE, TYPES, code
-from device_wire import DeviceWire
-from house_table import INPUTS, INSTANCES, LAMP, Row
-from instances import Instance
-from lamps import Lamp
+from dalictl_house.device_codes import DEVICE, TYPES, code
+from dalictl_house.device_wire import DeviceWire
+from dalictl_house.instances import Instance
+from dalictl_house.lamps import Lamp
+from dalictl_house.settings import bring, show
+from dalictl_house.table import INPUTS, INSTANCES, LAMP, Row
 from searching import ADDRESSES, Search, Wire
-from settings import bring, show
 
 PASSES = 2  # in which what differs is set
 GENERIC = 0  # a type that has no settings of its own

@@ -4,11 +4,11 @@ from __future__ import annotations
 
 from typing import Dict, Iterator, Optional
 
-from device_codes import DEVICE, SCHEMES, TYPES, InstanceType, OwnNumber, code
-from device_wire import DeviceWire
+from dalictl_house.device_codes import DEVICE, SCHEMES, TYPES, InstanceType, OwnNumber, code
+from dalictl_house.device_wire import DeviceWire
+from dalictl_house.settings import show
+from dalictl_house.values import Bits, Choice, Value
 from searching import DTRS, QUIET, Refused
-from settings import show
-from values import Bits, Choice, Value
 
 FILTERS = ("QUERY EVENT FILTER 0 TO 7", "QUERY EVENT FILTER 8 TO 15", "QUERY EVENT FILTER 16 TO 23")
 

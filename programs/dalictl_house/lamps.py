@@ -4,8 +4,8 @@ from __future__ import annotations
 
 from typing import Dict, Optional
 
+from dalictl_house.values import Bits, Choice, Number, Value
 from searching import Wire
-from values import Bits, Choice, Number, Value
 
 FADE_SECONDS = "0.7 1 1.4 2 2.8 4 5.7 8 11.3 16 22.6 32 45.3 64 90.5".split()
 FADES = Choice({"off": 0, **{f"{seconds}s": code + 1 for code, seconds in enumerate(FADE_SECONDS)}})

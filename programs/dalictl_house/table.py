@@ -12,12 +12,12 @@ import dataclasses
 import pathlib
 from typing import Callable, Dict, Iterator, List, Mapping, Optional, Tuple
 
-from device_codes import BRIGHTNESS, BUTTON, MOTION, InstanceType
-from house_names import identifier, is_reserved
-from instances import values_of
-from lamps import GROUPS, VALUES
-from settings import parse_settings
-from values import Value
+from dalictl_house.device_codes import BRIGHTNESS, BUTTON, MOTION, InstanceType
+from dalictl_house.instances import values_of
+from dalictl_house.lamps import GROUPS, VALUES
+from dalictl_house.names import identifier, is_reserved
+from dalictl_house.settings import parse_settings
+from dalictl_house.values import Value
 
 COLUMNS = ("room", "name", "bus", "kind", "address", "group", "device", "instance", "settings")
 LAMP, GROUP = "lamp", "group"

@@ -4,7 +4,7 @@ from __future__ import annotations
 
 from typing import Dict, Iterator, List, Tuple
 
-from house_table import GROUP, LAMP, Row, source_of
+from dalictl_house.table import GROUP, LAMP, Row, source_of
 
 LEVEL, INFORMATION, COUNT = "USINT (0..254)", "UINT (0..1023)", "UINT"
 FIRST_GROUP, FIRST_INFORMATION, FIRST_COUNT = 64, 128, 192

@@ -8,7 +8,7 @@ from __future__ import annotations
 
 from typing import Dict, Iterable, Mapping, Optional, Protocol
 
-from values import Value
+from dalictl_house.values import Value
 
 ATTEMPTS = 3  # to set what is then read back as something else
 

@@ -4,7 +4,7 @@ from __future__ import annotations
 
 from typing import Optional
 
-from device_codes import ALL_DEVICES, DEVICE, SPECIAL, code
+from dalictl_house.device_codes import ALL_DEVICES, DEVICE, SPECIAL, code
 from searching import MASK, QUIET, Wire
 
 

@@ -1,7 +1,6 @@
-#!/usr/bin/env python3
 """The table of codes of control devices, as far as the programs here use them.
 
-  device_codes.py    prints it
+`python3 -m dalictl_house.device_codes`, in the folder of the programs, prints it.
 
 A command to a device or to an instance has a short address in its first byte, and what is spoken to
 in its second one; the code is the third byte. A special command has C1, its code, and its value.
@@ -14,7 +13,7 @@ from __future__ import annotations
 
 from typing import List, NamedTuple
 
-from values import Choice, Flags, Number, Time, Value
+from dalictl_house.values import Choice, Flags, Number, Time, Value
 
 SPECIAL, DEVICE = 0xC1, 0xFE  # the first byte of a special command; the second byte to a device
 ALL_DEVICES = 0xFF  # a first byte

@@ -5,9 +5,9 @@ from __future__ import annotations
 import html
 from typing import Dict, Iterable, List, Sequence
 
-from house_table import AT_FIRST, GROUP, INPUTS, LAMP, Row
-from instances import values_of
-from lamps import GROUPS, VALUES
+from dalictl_house.instances import values_of
+from dalictl_house.lamps import GROUPS, VALUES
+from dalictl_house.table import AT_FIRST, GROUP, INPUTS, LAMP, Row
 
 KINDS = {
     "button": "push button",
