@@ -27,13 +27,20 @@ def judge_words(bench):
             [],
             ["error: bus 2 of --line is not in the binding"],
         ),
-        ("a text that is none", "PROGRAM", [port.word(), none], 1, ["text fault 4 at 1:8"], []),
+        (
+            "a text that is none",
+            "PROGRAM",
+            [port.word(), none],
+            1,
+            ["text fault 4 at 1:8"],
+            ["the fault is in TEXT: dalictl explain TEXT BIND"],
+        ),
     ]
     for what, text, lines, status, out, err in cases:
         with Attended(port), bench.live(text, binding(2), lines) as live:
             found.same(f"{what}: status", live.wait(), status)
             found.same(f"{what}: printed", live.out(), out)
-            found.same(f"{what}: on standard error", live.err(), err)
+            found.same(f"{what}: on standard error", live.unnamed(live.err()), err)
     with Attended(port), bench.live(HALL, binding(1), [], "--line", "x") as live:
         found.same("a word that is none: status", live.wait(), 2)
     with Attended(port), bench.live(HALL, binding(2), [port.word()] * 2) as live:

@@ -23,15 +23,14 @@ class Live:
         if is_stopped:
             self.ask_for_end()
         self.out_path, self.err_path = f"{folder}/out{number}", f"{folder}/err{number}"
-        paths = {}
-        for name, data in (("il", text), ("bind", bind)):
-            paths[name] = f"{folder}/{number}.{name}"
-            with open(paths[name], "w") as file:
+        self.text, self.bind = f"{folder}/{number}.il", f"{folder}/{number}.bind"
+        for path, data in ((self.text, text), (self.bind, bind)):
+            with open(path, "w") as file:
                 file.write(data)
         named = [word for bus, path in enumerate(lines) for word in ("--line", f"{bus}={path}")]
         with open(self.out_path, "w") as out, open(self.err_path, "w") as err:
             self.process = subprocess.Popen(
-                [*before, program, "live", paths["il"], paths["bind"], *named, "--stop", self.stop, *words],
+                [*before, program, "live", self.text, self.bind, *named, "--stop", self.stop, *words],
                 stdin=subprocess.DEVNULL,
                 stdout=out,
                 stderr=err,
@@ -74,6 +73,10 @@ class Live:
     def err(self):
         with open(self.err_path) as file:
             return file.read().splitlines()
+
+    def unnamed(self, lines):
+        """Lines with TEXT and BIND for the paths of these files."""
+        return [it.replace(self.text, "TEXT").replace(self.bind, "BIND") for it in lines]
 
     def said(self):
         return Said(self.out())
