@@ -16,4 +16,5 @@
 pub mod changes;
 pub mod explanations;
 pub mod lines;
+pub mod names;
 pub mod notes;
