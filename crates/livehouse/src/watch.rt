@@ -101,7 +101,7 @@ pub struct StopAt<'r, R> {
 
 /// Whether there is a file at this path, if there is a path.
 pub(crate) fn is_there<R: Files>(rt: &R, path: Option<&str>) -> bool
-    ensures { IsTrue result → IsSome path }
+    ensures { IsTrue result → IsSome path.entry }
 {
     match path {
         Some(path) => fs::exists(rt, path).unwrap_or(false),
