@@ -19,7 +19,9 @@ from typing import Callable, List
 
 from package_machine import Machine, machine, wait_for
 
-SIMULATED = "/usr/share/doc/dalictl/examples/interfaces/simulated.py"
+HERE = pathlib.Path(__file__).resolve().parent.parent
+EXAMPLES, USER = "/usr/share/doc/dalictl/examples", "lights"
+SIMULATED = f"{EXAMPLES}/interfaces/simulated.py"
 UNITS = ["dalictl-live", "dalictl-watch", "dalictl-clock", "dalictl-mqtt", "dalictl-line@far"]
 OTHERS = ["adapter", "broker"]
 DEVICE, KEPT = "/run/adapters/near", "/var/lib/private/dalictl-live/kept"
@@ -301,6 +303,42 @@ class Day:
         self.hold("what was started again behind an upgrade", self.restarts() == ["0"] * len(UNITS), self.state())
         self.hold("a setting", "--after 3" in self.read("/etc/default/dalictl-watch"))
 
+    def run_as_user(self) -> None:
+        """The units of examples/systemd do the same for a user without root, whose building hears its clock."""
+        self.do("useradd", "--create-home", "--user-group", USER)
+        number = self.call("id", "-u", USER).strip()
+        home, running = f"/home/{USER}", f"/run/user/{number}"
+        for link, there in (("crates/dalictl/out/dalictl", "/usr/bin/dalictl"), ("programs", "/usr/lib/dalictl")):
+            self.do("install", "-d", pathlib.PurePath(f"{home}/gushewa/{link}").parent)
+            self.do("ln", "-sT", there, f"{home}/gushewa/{link}")
+        units = f"{home}/.config/systemd/user"
+        for name, source in (("live", "live"), ("clock", "program")):
+            self.do(
+                "install",
+                "-D",
+                "-m",
+                "644",
+                f"{EXAMPLES}/systemd/dalictl-{source}.service",
+                f"{units}/dalictl-{name}.service",
+            )
+        settings = (HERE / "packaging/dalictl-live.default").read_text().replace("/run/", f"{running}/")
+        lines = BUS_LINES.replace("/run/dalictl-clock", f"{running}/dalictl-clock")
+        self.do("install", "-d", f"{home}/.config/default")
+        self.put(f"{home}/.config/default/dalictl-live", re.sub("^BUS_LINES=.*$", lines, settings, flags=re.M))
+        self.put(f"{home}/.config/default/dalictl-clock", 'OPTIONS=""\n')
+        self.do("chown", "-R", f"{USER}:", home)
+        self.do("systemctl", "start", f"user@{number}")
+        words = ("runuser", "-u", USER, "--", "env", f"XDG_RUNTIME_DIR={running}", "systemctl", "--user")
+        self.do(*words, "enable", "--now", "dalictl-live", "dalictl-clock")
+        self.comes("the clock of a user", lambda: "\nbus 2 up" in self.read(f"{running}/dalictl-live/status"))
+        self.do(*words, "stop", "dalictl-live")
+        self.hold(
+            "how it ended for a user",
+            self.call(*words, "show", "--value", "-p", "Result", "dalictl-live") == "success\n",
+        )
+        self.hold("what is kept for a user", "told = " in self.read(f"{home}/.config/dalictl-live/kept"))
+        self.do("systemctl", "stop", f"user@{number}")
+
     def purge(self) -> None:
         """Nothing runs any more, what the package brought is gone, and what is the house's stays."""
         self.wish(9)
@@ -350,6 +388,7 @@ def main() -> None:
         day.misuse()
         day.upgrade()
         day.look_at_page()
+        day.run_as_user()
         day.purge()
     sys.exit(day.wrong)
 
