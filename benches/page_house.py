@@ -121,7 +121,7 @@ class House:
     """The interfaces, the page and the controller, in a folder of their own."""
 
     def __init__(self, bench: Bench, program: pathlib.Path, garden: str = EVIL) -> None:
-        self.bench, self.program, self.port = bench, program, free_port()
+        self.bench, self.program, self.port = bench, program.resolve(), free_port()
         self.folder = bench.folder
         (self.folder / "house.il").write_text(text_of_house())
         (self.folder / "house.bind").write_text(binding_of_house())
@@ -143,12 +143,13 @@ class House:
         for bus in (0, 1):
             files += ["--line", f"{bus}={self.folder}/interface{bus}"]
         for option, name in (("text", "house.il"), ("bind", "house.bind"), ("names", "names")):
-            files += [f"--{option}", self.folder / name]
+            files += [f"--{option}", name]
         for option in ("status", "log", "record", "keep"):
-            files += [f"--{option}", self.folder / option]
+            files += [f"--{option}", option]
         at = ("--at", f"127.0.0.1:{self.port}", "--program", self.program, "--folder", self.folder)
         said = open(self.said, "a")
-        process = self.bench.start(PROGRAMS / "page.py", *files, *at, *words, stderr=said, start_new_session=True)
+        own = {"stderr": said, "start_new_session": True, "cwd": self.folder}
+        process = self.bench.start(PROGRAMS / "page.py", *files, *at, *words, **own)
         self.bench.hold(wait_for((self.folder / "dali1").exists, 120), "page.py makes no line")
         return process
 
@@ -292,12 +293,12 @@ class Visit:
         """The picture of the pages: some lamps are lit, and one does not answer."""
         for source, information in (("0 device-instance 3 1", 2), ("0 device-instance 5 1", 2), (GATE, 3), (GATE, 0)):
             self.bench.same(source, self.press(source, information)[0], 200)
+        self.draw()
         self.bench.end(self.house.gear[0])
         self.house.gear[0] = self.house.start_interface(0, gear="7,8,10")
         self.sees("bus 0 again", self.text("0", "state"), "up")
         self.sees("no lamp", self.text("0.9", "differs"), "differs: sent 0, answered nothing")
         self.sees("the timer", "document.querySelector('#timers [data-name]')?.textContent", "outside.rest")
-        self.draw()
         self.press(DOOR, 2)
         self.sees("hall", self.text("0.7", "answered"), "answered 200")
         self.browser.value("document.activeElement.blur(), scrollTo(0, 0)")

@@ -358,7 +358,7 @@ def try_beside(bench: Bench) -> None:
 
 def try_log(bench: Bench) -> None:
     """A log that grows, is renamed, and is long."""
-    path, lines = bench.folder / "log", [line for line, _ in LOGGED]
+    path, lines = bench.folder / "growing.log", [line for line, _ in LOGGED]
     log = beside.Log(str(path), house(), 3)
     path.write_text("\n".join(lines[:2]) + "\n" + lines[3][:20])
     log.read_more()
@@ -367,7 +367,7 @@ def try_log(bench: Bench) -> None:
         file.write(lines[3][20:] + "\n" + lines[4] + "\n")
     log.read_more()
     bench.same("a log that grew", [it.words[:4] for it in log.lines], ["hand", "hear", "! do"])
-    path.rename(bench.folder / "log.1")
+    path.rename(bench.folder / "growing.log.1")
     path.write_text((lines[4] + "\n") * 20_000 + lines[0] + "\n")
     log.read_more()
     bench.same("a log of a new file", [it.words[:4] for it in log.lines], ["hear", "! do", "hand"])

@@ -93,7 +93,7 @@ class Relay:
         if self.asked != HEAR or line != NONE:
             self.tell(">", line)
             self.judge(line)
-        elif left == NONE.encode() and (press := self.next_press(now)):
+        elif press := self.next_press(now):  # of a `none` nothing was passed on yet
             self.tell("+", f"{press.number} {press.frame:06X}")
             left = b"event %06X" % press.frame
         if not self.waits_for_greeting():

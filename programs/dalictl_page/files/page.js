@@ -98,8 +98,8 @@ function fillBus(node, bus) {
   put(node, "state", bus.state);
   put(node, "why", bus.why);
   putTime(node, "since", bus.since);
-  put(node, "counts", `${bus.sent} frames sent, ${bus.heard} events heard`);
-  put(node, "lost", `${bus.lost} frames lost in the last hour`);
+  put(node, "counts", `frames sent: ${bus.sent}, events heard: ${bus.heard}`);
+  put(node, "lost", `frames lost in the last hour: ${bus.lost}`);
   node.querySelector("[data-lost]").classList.toggle("bad", bus.lost > 0);
   node.classList.toggle("is-down", bus.state !== "up");
 }
