@@ -4,5 +4,5 @@ One process passes on what goes over the lines (`relay`, `wires`), and starts an
 browser (`web`). They share a socket (`channel`), so that whatever the browser does, no line waits.
 
 What decides is plain: `relay` (what is passed on), `words`, `names`, `state`, `view` (what is
-shown), `allowed` and `secrets_file` (who may do what). benches/page tries it.
+shown), `allowed` and `doors` (who may do what). benches/page tries it.
 """

@@ -8,7 +8,7 @@ import json
 import os
 import re
 import stat
-from typing import Any, Callable, Deque, Dict, List, NamedTuple, Optional, Tuple, Union
+from typing import Any, Deque, Dict, List, NamedTuple, Optional, Tuple, Union
 
 from gushewa_line.gateway import address_of
 
@@ -168,10 +168,9 @@ class Log:
         self.place += len(data)
         *lines, self.begun = (self.begun + data).split(b"\n")
         self.begun = self.begun[:1000]
-        for line in lines:
-            logged = read_logged(line.decode("ascii", "replace"), self.names)
-            if logged:
-                self.lines.append(logged)
+        logged = (read_logged(line.decode("ascii", "replace"), self.names) for line in lines)
+        # A deque of its own, since another thread may look at the one before.
+        self.lines = collections.deque((*self.lines, *filter(None, logged)), self.lines.maxlen)
 
 
 class Beside:
@@ -186,19 +185,18 @@ class Beside:
         self.troubles: Dict[str, str] = {}  # of which path what is wrong
 
     def read(self) -> None:
-        """Reads all again, and notes what cannot be read."""
-        self.troubles.clear()
-        self.attempt(self.status_path, self.read_status)
-        self.attempt(self.kept_path, self.read_kept)
+        """Reads all again, and notes what cannot be read. Another thread may look meanwhile."""
+        readers = [(self.status_path, self.read_status), (self.kept_path, self.read_kept)]
         if self.log:
-            self.attempt(self.log.path, self.log.read_more)
-
-    def attempt(self, path: str, read: Callable[[], None]) -> None:
-        try:
-            if path:
-                read()
-        except (OSError, ValueError) as error:
-            self.troubles[path] = getattr(error, "strerror", None) or str(error)
+            readers.append((self.log.path, self.log.read_more))
+        troubles = {}
+        for path, read in readers:
+            try:
+                if path:
+                    read()
+            except (OSError, ValueError) as error:
+                troubles[path] = getattr(error, "strerror", None) or str(error)
+        self.troubles = troubles
 
     def read_status(self) -> None:
         text, self.written = read_file(self.status_path)

@@ -126,6 +126,12 @@ class Desk:
             if is_second:
                 requests, waits = wire.look()
                 self.say(bus, "~", f"{requests} {waits}")
+        if self.browser.channel and self.browser.channel.dropped:
+            print(
+                f"page.py: the page reads too slowly: {self.browser.channel.dropped} lines are not shown",
+                file=sys.stderr,
+            )
+            self.browser.channel.dropped = 0
         if not self.browser.channel and self.looked - self.browser.started > RESTART_SECONDS:
             self.browser.start()
             for wire in self.wires:

@@ -19,7 +19,7 @@ binding. Empty lines and lines that begin with # are skipped.
 from __future__ import annotations
 
 import re
-from typing import Dict, List, NamedTuple, Tuple
+from typing import Dict, NamedTuple, Tuple
 
 from gushewa_line.gateway import ALL, FIRST_GROUP, name_of
 
@@ -134,8 +134,3 @@ def address_words(address: int) -> str:
     if address == ALL:
         return "all gear"
     return f"gear {address}" if address < FIRST_GROUP else name_of(address)
-
-
-def listed(names: Names) -> Tuple[List[Place], List[Source]]:
-    """The lamps and sources that are shown before anything was seen of them."""
-    return sorted(names.lamps), sorted(names.sources)
