@@ -67,7 +67,7 @@ def read_status(text: str) -> Status:
             {(int(it["bus"]), int(it["address"])): int(it["sent"]) for it in whole["levels"]},
             {str(name): value for name, value in whole["variables"].items() if isinstance(value, int)},
         )
-    except (KeyError, TypeError, AttributeError, json.JSONDecodeError):
+    except (KeyError, TypeError, AttributeError, RecursionError, json.JSONDecodeError):
         raise ValueError("it is no status in JSON: start the building with --json") from None
 
 

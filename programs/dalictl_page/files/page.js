@@ -1,5 +1,5 @@
-// Shows the state of the building, which is asked for each second. All words of the building are put into the page as text,
-// never as HTML.
+// Shows the state of the building, which is asked for each second. All words of the building are put into the page as
+// text, never as HTML.
 "use strict";
 
 const GREATEST_LEVEL = 254, SECOND = 1000, HIDDEN = 10 * SECOND, PATIENCE = 8 * SECOND;
@@ -138,7 +138,8 @@ function summary(shown) {
   if (!isReached) return ["The page does not answer: what stands here may be old", true];
   if (down.length) return [down.map((bus) => `Bus ${bus.bus} is down`).join(", "), true];
   const differing = shown.lamps.filter((lamp) => lamp.differs).length;
-  if (differing) return [`${differing === 1 ? "A lamp differs" : `${differing} lamps differ`} from what was sent`, true];
+  if (differing === 1) return ["A lamp differs from what was sent", true];
+  if (differing) return [`${differing} lamps differ from what was sent`, true];
   const lit = shown.lamps.filter((lamp) => lamp.is_one && lamp.level).length;
   return [`All is well: ${lit} of ${shown.lamps.filter((lamp) => lamp.is_one).length} lamps lit`, false];
 }
@@ -156,7 +157,8 @@ function showTimes() {
     const words = node.hasAttribute("data-since") ? `since ${since}, ${ago(at)}` : ago(at);
     if (node.textContent !== words) node.textContent = words;
   }
-  if (state && state.timers) keep(element("timers"), state.timers.map((it) => ({ ...it, id: it.name })), "timer", fillTimer);
+  const timers = ((state && state.timers) || []).map((it) => ({ ...it, id: it.name }));
+  keep(element("timers"), timers, "timer", fillTimer);
 }
 
 function show(next) {
@@ -181,7 +183,10 @@ function announce(before, after) {
   const was = (list, id) => list.find((it) => it.id === id);
   const words = after.buses.filter((bus) => bus.state !== before.buses[bus.bus].state)
     .map((bus) => `Bus ${bus.bus} is ${bus.state}: ${bus.why}.`);
-  const lamps = after.lamps.filter((lamp) => { const it = was(before.lamps, lamp.id); return it && it.sent_at !== lamp.sent_at; });
+  const lamps = after.lamps.filter((lamp) => {
+    const it = was(before.lamps, lamp.id);
+    return it && it.sent_at !== lamp.sent_at;
+  });
   if (lamps.length > 3) words.push(`${lamps.length} lamps changed.`);
   else words.push(...lamps.map((lamp) => `${lamp.name}: ${lamp.sent}.`));
   if (words.length) put(element("told"), "", words.join(" "));
