@@ -12,7 +12,7 @@ import urllib.request
 from typing import Any, Dict, List, Optional, Tuple
 
 from browser_parts import Chromium
-from programs_parts import PROGRAMS, Bench, wait_for
+from programs_parts import PROGRAMS, Bench, path_of, wait_for
 
 # A name that would be more than text, if it were put into the page as HTML.
 EVIL = "<img src=x onerror=document.title='stolen'> & \"hall\""
@@ -135,8 +135,12 @@ class House:
         """The simulated interface of a bus, with its lamps, or with other gear."""
         there = ("7,8,9,10", 9)[bus] if gear is None else gear
         log = self.folder / f"gear{bus}"
-        words = (self.folder / f"interface{bus}", "simulated.py", "--gear", there, "--log", log)
-        return self.bench.interface(*words, start_new_session=True)
+        link = self.folder / f"interface{bus}"
+        link.unlink(missing_ok=True)
+        words = (path_of("simulated.py"), "--pty", link, "--gear", there, "--log", log)
+        process = self.bench.start(*words, start_new_session=True)
+        self.bench.hold(wait_for(link.exists, 120), "simulated.py makes no line")
+        return process
 
     def start_page(self, *words: Any) -> subprocess.Popen[str]:
         files: List[Any] = []
