@@ -62,11 +62,10 @@ class NotWritten(Exception):
 def write(rows: List[Row], table: pathlib.Path, folder: pathlib.Path, title: str) -> None:
     """Writes what is made of a table: all of it, or nothing."""
     made_of = f"{MARK} of {table.name}: change the table, and make this anew"
-    stem = folder / table.stem
     texts = {
-        stem.with_suffix(".bind"): binding(rows, made_of),
-        stem.with_suffix(".globals"): global_variables(rows, made_of),
-        stem.with_suffix(".html"): page(rows, title, made_of),
+        folder / f"{table.stem}.bind": binding(rows, made_of),
+        folder / f"{table.stem}.globals": global_variables(rows, made_of),
+        folder / f"{table.stem}.html": page(rows, title, made_of),
     }
     for path in texts:
         if path.exists() and MARK not in path.read_text(encoding="utf-8", errors="replace"):
