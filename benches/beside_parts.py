@@ -1,6 +1,6 @@
 """What benches/beside, benches/files and benches/kept are made of: the simulated interface in a process of its own, and a
 bench that runs the program, compares and counts what is otherwise."""
-import os, subprocess, time
+import itertools, os, subprocess, time
 
 HERE = os.path.dirname(os.path.dirname(os.path.abspath(__file__)))
 TEXT, BIND = f"{HERE}/examples/first-house/hall.il", f"{HERE}/examples/first-house/hall.bind"
@@ -29,6 +29,56 @@ class Interface:
     def end(self):
         self.process.terminate()
         self.process.wait()
+
+
+NUMBERS = itertools.count()
+
+
+def eventually(holds, seconds=120):
+    """Whether this holds before so many seconds are over; it is waited for no longer than needed."""
+    end = time.monotonic() + seconds
+    while not holds():
+        if time.monotonic() > end:
+            return False
+        time.sleep(0.02)
+    return True
+
+
+class Building:
+    """A building that runs until it is asked to end, and what it has said so far."""
+
+    def __init__(self, bench, *words):
+        self.base = f"{bench.folder}/building{next(NUMBERS)}"
+        with open(f"{self.base}.out", "w") as out, open(f"{self.base}.err", "w") as err:
+            self.process = subprocess.Popen(
+                bench.program + ["live", *words, "--stop", f"{self.base}.stop"], stdout=out, stderr=err
+            )
+
+    def lines(self, name):
+        with open(f"{self.base}.{name}") as it:
+            return it.read().splitlines()
+
+    def told(self):
+        return self.lines("err")
+
+    def reaches(self, holds):
+        """Whether this comes to hold while it runs."""
+        return eventually(lambda: holds() or self.process.poll() is not None) and holds()
+
+    def kill(self):
+        self.process.kill()
+        self.process.wait()
+        return self.told()
+
+    def end(self):
+        """Asks it to end: its status, what it printed, and what it told."""
+        with open(f"{self.base}.stop", "w"):
+            pass
+        try:
+            self.process.wait(120)
+        except subprocess.TimeoutExpired:
+            self.kill()
+        return self.process.returncode, self.lines("out"), self.told()
 
 
 class Bench:
