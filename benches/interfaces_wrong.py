@@ -199,7 +199,7 @@ class Hurried(Interface):
 
     def meet(self, request: str) -> None:
         if request.startswith("send"):
-            threading.Timer(0.03, super().meet, [request]).start()
+            threading.Timer(0.2, super().meet, [request]).start()
         else:
             super().meet(request)
 

@@ -207,18 +207,20 @@ class Trial:
             raise Otherwise(f"{heard} events of {PRESSES} presses")
 
     def gives_events_once(self) -> None:
-        """Two equal events in less time than a frame takes are one that was given twice."""
+        """Where nothing waited, two equal events in less time than a frame takes are one that was given twice."""
         self.need_presses()
         self.ask_for("press a button")
-        end, before, at = time.monotonic() + self.press, "", 0.0
+        end, before, last, nothing_at = time.monotonic() + self.press, "none", "", 0.0
         while time.monotonic() < end:
-            heard, now = self.ask("hear", MESSAGE), time.monotonic()
-            if heard != "none":
-                if heard == before and now - at < SHORTEST_FRAME:
-                    raise Otherwise(f"{heard!r} twice within {1000 * (now - at):.0f} ms")
-                before, at = heard, now
+            asked_at = time.monotonic()
+            heard = self.ask("hear", MESSAGE)
+            took = time.monotonic() - nothing_at
+            if heard == before != "none" and took < SHORTEST_FRAME:
+                raise Otherwise(f"{heard!r} twice within {1000 * took:.0f} ms")
+            nothing_at = asked_at if heard == "none" else nothing_at
+            before, last = heard, heard if heard != "none" else last
             time.sleep(PAUSE_SECONDS)
-        if not before:
+        if not last:
             raise Otherwise("no event of the press")
 
     def need_presses(self) -> None:
