@@ -22,7 +22,7 @@ from typing import Callable, List, Sequence, Tuple
 from gushewa_line.controller import SILENT_SECONDS, Ended, Line, answer_to
 
 MANY_REQUESTS, MOST_EVENTS, PRESSES, TRIES = 300, 256, 4, 5
-SHORTEST_FRAME = 0.02  # seconds, of a 24-bit frame and the time before the next one
+SHORTEST_FRAME = 0.035  # seconds, of a 24-bit frame and the time before the next one: 23.1 and 13.5 ms
 OWN_SECONDS, UNASKED_SECONDS = 0.5, 3.0
 QUERY_GEAR = "send 4 7F91"
 QUERY_GEAR_AGAIN = "send 1 7F91"
@@ -210,17 +210,18 @@ class Trial:
         """Where nothing waited, two equal events in less time than a frame takes are one that was given twice."""
         self.need_presses()
         self.ask_for("press a button")
-        end, before, last, nothing_at = time.monotonic() + self.press, "none", "", 0.0
+        end, before, nothing_at, count = time.monotonic() + self.press, "none", 0.0, 0
         while time.monotonic() < end:
             asked_at = time.monotonic()
             heard = self.ask("hear", MESSAGE)
-            took = time.monotonic() - nothing_at
-            if heard == before != "none" and took < SHORTEST_FRAME:
-                raise Otherwise(f"{heard!r} twice within {1000 * took:.0f} ms")
-            nothing_at = asked_at if heard == "none" else nothing_at
-            before, last = heard, heard if heard != "none" else last
-            time.sleep(PAUSE_SECONDS)
-        if not last:
+            if heard == "none":
+                nothing_at = asked_at
+                time.sleep(PAUSE_SECONDS)
+            elif heard == before and time.monotonic() - nothing_at < SHORTEST_FRAME:
+                raise Otherwise(f"{heard!r} twice within {1000 * SHORTEST_FRAME:.0f} ms")
+            count += heard != "none"
+            before = heard
+        if not count:
             raise Otherwise("no event of the press")
 
     def need_presses(self) -> None:
