@@ -8,7 +8,7 @@ from typing import Dict, List, Optional, Set, Tuple, Union
 
 from dalictl_page.beside import read_status
 from dalictl_page.channel import Sight
-from dalictl_page.names import Names, Place, listed
+from dalictl_page.names import Names, Place
 from dalictl_page.state import UP, Building, Lamp
 from dalictl_page.words import Source, source_of
 from gushewa_line.controller import EVENT
@@ -33,9 +33,9 @@ class House:
         for bus in range(buses):
             announced.bus(bus, names.buses.get(bus, f"Bus {bus}"))
             self.say_bus(bus)
-        for place in listed(names)[0]:
+        for place in sorted(names.lamps):
             self.show_lamp(place)
-        for source in listed(names)[1]:
+        for source in sorted(names.sources):
             self.show_source(source)
 
     def see(self, sight: Sight) -> None:

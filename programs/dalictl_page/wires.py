@@ -74,7 +74,7 @@ class Wire:
     def close(self, why: str) -> None:
         """Ends the line on both sides."""
         if self.end:
-            unplug(self.end)
+            self.end.unplug()
         if why != REASONS[errno.ENXIO]:
             for file in {self.source, self.sink} - {None}:
                 os.close(file)  # type: ignore[arg-type]
@@ -129,15 +129,6 @@ class Wire:
         now = time.monotonic()
         self.relay.drop_old(now)
         return self.relay.count_requests(), int(1000 * self.relay.waits(now))
-
-
-def unplug(end: PtyEnd) -> None:
-    """Ends a pseudo terminal, and removes its link, if it is still its own."""
-    with contextlib.suppress(OSError):
-        if os.readlink(end.link) == os.ttyname(end.theirs):
-            os.unlink(end.link)
-    os.close(end.theirs)
-    os.close(end.ours)
 
 
 def open_file(path: str, how: int) -> int:
