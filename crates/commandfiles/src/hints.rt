@@ -261,14 +261,11 @@ impl Hint<'_> {
 
     /// Adds that the file is one of another kind.
     fn say_misplaced(&self, page: &mut Page, kind: FileKind) {
-        let words = [
-            self.path,
-            " is ",
-            kind.words(),
-            ", where ",
-            self.place.words(),
-        ];
-        add_texts(page, &words);
+        page.text(self.path);
+        page.text(" is ");
+        page.text(kind.words());
+        page.text(", where ");
+        page.text(self.place.words());
         page.text(" is asked for");
         if self.files.has_twice(self.path) {
             page.text(": it stands twice");
