@@ -34,7 +34,7 @@ class Interface:
 NUMBERS = itertools.count()
 
 
-def eventually(holds, seconds=120):
+def eventually(holds, seconds=600):
     """Whether this holds before so many seconds are over; it is waited for no longer than needed."""
     end = time.monotonic() + seconds
     while not holds():
@@ -75,7 +75,7 @@ class Building:
         with open(f"{self.base}.stop", "w"):
             pass
         try:
-            self.process.wait(120)
+            self.process.wait(600)
         except subprocess.TimeoutExpired:
             self.kill()
         return self.process.returncode, self.lines("out"), self.told()
