@@ -1,0 +1,284 @@
+/* What comes of a request on the bus. */
+#include <stdio.h>
+#include <string.h>
+
+#include "tests.h"
+#include "world.h"
+
+enum { FRAME_24 = 20833 }; /* microseconds */
+
+static void frames_of_16_bits_are_sent(void)
+{
+    begin();
+    for (char priority = '1'; priority <= '5'; priority++) {
+        char request[] = "send 1 0A80\n";
+        request[5] = priority;
+        exchange(request, "quiet\n");
+    }
+    expect_number(world_frames(), 5, "frames");
+    expect_number(world_frame(4)->bits, 16, "bits");
+    expect_number(world_frame(4)->frame, 0x0A80, "the frame");
+    expect_number(world_lamp_level(), 128, "the level");
+}
+
+static void frames_of_24_bits_are_sent(void)
+{
+    begin();
+    exchange("send 4 7FFE30\n", "quiet\n");
+    expect_number(world_frames(), 1, "frames");
+    expect_number(world_frame(0)->bits, 24, "bits");
+    expect_number(world_frame(0)->frame, 0x7FFE30, "the frame");
+}
+
+static void silence_is_quiet(void)
+{
+    begin();
+    exchange("send 4 0CA0\n", "quiet\n");
+    world_lamp_answers_after(-1);
+    exchange("send 4 0BA0\n", "quiet\n");
+}
+
+static void each_byte_is_an_answer(void)
+{
+    begin();
+    for (int level = 0; level < 256; level++) {
+        char request[16], wanted[32];
+        snprintf(request, sizeof request, "send 4 0A%02X\n", (unsigned)level);
+        exchange(request, "quiet\n");
+        snprintf(wanted, sizeof wanted, "answer %d\n", level);
+        exchange("send 5 0BA0\n", wanted);
+    }
+}
+
+static void two_answers_are_damaged(void)
+{
+    begin();
+    world_two_lamps(true);
+    exchange("send 4 0BA0\n", "damaged\n");
+    expect_number(world_frame(0)->frame, 0x0BA0, "the frame that was sent");
+    world_two_lamps(false);
+    exchange("send 4 0BA0\n", "answer 254\n");
+}
+
+static void anything_else_is_damaged(void)
+{
+    begin();
+    world_other_pulls(0, 25000, 100);
+    exchange("send 4 0CA0\n", "damaged\n");
+    world_other_sends(0, 22000, 0x7F91, 16, HALF_BIT);
+    exchange("send 4 0CA0\n", "damaged\n");
+    world_other_pulls(0, 25000, 20000);
+    exchange("send 4 0CA0\n", "damaged\n");
+}
+
+/* The other one begins at the same time. At the first bit that differs, the idle one loses, and the other frame is
+ * whole. */
+static void a_collision_is_lost(void)
+{
+    begin();
+    world_other_sends(0, 417, 0x0A8809, 24, HALF_BIT);
+    exchange("send 4 0A80\n", "lost\n");
+    exchange("hear\n", "event 0A8809\n");
+    exchange("send 4 0A80\n", "quiet\n");
+    world_other_pulls(0, 5000, 2000);
+    exchange("send 4 0A80\n", "lost\n");
+}
+
+/* Two half bits that begin a quarter of a bit apart. */
+static void a_collision_out_of_step_is_lost(void)
+{
+    begin();
+    world_other_sends(0, 600, 0x345678, 24, HALF_BIT);
+    exchange("send 4 7FFE30\n", "lost\n");
+    exchange("hear\n", "none\n");
+}
+
+/* The other one lengthens the last edge alone, between the half bits that are compared. */
+static void a_frame_that_reads_otherwise_is_lost(void)
+{
+    begin();
+    world_other_pulls(0, 417 + 15417, 200);
+    exchange("send 4 0A80\n", "lost\n");
+}
+
+static void a_bus_without_power_is_a_fault(void)
+{
+    begin();
+    world_power(false);
+    exchange("send 4 0A80\n", "fault\n");
+    exchange("send 4 0A80\n", "fault\n");
+    exchange("hear\n", "none\n");
+    world_power(true);
+    exchange("gushewa 2 2\n", "gushewa 2 hears 2\n");
+    exchange("send 4 0A80\n", "quiet\n");
+    expect_number(world_lamp_level(), 128, "the level");
+}
+
+static void power_may_fail_at_any_time(void)
+{
+    for (int after = 0; after < 40000; after += 700) {
+        begin();
+        world_forget_said();
+        world_say("send 4 0BA0\n");
+        world_run((uint64_t)after);
+        const bool is_answered = strlen(world_said()) > 0;
+        world_power(false);
+        world_run(300000);
+        expect(strcmp(world_said(), is_answered ? "answer 254\n" : "fault\n") == 0, "power failed while it was sent");
+        world_power(true);
+        world_run(100000);
+        exchange("gushewa 2 2\nsend 4 0BA0\nhear\n", "gushewa 2 hears 2\nanswer 254\nnone\n");
+    }
+}
+
+static void a_frame_waits_for_a_pair_of_others(void)
+{
+    begin();
+    world_other_sends(0, 0, 0xFE1234, 24, HALF_BIT);
+    world_other_sends(0, FRAME_24 + 14000, 0xFE1234, 24, HALF_BIT);
+    world_run(5000);
+    exchange("send 5 0A80\n", "quiet\n");
+    expect_number(world_frames(), 3, "frames");
+    expect_number(world_frame(2)->frame, 0x0A80, "the last one");
+    exchange("hear\nhear\nhear\n", "event FE1234\nevent FE1234\nnone\n");
+}
+
+static void a_bus_that_is_not_free_is_lost(void)
+{
+    begin();
+    for (int pull = 0; pull < 30; pull++)
+        world_other_pulls(0, (uint64_t)pull * 10000, 400);
+    world_forget_said();
+    world_say("send 1 0A80\n");
+    world_run(199000);
+    expect(strlen(world_said()) == 0, "no answer before 200 ms");
+    world_run(2000);
+    expect(strcmp(world_said(), "lost\n") == 0, "'lost' at 200 ms");
+    world_run(300000);
+    expect_number(world_lamp_level(), 254, "the level of before");
+}
+
+static void events_are_heard_once(void)
+{
+    begin();
+    exchange("hear\n", "none\n");
+    world_other_sends(0, 0, 0x0A8809, 24, HALF_BIT);
+    world_run(100000);
+    world_other_sends(1, 0, 0x0C8801, 24, HALF_BIT);
+    world_run(100000);
+    exchange("hear\n", "event 0A8809\n");
+    exchange("hear\n", "event 0C8801\n");
+    exchange("hear\n", "none\n");
+}
+
+static void events_wait(void)
+{
+    begin();
+    for (uint32_t number = 0; number < 300; number++) {
+        world_other_sends(0, 0, 0x800000 + number, 24, HALF_BIT);
+        world_run(40000);
+    }
+    for (uint32_t number = 300 - 256; number < 300; number++) {
+        char wanted[16];
+        snprintf(wanted, sizeof wanted, "event %06X\n", (unsigned)(0x800000 + number));
+        exchange("hear\n", wanted);
+    }
+    exchange("hear\n", "none\n");
+}
+
+static void own_frames_and_those_of_16_bits_are_no_events(void)
+{
+    begin();
+    exchange("send 4 7FFE30\n", "quiet\n");
+    exchange("send 4 0A80\n", "quiet\n");
+    world_other_sends(0, 0, 0x0A80, 16, HALF_BIT);
+    exchange("hear\n", "none\n");
+    exchange("hear\n", "none\n");
+}
+
+static void damaged_events_are_dropped(void)
+{
+    begin();
+    world_other_sends(0, 0, 0x0A8809, 24, HALF_BIT);
+    world_other_pulls(1, 6400, 150);
+    world_run(100000);
+    world_other_sends(0, 0, 0x0A8809, 23, HALF_BIT);
+    world_run(100000);
+    world_other_sends(0, 0, 0x0A8809, 25, HALF_BIT);
+    world_run(100000);
+    world_other_sends(0, 0, 0x0A, 8, HALF_BIT);
+    world_run(100000);
+    exchange("hear\n", "none\n");
+}
+
+static void a_greeting_forgets_events(void)
+{
+    begin();
+    world_other_sends(0, 0, 0x0A8809, 24, HALF_BIT);
+    world_run(100000);
+    exchange("gushewa 2 3\nhear\n", "gushewa 2 hears 3\nnone\n");
+}
+
+static void a_greeting_lets_a_frame_be_sent_to_its_end(void)
+{
+    begin();
+    world_forget_said();
+    world_say("send 4 7FFE30\n");
+    world_run(5000);
+    world_say("gushewa 2 4\n");
+    world_run(500000);
+    expect(strcmp(world_said(), "quiet\ngushewa 2 hears 4\n") == 0, "the answers");
+    expect_number(world_frames(), 1, "frames");
+    expect_number(world_frame(0)->frame, 0x7FFE30, "the frame");
+}
+
+static void each_frame_is_sent_once(void)
+{
+    begin();
+    exchange("send 4 0520\n", "quiet\n");
+    expect_number(world_frames(), 1, "frames");
+    exchange("send 1 0520\nsend 1 0520\n", "quiet\nquiet\n");
+    expect_number(world_frames(), 3, "frames");
+}
+
+static void requests_are_answered_in_time(void)
+{
+    begin();
+    world_forget_said();
+    for (int pull = 0; pull < 18; pull++)
+        world_other_pulls(0, (uint64_t)pull * 10000, 400);
+    world_say("send 5 0BA0\n");
+    world_run(300000);
+    expect(strcmp(world_said(), "answer 254\n") == 0, "an answer within 300 ms, the longest wait included");
+}
+
+const struct test BUS_TESTS[] = {
+    {true, "send this 16-bit frame with priority P, 1 (the highest) to 5", frames_of_16_bits_are_sent},
+    {true, "send this 24-bit frame", frames_of_24_bits_are_sent},
+    {true, "no backward frame came", silence_is_quiet},
+    {true, "a backward frame came, the byte B, 0 to 255", each_byte_is_an_answer},
+    {true, "something came that is no backward frame, as where two devices answer at once", two_answers_are_damaged},
+    {true, "After `damaged` it does not: the frame was sent, and only its answer is unknown.",
+        anything_else_is_damaged},
+    {true, "the frame met a collision, or could not be sent in its time", a_collision_is_lost},
+    {true, "no 24-bit frame of another device waits", events_are_heard_once},
+    {true, "this is the oldest that waits. It waits no longer", events_are_heard_once},
+    {true, "It sends each frame once.", each_frame_is_sent_once},
+    {true, "It keeps at least 256 of the 24-bit frames of other devices, and drops the oldest where there are more.",
+        events_wait},
+    {true, "Its own frames are not among them, and neither are 16-bit frames.",
+        own_frames_and_those_of_16_bits_are_no_events},
+    {true, "The interface then forgets the events that wait", a_greeting_forgets_events},
+    {true, "Any other request is answered within the patience of the controller", requests_are_answered_in_time},
+    {true, "A bus without power is `fault`, and a collision is `lost`.", a_bus_without_power_is_a_fault},
+    {true, "a pair of frames of another device takes half of that", a_frame_waits_for_a_pair_of_others},
+    {true, "Where the bus is not free then, it is `lost`.", a_bus_that_is_not_free_is_lost},
+    {true, "A damaged frame of 24 bits", damaged_events_are_dropped},
+    {true, "So are frames of 16 bits of another controller", own_frames_and_those_of_16_bits_are_no_events},
+    {true, "The frame is sent to its end, since half a frame disturbs the others.",
+        a_greeting_lets_a_frame_be_sent_to_its_end},
+    {false, "A collision of frames that are out of step is lost", a_collision_out_of_step_is_lost},
+    {false, "A frame that reads otherwise than it was sent is lost", a_frame_that_reads_otherwise_is_lost},
+    {false, "A bus that loses its power at any time of a frame is a fault", power_may_fail_at_any_time},
+};
+const int BUS_TEST_COUNT = sizeof BUS_TESTS / sizeof *BUS_TESTS;
