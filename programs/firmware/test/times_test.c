@@ -119,10 +119,43 @@ static void jitter_beyond_the_tolerance_is_dropped(void)
         world_other_sends(0, 0, 0x0A8809, 24, half_bits[number]);
         world_run(200000);
         exchange("hear\n", "none\n");
-        world_other_sends(0, 12000, 0xA5, 8, half_bits[number]);
-        world_lamp_answers_after(-1);
-        exchange("send 4 0BA0\n", "lost\n");
+        world_other_sends(0, 0, 0xFFFFFF, 24, half_bits[number]); /* no two half bits without an edge between them */
+        world_run(200000);
+        exchange("hear\n", "none\n");
+        world_other_sends(0, 22000, 0xA5, 8, half_bits[number]);
+        exchange("send 4 0CA0\n", "damaged\n");
     }
+}
+
+/* Two edges that are moved by 40 microseconds each change a half bit by 80 at most. */
+static void each_edge_may_be_early_or_late(void)
+{
+    begin();
+    world_jitter(40);
+    for (uint32_t number = 0; number < 200; number++) {
+        char wanted[32];
+        world_other_sends(0, 1000, 0x5A0000 + number * 77, 24, HALF_BIT);
+        world_run(60000);
+        snprintf(wanted, sizeof wanted, "event %06X\n", (unsigned)(0x5A0000 + number * 77));
+        exchange("hear\n", wanted);
+        exchange("send 4 0BA0\n", "answer 254\n");
+    }
+}
+
+static void an_edge_that_is_too_early_or_late_damages_its_frame(void)
+{
+    begin();
+    world_jitter(130);
+    int heard = 0;
+    for (uint32_t number = 0; number < 200; number++) {
+        world_forget_said();
+        world_other_sends(0, 1000, 0x5A0000 + number * 77, 24, HALF_BIT);
+        world_run(60000);
+        world_say("hear\n");
+        world_run(1000);
+        heard += strcmp(world_said(), "none\n") != 0;
+    }
+    expect_within(heard, 0, 10, "frames that were heard of 200");
 }
 
 static void the_clock_may_begin_again(void)
@@ -163,6 +196,8 @@ const struct test TIMES_TESTS[] = {
     {false, "Each half bit lasts 416.67 microseconds", half_bits_last_their_time},
     {false, "Half bits of 334 to 499 microseconds are read", jitter_within_the_tolerance_is_read},
     {false, "Half bits beyond the tolerance are no frame", jitter_beyond_the_tolerance_is_dropped},
+    {false, "Each edge may be early or late by 40 microseconds", each_edge_may_be_early_or_late},
+    {false, "An edge that is too early or late damages its frame", an_edge_that_is_too_early_or_late_damages_its_frame},
     {false, "The count of microseconds may begin again at 0", the_clock_may_begin_again},
     {false, "A frame begins at once where the bus was idle for long", a_bus_that_was_idle_for_hours_is_free},
 };

@@ -26,6 +26,8 @@ static struct {
     int frame_count, frame_from; /* the edge at which the frame that comes now began, or -1 */
     int answers_after, level;
     bool are_two;
+    int jitter;
+    uint32_t chance;
     uint8_t heard[BYTES_MOST];
     int heard_count, heard_at;
     char said[BYTES_MOST];
@@ -128,15 +130,32 @@ static void add_change(int player, uint64_t at, bool is_active)
     it->changes[it->count++] = (struct change){.at = at, .is_active = is_active};
 }
 
+/* The same chances at each run. */
+static int64_t jitter(void)
+{
+    world.chance = world.chance * 1103515245 + 12345;
+    return world.jitter ? (int64_t)(world.chance >> 8) % (2 * world.jitter + 1) - world.jitter : 0;
+}
+
+static uint64_t moved(uint64_t at)
+{
+    return (uint64_t)((int64_t)at + jitter());
+}
+
 static void add_frame(int player, uint64_t at, uint32_t frame, int bits, uint64_t half_bit)
 {
     for (int bit = bits; bit >= 0; bit--) {
         const bool is_one = bit == bits || (frame >> bit & 1);
-        add_change(player, at, is_one);
-        add_change(player, at + half_bit, !is_one);
+        add_change(player, moved(at), is_one);
+        add_change(player, moved(at + half_bit), !is_one);
         at += 2 * half_bit;
     }
-    add_change(player, at, false);
+    add_change(player, moved(at), false);
+}
+
+void world_jitter(int microseconds)
+{
+    world.jitter = microseconds * THIRDS;
 }
 
 void world_other_sends(int other, uint64_t from_now, uint32_t frame, int bits, uint64_t half_bit)

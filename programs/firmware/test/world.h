@@ -32,6 +32,9 @@ void world_power(bool is_powered);
 void world_other_sends(int other, uint64_t from_now, uint32_t frame, int bits, uint64_t half_bit);
 void world_other_pulls(int other, uint64_t from_now, uint64_t microseconds);
 
+/* From now on each edge of a frame of others is early or late by up to this many microseconds, by chance. */
+void world_jitter(int microseconds);
+
 /* What the controller writes, and what came back since the last world_forget_said. */
 void world_say(const char *words);
 const char *world_said(void);
