@@ -69,6 +69,9 @@ static void anything_else_is_damaged(void)
     exchange("send 4 0CA0\n", "damaged\n");
     world_other_pulls(0, 25000, 20000);
     exchange("send 4 0CA0\n", "damaged\n");
+    world_other_sends(0, 22000, 0xA5, 8, HALF_BIT);
+    world_other_pulls(0, 30500, 400); /* behind eight good bits, before their stop condition */
+    exchange("send 4 0CA0\n", "damaged\n");
 }
 
 /* The other one begins at the same time. At the first bit that differs, the idle one loses, and the other frame is

@@ -3,6 +3,7 @@
 #include <string.h>
 
 #include "../halves.h"
+#include "../receiver.h"
 #include "tests.h"
 #include "world.h"
 
@@ -182,6 +183,20 @@ static void a_bus_that_was_idle_for_hours_is_free(void)
     world_run(100000);
 }
 
+/* The count of microseconds comes to the time of the last edge again. */
+static void a_bus_that_was_idle_for_71_minutes_is_idle(void)
+{
+    struct receiver receiver;
+    receiver_begin(&receiver, 0, true);
+    receiver_edge(&receiver, 5000, false);
+    uint32_t now = 5000;
+    for (int second = 0; second < 4400; second++) {
+        now += 1000000;
+        receiver_tick(&receiver, now);
+        expect(now - receiver.edge_at >= 900000, "the last edge was long ago");
+    }
+}
+
 const struct test TIMES_TESTS[] = {
     {true, "the settling time before a frame, by its priority", settling_times_go_by_priority},
     {true, "the time in which a backward frame may come, 5.5 to 10.5 ms after the forward frame",
@@ -199,6 +214,7 @@ const struct test TIMES_TESTS[] = {
     {false, "Each edge may be early or late by 40 microseconds", each_edge_may_be_early_or_late},
     {false, "An edge that is too early or late damages its frame", an_edge_that_is_too_early_or_late_damages_its_frame},
     {false, "The count of microseconds may begin again at 0", the_clock_may_begin_again},
+    {false, "A bus that was idle for 71 minutes is idle", a_bus_that_was_idle_for_71_minutes_is_idle},
     {false, "A frame begins at once where the bus was idle for long", a_bus_that_was_idle_for_hours_is_free},
 };
 const int TIMES_TEST_COUNT = sizeof TIMES_TESTS / sizeof *TIMES_TESTS;
