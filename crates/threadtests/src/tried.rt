@@ -114,7 +114,7 @@ const ROWS: [Row; 4] = [
             keep: (2, 2),
             record: (2, 2),
             lines: 300,
-            renamed: 9,
+            renamed: 18,
             failing: 2,
             mended: 2,
         },
