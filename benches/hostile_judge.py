@@ -21,7 +21,9 @@ NO_TASK = re.compile(rf"no task {NAME}")
 MISPLACED = re.compile(
     rf"{NAME} is an? [\w ]+, where an? [\w ]+ is asked for(?:: it stands twice|: exchange the files)?"
 )
-TASKS = re.compile(rf"(?:error: no task {NAME}: )?there (?:is|are) {NAME}(?:, {NAME})*(?: and {NAME})?")
+TASKS = re.compile(
+    rf"(?:error: no task is named: )?(?:the only task is {NAME}|the tasks are {NAME}(?:, {NAME})*|there is no task)"
+)
 
 VALUE = rf"[\w.]+ = (?:TRUE|FALSE|{NUMBER})"
 PLAYED = (
