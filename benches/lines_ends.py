@@ -45,7 +45,8 @@ def judge_ends(bench):
     house = House()
     port = Pty(bench.folder, house)
     with Attended(port), bench.live(HALL, binding(1), [port.word()], is_stopped=True) as live:
-        found.counts(found.ended(live, live.wait(), 0), 0, house)
+        found.same("the status of a start that finds the stop file", live.wait(), 0)
+        found.same("what it sends", house.sends, [])
     port.close()
     return found
 
