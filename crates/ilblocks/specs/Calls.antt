@@ -15,10 +15,10 @@ use Rattle.gearcmd.specs.declared.requests.Command.TheVariants as commands
 use Rattle.gearcmd.specs.declared.requests.Request.{Request}
 use Rattle.ilblocks.specs.declared.kind.BlockKind.{BlockKind}
 use Rattle.ilblocks.specs.declared.kind.BlockKind.TheVariants as kinds
-use Rattle.ilblocks.specs.Ports.{ports_of, types_of_ports, first_of}
+use Rattle.ilblocks.specs.Ports.{ports_of, types_of_ports, first_of, keeps_start}
 
 -- what an instance keeps from call to call: the value of each port; its first input (CLK, CU, IN, REQ) as it was at the
--- last call; and of TON the moment at which IN became TRUE
+-- last call; and of a kind that keeps it (TON) the moment at which that input became TRUE
 pub record Block : Type 0 where
   pub ports : List Value
   pub before : Bool
@@ -97,11 +97,18 @@ abbrev pub ports_after : BlockKind → ℕ → Block → List Value
 ports_after kinds.RTrig moment b = ports_of_trigger b
 ports_after kinds.Ctu moment b = ports_of_counter b
 ports_after kinds.Ton moment b = ports_of_timer moment b
-ports_after _ moment b = b.ports
+ports_after kinds.GearLevel moment b = b.ports
+ports_after kinds.GearDo moment b = b.ports
+ports_after kinds.GearSet moment b = b.ports
+ports_after kinds.GearPair moment b = b.ports
+ports_after kinds.GearAsk moment b = b.ports
+ports_after kinds.GearRead moment b = b.ports
+ports_after kinds.DevDo moment b = b.ports
+ports_after kinds.DevScheme moment b = b.ports
+ports_after kinds.DevAsk moment b = b.ports
 
 abbrev pub start_after : BlockKind → ℕ → Block → ℕ
-start_after kinds.Ton moment b = start_of moment b
-start_after _ moment b = b.start
+start_after kind moment b = if keeps_start kind then start_of moment b else b.start
 
 -- what the instance keeps after a call
 abbrev pub after_call : BlockKind → ℕ → Block → Block

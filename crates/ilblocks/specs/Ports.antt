@@ -109,7 +109,30 @@ abbrev pub makes_requests : BlockKind → Bool
 makes_requests kinds.RTrig = false
 makes_requests kinds.Ctu = false
 makes_requests kinds.Ton = false
-makes_requests _ = true
+makes_requests kinds.GearLevel = true
+makes_requests kinds.GearDo = true
+makes_requests kinds.GearSet = true
+makes_requests kinds.GearPair = true
+makes_requests kinds.GearAsk = true
+makes_requests kinds.GearRead = true
+makes_requests kinds.DevDo = true
+makes_requests kinds.DevScheme = true
+makes_requests kinds.DevAsk = true
+
+-- whether an instance keeps the moment at which its first input became TRUE
+abbrev pub keeps_start : BlockKind → Bool
+keeps_start kinds.RTrig = false
+keeps_start kinds.Ctu = false
+keeps_start kinds.Ton = true
+keeps_start kinds.GearLevel = false
+keeps_start kinds.GearDo = false
+keeps_start kinds.GearSet = false
+keeps_start kinds.GearPair = false
+keeps_start kinds.GearAsk = false
+keeps_start kinds.GearRead = false
+keeps_start kinds.DevDo = false
+keeps_start kinds.DevScheme = false
+keeps_start kinds.DevAsk = false
 
 -- a range is ordered, so there is one where a test shows that
 abbrev pub range_if : (low high : ℤ) (is : Bool) → (T is → low ≤ℤ high) → IlType

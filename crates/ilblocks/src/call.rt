@@ -100,7 +100,15 @@ pub fn step(kind: BlockKind, block: &mut BlockState, moment: u64) -> Option<Requ
         BlockKind::RTrig => trigger(block),
         BlockKind::Ctu => count(block),
         BlockKind::Ton => time(block, moment),
-        _ => {}
+        BlockKind::GearLevel
+        | BlockKind::GearDo
+        | BlockKind::GearSet
+        | BlockKind::GearPair
+        | BlockKind::GearAsk
+        | BlockKind::GearRead
+        | BlockKind::DevDo
+        | BlockKind::DevScheme
+        | BlockKind::DevAsk => {}
     }
     block.remember(first);
     request

@@ -30,7 +30,7 @@ pub enum BlockKind {
 impl BlockKind {
     ghost use Rattle.std.specs.Prelude.{◌≡◌, ◌≤◌, length};
     ghost use Rattle.ilblocks.specs.Ports.{ports_of, most_ports, makes_requests, port_named};
-    ghost use Rattle.ilblocks.specs.Ports.{port_type, input_type};
+    ghost use Rattle.ilblocks.specs.Ports.{port_type, input_type, keeps_start};
 
     /// The ports, in the order of their numbers: two to five.
     pub fn ports(self) -> &'static [Port]
@@ -58,6 +58,26 @@ impl BlockKind {
         ensures { result ≡ makes_requests self }
     {
         !matches!(self, BlockKind::RTrig | BlockKind::Ctu | BlockKind::Ton)
+    }
+
+    /// Whether an instance keeps the moment at which its first input became TRUE.
+    pub fn keeps_start(self) -> bool
+        ensures { result ≡ keeps_start self }
+    {
+        match self {
+            BlockKind::Ton => true,
+            BlockKind::RTrig
+            | BlockKind::Ctu
+            | BlockKind::GearLevel
+            | BlockKind::GearDo
+            | BlockKind::GearSet
+            | BlockKind::GearPair
+            | BlockKind::GearAsk
+            | BlockKind::GearRead
+            | BlockKind::DevDo
+            | BlockKind::DevScheme
+            | BlockKind::DevAsk => false,
+        }
     }
 
     /// The type of a port, on the given number of buses.

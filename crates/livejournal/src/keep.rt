@@ -6,7 +6,7 @@ ghost use Rattle.limits.specs.Limits.{most_bytes};
 ghost use Rattle.ilplan.specs.Beginnings.{HasEach};
 ghost use Rattle.livekeep.specs.Printed.{printed_file};
 
-use ilblocks::{BlockKind, BlockState};
+use ilblocks::BlockState;
 use ilplan::TaskState;
 use iltypes::Value;
 use limits::MOST_BYTES;
@@ -74,7 +74,7 @@ fn counts_time(alloc: Global, plant: &Plant) -> io::Result<bool> {
     for task in 0..plan.tasks() {
         let state = plant.task_state(alloc, task)?;
         for (block, kept) in plan.task(task).blocks().iter().zip(state.blocks()) {
-            if matches!(block.kind, BlockKind::Ton) && is_counting(kept) {
+            if block.kind.keeps_start() && is_counting(kept) {
                 return Ok(true);
             }
         }

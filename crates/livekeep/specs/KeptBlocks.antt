@@ -1,17 +1,16 @@
 -- Block instances that begin with what was kept of them (profile): the value of each port, the first input as it was at
--- the last call (`last`), and of TON the moment at which IN became TRUE (`start`). Each is kept under a name of its own,
--- and an instance begins with all of them, or as before its first call.
-use Rattle.std.specs.Prelude.{ℕ, pos, List, [], ◌∷◌, ◌++◌, codes, map, min, Bool}
+-- the last call (`last`), and of a kind that keeps it (TON) the moment at which that input became TRUE (`start`). Each is
+-- kept under a name of its own, and an instance begins with all of them, or as before its first call.
+use Rattle.std.specs.Prelude.{ℕ, pos, List, [], ◌∷◌, ◌++◌, codes, map, min, Bool, if◌then◌else◌}
 use Rattle.std.specs.Prelude.{Option, Some, None, option_map, option_and_then, unwrap_or}
 use Rattle.iltypes.specs.declared.value.IlType.{IlType}
 use Rattle.iltypes.specs.declared.value.IlType.TheVariants as types
 use Rattle.iltypes.specs.declared.value.Value.{Value}
 use Rattle.iltypes.specs.declared.value.Value.TheVariants as values
 use Rattle.ilblocks.specs.declared.kind.BlockKind.{BlockKind}
-use Rattle.ilblocks.specs.declared.kind.BlockKind.TheVariants as kinds
 use Rattle.ilblocks.specs.declared.port.Port.{Port}
 use Rattle.ilblocks.specs.Calls.{Block, at_first, natural_of, number_or_zero, truth_of}
-use Rattle.ilblocks.specs.Ports.{numbers, ports_of, spelling, type_of}
+use Rattle.ilblocks.specs.Ports.{keeps_start, numbers, ports_of, spelling, type_of}
 use Rattle.ilplan.specs.declared.instance.FunctionBlock.{FunctionBlock}
 use Rattle.ilplan.specs.Plans.{Planned, PlannedTask}
 use Rattle.livekeep.specs.KeptFiles.{KeptEntry, entry_of, most_number}
@@ -41,10 +40,10 @@ port_entries block _ _ = []
 abbrev pub moment_value : ℕ → Value
 moment_value moment = values.Int (pos (min moment most_number))
 
--- the start of TON; no other kind has one
+-- the start, of a kind that keeps it
 abbrev pub start_entries : List ℕ → BlockKind → ℕ → List KeptEntry
-start_entries block kinds.Ton start = entry_of (part_name block (codes "start")) (moment_value start) ∷ []
-start_entries block kind start = []
+start_entries block kind start =
+    if keeps_start kind then entry_of (part_name block (codes "start")) (moment_value start) ∷ [] else []
 
 abbrev pub state_entries : List ℕ → BlockKind → Block → List KeptEntry
 state_entries block kind state =
@@ -73,12 +72,13 @@ kept_last kept block =
 abbrev pub moments : IlType
 moments = numbers (pos 0) (pos most_number)
 
--- the kept start of TON; the start of any other kind is 0
+-- the kept start, of a kind that keeps it; the start of any other kind is 0
 abbrev pub kept_start : List KeptEntry → List ℕ → BlockKind → Option ℕ
-kept_start kept block kinds.Ton =
-    option_map (λ value. natural_of (number_or_zero (Some value)))
-    (kept_value kept (part_name block (codes "start")) moments)
-kept_start kept block kind = Some 0
+kept_start kept block kind =
+    if keeps_start kind then
+        option_map (λ value. natural_of (number_or_zero (Some value)))
+        (kept_value kept (part_name block (codes "start")) moments)
+    else Some 0
 
 abbrev pub block_of : List Value → Bool → ℕ → Block
 block_of ports last start = record { ports = ports; before = last; start = start }

@@ -1,10 +1,10 @@
 -- What comes back of what was kept (profile).
-use Rattle.std.specs.Prelude.{◌≡◌, ◌≤◌, ℕ, List, bytes_eq, true}
+use Rattle.std.specs.Prelude.{◌≡◌, ◌≤◌, ℕ, List, Bool, bytes_eq, false, true}
 use Rattle.std.specs.List.{AllZip, IsDistinct}
 use Rattle.iltypes.specs.declared.value.Value.{Value}
 use Rattle.ilblocks.specs.declared.kind.BlockKind.{BlockKind}
-use Rattle.ilblocks.specs.declared.kind.BlockKind.TheVariants as kinds
 use Rattle.ilblocks.specs.Calls.{Block}
+use Rattle.ilblocks.specs.Ports.{keeps_start}
 use Rattle.ilblocks.specs.Stores.{Lasting}
 use Rattle.ilplan.specs.declared.global.Global.{Global as GlobalVariable}
 use Rattle.ilplan.specs.declared.instance.FunctionBlock.{FunctionBlock}
@@ -18,10 +18,13 @@ use Rattle.livekeep.specs.KeptStates.{entries_of}
 abbrev pub IsUntouched : GlobalVariable → Value → Type 0
 IsUntouched g value = is_trigger g.location ≡ true → value ≡ g.initial
 
--- a moment that a file has; no kind but TON has another start than 0
+-- a moment that a file has, where a start is kept, else 0
+abbrev pub IsStartBy : Bool → ℕ → Type 0
+IsStartBy true start = start ≤ most_number
+IsStartBy false start = start ≡ 0
+
 abbrev pub IsKeptStart : BlockKind → ℕ → Type 0
-IsKeptStart kinds.Ton start = start ≤ most_number
-IsKeptStart kind start = start ≡ 0
+IsKeptStart kind start = IsStartBy (keeps_start kind) start
 
 abbrev pub HasKeptStart : FunctionBlock → Block → Type 0
 HasKeptStart b state = IsKeptStart b.kind state.start

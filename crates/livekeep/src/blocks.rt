@@ -140,7 +140,7 @@ fn kept_last(alloc: Global, kept: &Kept, name: &[u8]) -> Result<Option<bool>, Al
     }
 }
 
-/// The moment at which IN of a TON became TRUE, where it was kept; 0 of any other kind.
+/// The moment at which the first input became TRUE, where it was kept; 0 of a kind that has none.
 fn kept_start(
     alloc: Global,
     kept: &Kept,
@@ -149,7 +149,7 @@ fn kept_start(
 ) -> Result<Option<u64>, AllocError>
     ensures { IfOk result (λ start. start ≡ kept_start kept.now.values name.now kind) }
 {
-    if !matches!(kind, BlockKind::Ton) {
+    if !kind.keeps_start() {
         return Ok(Some(0));
     }
     let part = part_name(alloc, name, b"start")?;
@@ -173,7 +173,7 @@ fn moments() -> IlType
 // ---- what is kept of instances
 
 /// Keeps what a block instance has: its ports, its first input as it was at the last call, and the
-/// start of TON.
+/// start, of a kind that has one.
 pub(crate) fn keep_block(
     alloc: Global,
     kept: &mut Vec<KeptValue>,
@@ -208,7 +208,7 @@ fn keep_ports(
     Ok(())
 }
 
-/// Keeps the moment at which IN of a TON became TRUE.
+/// Keeps the moment at which the first input became TRUE, of a kind that has one.
 fn keep_start(
     alloc: Global,
     kept: &mut Vec<KeptValue>,
@@ -219,7 +219,7 @@ fn keep_start(
     ensures { OnOk result (kept.new.items
         ≡ kept.old.items ++ start_entries name.now kind start) }
 {
-    if !matches!(kind, BlockKind::Ton) {
+    if !kind.keeps_start() {
         return Ok(());
     }
     let start = start.min(MOST_MOMENT) as i64;
