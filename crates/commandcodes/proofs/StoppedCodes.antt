@@ -2,8 +2,8 @@
 use Rattle.std.proofs.Common.{◌≡◌, ℕ, List, Option, inr}
 use Rattle.std.specs.Io.KnownBytes.{Appends}
 use Rattle.std.specs.Option.{option_copied}
-use Rattle.options.specs.declared.files.Files.{Files}
-use Rattle.inquiries.specs.declared.stop.Stop.{Stop}
+use Rattle.commandoptions.specs.declared.files.Files.{Files}
+use Rattle.textanswers.specs.declared.stop.Stop.{Stop}
 use Rattle.commandfiles.specs.ExitStatuses.{status_of_stop}
 use Rattle.commandfiles.specs.ExitStatus.{ExitStatus}
 use Rattle.commandcodes.specs.CodeFiles.{IsCodeServed, IsCodeStop}

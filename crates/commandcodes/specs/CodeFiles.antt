@@ -5,13 +5,13 @@ use Rattle.std.specs.Prelude.{◌≡◌, ℕ, List, Option, ◌⊎◌, ⊤}
 use Rattle.std.specs.Io.KnownBytes.{Appends}
 use Rattle.std.specs.Option.{option_copied}
 use Rattle.wordlines.specs.Wirings.{Wiring}
-use Rattle.options.specs.declared.files.Files.{Files}
-use Rattle.inquiries.specs.Answered.{IsStepStop, IsStopOrMemory}
-use Rattle.inquiries.specs.Connected.{IsBindingStop, IsConnected}
-use Rattle.inquiries.specs.declared.stop.Stop.{Stop}
-use Rattle.inquiries.specs.Coding.{IsCodeAnswer, IsCodeFile}
-use Rattle.inquiries.specs.CodePrinted.{printed}
-use Rattle.inquiries.specs.declared.code_answer.CodeAnswer.{CodeAnswer}
+use Rattle.commandoptions.specs.declared.files.Files.{Files}
+use Rattle.textanswers.specs.Answered.{IsStepStop, IsStopOrMemory}
+use Rattle.textanswers.specs.Connected.{IsBindingStop, IsConnected}
+use Rattle.textanswers.specs.declared.stop.Stop.{Stop}
+use Rattle.textanswers.specs.Coding.{IsCodeAnswer, IsCodeFile}
+use Rattle.textanswers.specs.CodePrinted.{printed}
+use Rattle.textanswers.specs.declared.code_answer.CodeAnswer.{CodeAnswer}
 use Rattle.commandfiles.specs.ExitStatuses.{status_of_code_answer, status_of_stop}
 use Rattle.commandfiles.specs.ExitStatus.{ExitStatus}
 use Rattle.commandfiles.specs.ExitStatus.TheVariants.{Accepted}

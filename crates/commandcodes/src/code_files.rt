@@ -3,21 +3,21 @@
 ghost use Rattle.std.specs.Prelude.{◌≡◌, IfErr, IfOk, option_map};
 ghost use Rattle.std.specs.Io.KnownBytes.{Appends};
 ghost use Rattle.std.specs.Option.{option_copied};
-ghost use Rattle.inquiries.specs.CodePrinted.{printed};
+ghost use Rattle.textanswers.specs.CodePrinted.{printed};
 ghost use Rattle.commandfiles.specs.ExitStatuses.{status_of_code_answer, status_of_stop};
 ghost use Rattle.commandcodes.specs.CodeFiles.{IsCodeJudged, IsCodeServed, IsCodeStop, IsCodeUnder};
 ghost use Rattle.commandcodes.specs.CodeFiles.{IsCodeUnserved, IsUnjudged};
 ghost use Rattle.commandfiles.specs.Reports.{ended, stop_text};
 
 use commandfiles::{
-    Disk, ExitStatus, FileKind, ReadFiles, Unserved, bytes_at, named_at, print_answer, tell_hint,
+    Disk, ExitStatus, FileRole, ReadFiles, Unserved, bytes_at, named_at, print_answer, tell_hint,
     write_at,
 };
-use inquiries::{Answer, CodeAnswer, Stop, binding_of, code_of, judge};
-use options::Files;
+use commandoptions::Files;
 use std::alloc::Global;
 use std::io;
 use std::io::{BufWriter, Write};
+use textanswers::{Answer, CodeAnswer, Stop, binding_of, code_of, judge};
 
 /// Reads the files that are named, the binding before the text, and writes the code file of the
 /// task of this name, or without a name of the only one, to a path, or prints what stands against
@@ -88,7 +88,7 @@ fn print_stop<W: Write + Drop, E: Write>(
         (stop_text stop)) }
     ensures status { IfOk result (λ done. done.1 ≡ status_of_stop stop) }
 {
-    let place = FileKind::of_stop(&stop);
+    let place = FileRole::of_stop(&stop);
     let done = print_answer(alloc, to, complaints, &Answer::Stopped(stop))?;
     tell_hint(alloc, complaints, read, place);
     Ok(done)

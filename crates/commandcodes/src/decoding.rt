@@ -3,7 +3,7 @@
 use crate::wording::{add_frame, frame_of};
 use commandfiles::{DiskFault, ExitStatus, Unserved, reason};
 use daliwords::FrameWords;
-use page::Page;
+use printout::Printout;
 use std::alloc::Global;
 use std::fs::File;
 use std::io;
@@ -58,7 +58,7 @@ fn unread<'a>(why: DiskFault) -> Unserved<'a> {
 
 /// Writes a line with what the frames in it say, in one piece.
 fn write_line<W: Write>(alloc: Global, to: &mut W, line: &str) -> io::Result<()> {
-    let mut page = Page::new(alloc);
+    let mut page = Printout::new(alloc);
     add_line(&mut page, line);
     page.write_to(to)
 }
@@ -66,7 +66,7 @@ fn write_line<W: Write>(alloc: Global, to: &mut W, line: &str) -> io::Result<()>
 /// Adds a line of a log with what the frames in it say. A line of frames alone is a line for each,
 /// as `frame` prints them; of any other the frames are said behind it that stand behind `send`,
 /// `event`, `heard` or `hand`. A line with a parenthesis says them already.
-fn add_line(page: &mut Page, line: &str) {
+fn add_line(page: &mut Printout, line: &str) {
     if is_of_frames(line) {
         for word in line.split_ascii_whitespace() {
             add_frame(page, word);
@@ -93,7 +93,7 @@ fn is_of_frames(line: &str) -> bool {
 }
 
 /// Adds what the frames say that stand behind a word that has frames behind it.
-fn add_said(page: &mut Page, line: &str) {
+fn add_said(page: &mut Printout, line: &str) {
     let mut is_behind = false;
     let mut is_first = true;
     for word in line.split_ascii_whitespace() {

@@ -6,7 +6,7 @@ use daliframe::{Address, BusNumber, Frame, Number};
 use daliwords::{AddressWords, Block, FrameWords, request_of};
 use gearcmd::{Command, Request};
 use ilblocks::{BlockKind, Port, PortName, PortValues};
-use page::Page;
+use printout::Printout;
 use std::alloc::{AllocError, Global};
 
 /// The blocks that make requests, in the order of the language's table.
@@ -178,7 +178,7 @@ impl NamedRequest {
     /// Adds the ports behind BUS whose numbers are to be given, each with its range: `ADR 0..63,
     /// CMD
     /// 0..42`.
-    fn list_ports(self, page: &mut Page) {
+    fn list_ports(self, page: &mut Printout) {
         let mut is_first = true;
         for port in kind_of(self.block).ports() {
             if let Some(range) = range_of(*port, self.cmd.is_some()) {
@@ -226,8 +226,8 @@ fn kind_of(block: Block) -> BlockKind {
 
 impl RequestRefusal<'_> {
     /// The line that is printed.
-    pub fn page(&self, alloc: Global) -> Page {
-        let mut page = Page::new(alloc);
+    pub fn page(&self, alloc: Global) -> Printout {
+        let mut page = Printout::new(alloc);
         match self {
             RequestRefusal::Unknown(word) => {
                 let what = " is no block and no command; the blocks are";
@@ -247,7 +247,7 @@ impl RequestRefusal<'_> {
 }
 
 /// Adds the names of the blocks.
-fn list_blocks(page: &mut Page) {
+fn list_blocks(page: &mut Printout) {
     let mut is_first = true;
     for block in BLOCKS {
         page.text(if is_first { " " } else { ", " });

@@ -2,17 +2,17 @@
 
 use crate::decoding::{STANDARD_INPUT, serve_log};
 use commandfiles::{
-    Disk, ExitStatus, FileKind, ReadFiles, Unserved, add_texts, bytes_at, tell_hint,
+    Disk, ExitStatus, FileRole, ReadFiles, Unserved, add_texts, bytes_at, tell_hint,
 };
 use commandline::GivenFrames;
 use daliframe::{Frame, Frame16, Frame24};
 use daliwords::{FrameWords, frame_of_event};
-use inquiries::{Stop, binding_of};
-use page::Page;
+use printout::Printout;
 use std::alloc::{AllocError, Global};
 use std::io;
 use std::io::Write;
 use std::rt::Files;
+use textanswers::{Stop, binding_of};
 use wordlines::{Binding, BoundSource, hex_of, number_of, parts_around_dot};
 
 /// Prints what frames say, a line each, or with `-` alone the lines of standard input with what
@@ -66,8 +66,8 @@ fn words_of<'a>(alloc: Global, given: GivenFrames<'a>) -> Result<Vec<&'a str>, A
 }
 
 /// A line for each word that is no frame.
-fn page_of_others(alloc: Global, words: &[&str]) -> Page {
-    let mut page = Page::new(alloc);
+fn page_of_others(alloc: Global, words: &[&str]) -> Printout {
+    let mut page = Printout::new(alloc);
     for word in words {
         if frame_of(word).is_none() {
             let what = " is no frame: write 4 or 6 hexadecimal digits, as FF05 or 0A8809\n";
@@ -78,8 +78,8 @@ fn page_of_others(alloc: Global, words: &[&str]) -> Page {
 }
 
 /// What frames say, a line each.
-fn page_of_frames(alloc: Global, words: &[&str]) -> Page {
-    let mut page = Page::new(alloc);
+fn page_of_frames(alloc: Global, words: &[&str]) -> Printout {
+    let mut page = Printout::new(alloc);
     for word in words {
         add_frame(&mut page, word);
     }
@@ -87,7 +87,7 @@ fn page_of_frames(alloc: Global, words: &[&str]) -> Page {
 }
 
 /// Adds a line with what a word says that is a frame.
-pub(crate) fn add_frame(page: &mut Page, word: &str) {
+pub(crate) fn add_frame(page: &mut Printout, word: &str) {
     if let Some(frame) = frame_of(word) {
         page.shown(&frame);
         page.text(" ");
@@ -157,7 +157,7 @@ struct Place {
 
 impl Place {
     /// Adds the place, as `B.K`.
-    fn add_to(self, page: &mut Page) {
+    fn add_to(self, page: &mut Printout) {
         page.shown(&self.bus);
         page.text(".");
         page.shown(&self.number);
@@ -188,9 +188,9 @@ impl EventRefusal<'_> {
     }
 
     /// What the file is that has the fault, where one has.
-    fn place(&self) -> Option<FileKind> {
+    fn place(&self) -> Option<FileRole> {
         match self {
-            EventRefusal::Binding(stop) => FileKind::of_stop(stop),
+            EventRefusal::Binding(stop) => FileRole::of_stop(stop),
             EventRefusal::NoPlace(_) | EventRefusal::Unbound(..) | EventRefusal::TooMuch(_) => None,
         }
     }
@@ -198,8 +198,8 @@ impl EventRefusal<'_> {
 
 impl EventRefusal<'_> {
     /// The line that is printed.
-    fn page(&self, alloc: Global) -> Page {
-        let mut page = Page::new(alloc);
+    fn page(&self, alloc: Global) -> Printout {
+        let mut page = Printout::new(alloc);
         match self {
             EventRefusal::Binding(stop) => page.shown(stop),
             EventRefusal::NoPlace(word) => {
@@ -226,7 +226,7 @@ impl EventRefusal<'_> {
 const MOST_NAMED: usize = 8;
 
 /// Adds which places are bound, at most [`MOST_NAMED`] of them.
-fn list_bound(page: &mut Page, binding: &Binding) {
+fn list_bound(page: &mut Printout, binding: &Binding) {
     for (index, bound) in binding.sources().iter().take(MOST_NAMED).enumerate() {
         page.text(if index == 0 {
             "; the binding has "

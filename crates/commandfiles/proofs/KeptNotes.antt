@@ -7,7 +7,7 @@ use Rattle.livekeep.specs.declared.fault.KeptFault.{KeptFault}
 use Rattle.commandfiles.specs.declared.beginning.Beginning.{Beginning}
 use Rattle.commandfiles.specs.declared.beginning.KeptNote.{KeptNote}
 use Rattle.commandfiles.specs.declared.beginning.KeptNote.TheVariants.{Unused}
-use Rattle.inquiries.specs.declared.stop.Stop.{Stop}
+use Rattle.textanswers.specs.declared.stop.Stop.{Stop}
 use Rattle.commandfiles.specs.Beginnings.{AreUsed, HasBegun, IsBegunUnder, IsNoted, IsNotedUnder, IsNotedUnused}
 
 -- its bytes are no file of values

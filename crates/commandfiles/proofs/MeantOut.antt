@@ -6,9 +6,9 @@ use Rattle.livekeep.specs.KeptFiles.{KeptEntry, KeptState}
 use Rattle.plantevents.specs.declared.event.Event.{Event}
 use Rattle.plantevents.specs.Plants.{Plant}
 use Rattle.plantevents.specs.Legal.{AreLegal}
-use Rattle.inquiries.specs.Loading.{IsSetup}
-use Rattle.inquiries.specs.KeptLoading.{IsKeptSetup}
-use Rattle.inquiries.specs.MeantScans.{AreAsMeant}
+use Rattle.textanswers.specs.Loading.{IsSetup}
+use Rattle.textanswers.specs.KeptLoading.{IsKeptSetup}
+use Rattle.textanswers.specs.MeantScans.{AreAsMeant}
 use Rattle.commandfiles.specs.Beginnings.{IsBegunWith, tree_of}
 
 -- the law of the scans of a text

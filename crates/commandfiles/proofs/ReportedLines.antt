@@ -8,7 +8,7 @@ use Rattle.iltypes.specs.declared.value.Value.{Value}
 use Rattle.ilplan.specs.declared.slot.Slot.{Slot}
 use Rattle.ilplan.specs.Plans.{Planned, PlannedTask, instance_name, variable_name}
 use Rattle.ilverify.specs.Verdicts.{Accepted}
-use Rattle.inquiries.specs.Printed.{printed_task, printed_request, printed_variable}
+use Rattle.textanswers.specs.Printed.{printed_task, printed_request, printed_variable}
 use Rattle.gearcmd.specs.declared.requests.Request.{Request}
 use Rattle.gearcmd.specs.declared.requests.TaskKind.{TaskKind}
 use Rattle.commandfiles.specs.Reports.{ended, first_lines, first_texts, line_of, of_both, request_lines}

@@ -9,11 +9,11 @@ use Rattle.livekeep.specs.KeptFiles.{IsKeptFile, KeptState}
 use Rattle.livekeep.specs.KeptPlans.{left_out_of}
 use Rattle.livekeep.specs.Faults.{IsKeptFault}
 use Rattle.livekeep.specs.declared.fault.KeptFault.{KeptFault}
-use Rattle.inquiries.specs.Loading.{IsSetup}
-use Rattle.inquiries.specs.KeptLoading.{IsKeptSetup}
-use Rattle.inquiries.specs.Answered.{IsCheckStop, IsStopOrMemory}
-use Rattle.inquiries.specs.Connected.{IsBindingStop, IsConnected}
-use Rattle.inquiries.specs.declared.stop.Stop.{Stop}
+use Rattle.textanswers.specs.Loading.{IsSetup}
+use Rattle.textanswers.specs.KeptLoading.{IsKeptSetup}
+use Rattle.textanswers.specs.Answered.{IsCheckStop, IsStopOrMemory}
+use Rattle.textanswers.specs.Connected.{IsBindingStop, IsConnected}
+use Rattle.textanswers.specs.declared.stop.Stop.{Stop}
 use Rattle.commandfiles.specs.declared.beginning.Beginning.{Beginning}
 use Rattle.commandfiles.specs.declared.beginning.KeptNote.{KeptNote}
 use Rattle.commandfiles.specs.declared.beginning.KeptNote.TheVariants.{NoFile, Unused, Used}

@@ -9,18 +9,18 @@ use Rattle.iltypes.specs.declared.value.Value.{Value}
 use Rattle.ilplan.specs.declared.slot.SlotOwner.{SlotOwner}
 use Rattle.ilplan.specs.Plans.{Planned, instance_name, slot_at, task_kind, variable_name}
 use Rattle.ilcompile.specs.Loaded.{Loaded}
-use Rattle.inquiries.specs.declared.answers.Answer.{Answer}
-use Rattle.inquiries.specs.declared.answers.Answer.TheVariants as answers
-use Rattle.options.specs.declared.inquiry.Inquiry.{Inquiry}
+use Rattle.textanswers.specs.declared.answers.Answer.{Answer}
+use Rattle.textanswers.specs.declared.answers.Answer.TheVariants as answers
+use Rattle.commandoptions.specs.declared.inquiry.Inquiry.{Inquiry}
 use Rattle.exitstatus.specs.declared.exit_status.ExitStatus.{ExitStatus}
 use Rattle.exitstatus.specs.declared.exit_status.ExitStatus.TheVariants.{Accepted}
 use Rattle.exitstatus.specs.ExitStatuses.{status_of_stop}
-use Rattle.inquiries.specs.Printed.{printed_task, printed_scan, printed_request, printed_variable}
-use Rattle.inquiries.specs.Responses.{IsAnswer}
-use Rattle.inquiries.specs.Stepping.{Run}
-use Rattle.inquiries.specs.Stops.{printed_stop}
-use Rattle.inquiries.specs.declared.stop.Stop.{Stop}
-use Rattle.inquiries.specs.declared.stop.Stop.TheVariants.{Binding, Load, Memory, NoTask}
+use Rattle.textanswers.specs.Printed.{printed_task, printed_scan, printed_request, printed_variable}
+use Rattle.textanswers.specs.Responses.{IsAnswer}
+use Rattle.textanswers.specs.Stepping.{Run}
+use Rattle.textanswers.specs.Stops.{printed_stop}
+use Rattle.textanswers.specs.declared.stop.Stop.{Stop}
+use Rattle.textanswers.specs.declared.stop.Stop.TheVariants.{Binding, Load, Memory, NoTask}
 
 -- the first of these texts, one after another
 abbrev pub first_texts : (ℕ → List ℕ) → ℕ → List ℕ

@@ -3,13 +3,13 @@
 use Rattle.std.specs.Prelude.{◌≡◌, ℕ, List, Option, Some, None, ◌⊎◌, ⊤}
 use Rattle.std.specs.Option.{option_copied}
 use Rattle.commandfiles.specs.declared.reading.DiskFault.{DiskFault}
-use Rattle.options.specs.declared.files.Files.{Files}
-use Rattle.options.specs.declared.inquiry.Inquiry.{Inquiry}
+use Rattle.commandoptions.specs.declared.files.Files.{Files}
+use Rattle.commandoptions.specs.declared.inquiry.Inquiry.{Inquiry}
 use Rattle.exitstatus.specs.declared.exit_status.ExitStatus.{ExitStatus}
 use Rattle.commandfiles.specs.declared.serving.Unserved.{Unserved}
 use Rattle.commandfiles.specs.declared.serving.Unserved.TheVariants.{NotRead, NotWritten, NotPrinted}
 use Rattle.commandfiles.specs.Reports.{IsReport}
-use Rattle.options.specs.Inquiries.{files_of}
+use Rattle.commandoptions.specs.Inquiries.{files_of}
 
 -- what is given for a path, and nothing where there is none
 abbrev pub IsGiven : (List ℕ → List ℕ → Type 0) → Option (List ℕ) → Option (List ℕ) → Type 0

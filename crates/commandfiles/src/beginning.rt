@@ -8,11 +8,11 @@ ghost use Rattle.commandfiles.specs.Beginnings.{IsStopUnder};
 use crate::reading::{Disk, DiskFault};
 use crate::serving::Unserved;
 use ilcompile::Setup;
-use inquiries::{Stop, begin_kept, binding_of, check};
 use jiff::Timestamp;
 use livekeep::{Kept, KeptAt, KeptFault, LeftOut};
 use std::alloc::{AllocError, Global};
 use std::fmt;
+use textanswers::{Stop, begin_kept, binding_of, check};
 
 /// The setup that a building begins with.
 #[derive(Drop)]

@@ -1,39 +1,39 @@
 //! What standard error says behind a fault: which file it is in, and how to have it explained.
 
 use crate::texts::add_texts;
+use commandoptions::{Files, LiveFiles, PlayFiles};
 use exitstatus::PlayStop;
 use iltext::parse;
-use inquiries::Stop;
-use options::{Files, LiveFiles, PlayFiles};
-use page::Page;
+use printout::Printout;
 use simbus::ScenarioFault;
 use std::alloc::Global;
 use std::io::Write;
+use textanswers::Stop;
 use wordlines::Binding;
 
 /// What a file can be.
 #[derive(Clone, Copy)]
-pub enum FileKind {
+pub enum FileRole {
     Text,
     Binding,
     Scenario,
 }
 
-impl FileKind {
+impl FileRole {
     /// That of the file which this is a fault of, where it is one of a file.
-    pub fn of_stop(stop: &Stop) -> Option<FileKind> {
+    pub fn of_stop(stop: &Stop) -> Option<FileRole> {
         match stop {
-            Stop::Binding(_) => Some(FileKind::Binding),
-            Stop::Load(_) => Some(FileKind::Text),
+            Stop::Binding(_) => Some(FileRole::Binding),
+            Stop::Load(_) => Some(FileRole::Text),
             Stop::Memory | Stop::NoTask(_) => None,
         }
     }
 
     /// That of the file which this is a fault of, where it is one of a file.
-    pub fn of_play_stop(stop: &PlayStop) -> Option<FileKind> {
+    pub fn of_play_stop(stop: &PlayStop) -> Option<FileRole> {
         match stop {
-            PlayStop::Text(stop) => FileKind::of_stop(stop),
-            PlayStop::Scenario(ScenarioFault::At { .. }) => Some(FileKind::Scenario),
+            PlayStop::Text(stop) => FileRole::of_stop(stop),
+            PlayStop::Scenario(ScenarioFault::At { .. }) => Some(FileRole::Scenario),
             PlayStop::Scenario(ScenarioFault::Memory) | PlayStop::Start(_) => None,
         }
     }
@@ -41,9 +41,9 @@ impl FileKind {
     /// What it is, as it is printed.
     fn words(self) -> &'static str {
         match self {
-            FileKind::Text => "a text",
-            FileKind::Binding => "a binding",
-            FileKind::Scenario => "a scenario",
+            FileRole::Text => "a text",
+            FileRole::Binding => "a binding",
+            FileRole::Scenario => "a scenario",
         }
     }
 }
@@ -127,11 +127,11 @@ impl<'a> ReadFiles<'a> {
     }
 
     /// The file in the place of one of this kind.
-    fn at(self, place: FileKind) -> Option<ReadFile<'a>> {
+    fn at(self, place: FileRole) -> Option<ReadFile<'a>> {
         match place {
-            FileKind::Text => self.text,
-            FileKind::Binding => self.binding,
-            FileKind::Scenario => self.scenario,
+            FileRole::Text => self.text,
+            FileRole::Binding => self.binding,
+            FileRole::Scenario => self.scenario,
         }
     }
 
@@ -167,18 +167,18 @@ fn is_at(file: Option<ReadFile>, path: &str) -> bool {
 
 /// What a file is that has a fault in this place, where it is one of another kind without a fault.
 /// Comments alone are a scenario too, and nobody means one.
-fn other_kind(alloc: Global, place: FileKind, bytes: &[u8]) -> Option<FileKind> {
-    if !matches!(place, FileKind::Binding) && Binding::parse(alloc, bytes).is_ok() {
-        return Some(FileKind::Binding);
+fn other_kind(alloc: Global, place: FileRole, bytes: &[u8]) -> Option<FileRole> {
+    if !matches!(place, FileRole::Binding) && Binding::parse(alloc, bytes).is_ok() {
+        return Some(FileRole::Binding);
     }
     if !has_words(bytes) {
         return None;
     }
-    if !matches!(place, FileKind::Scenario) && simbus::parse(alloc, bytes).is_ok() {
-        return Some(FileKind::Scenario);
+    if !matches!(place, FileRole::Scenario) && simbus::parse(alloc, bytes).is_ok() {
+        return Some(FileRole::Scenario);
     }
-    if !matches!(place, FileKind::Text) && parse(alloc, bytes).is_ok() {
-        return Some(FileKind::Text);
+    if !matches!(place, FileRole::Text) && parse(alloc, bytes).is_ok() {
+        return Some(FileRole::Text);
     }
     None
 }
@@ -198,15 +198,15 @@ fn has_words(bytes: &[u8]) -> bool {
 pub struct Hint<'a> {
     files: ReadFiles<'a>,
     /// What stands at its place in the command.
-    place: FileKind,
+    place: FileRole,
     path: &'a str,
     /// What it is, where it is a file of another kind without a fault.
-    other: Option<FileKind>,
+    other: Option<FileRole>,
 }
 
 /// What is said of the file with the first fault, which is in this place; nothing where a file
 /// cannot be read once more.
-pub fn hint_of<'a>(alloc: Global, files: ReadFiles<'a>, place: FileKind) -> Option<Hint<'a>> {
+pub fn hint_of<'a>(alloc: Global, files: ReadFiles<'a>, place: FileRole) -> Option<Hint<'a>> {
     if files.has_passing() {
         return None;
     }
@@ -225,7 +225,7 @@ pub fn tell_hint<E: Write>(
     alloc: Global,
     complaints: &mut E,
     files: ReadFiles,
-    place: Option<FileKind>,
+    place: Option<FileRole>,
 ) {
     let Some(place) = place else {
         return;
@@ -238,10 +238,10 @@ pub fn tell_hint<E: Write>(
 /// That a file of another kind stands in the place of the text, where one does.
 pub fn misplaced_text<'a>(alloc: Global, files: ReadFiles<'a>) -> Option<Hint<'a>> {
     let file = files.text?;
-    let other = other_kind(alloc, FileKind::Text, file.bytes)?;
+    let other = other_kind(alloc, FileRole::Text, file.bytes)?;
     Some(Hint {
         files,
-        place: FileKind::Text,
+        place: FileRole::Text,
         path: file.path,
         other: Some(other),
     })
@@ -249,8 +249,8 @@ pub fn misplaced_text<'a>(alloc: Global, files: ReadFiles<'a>) -> Option<Hint<'a
 
 impl Hint<'_> {
     /// The line that is printed.
-    pub fn page(&self, alloc: Global) -> Page {
-        let mut page = Page::new(alloc);
+    pub fn page(&self, alloc: Global) -> Printout {
+        let mut page = Printout::new(alloc);
         match self.other {
             Some(kind) => self.say_misplaced(&mut page, kind),
             None => self.say_fault(&mut page),
@@ -260,7 +260,7 @@ impl Hint<'_> {
     }
 
     /// Adds that the file is one of another kind.
-    fn say_misplaced(&self, page: &mut Page, kind: FileKind) {
+    fn say_misplaced(&self, page: &mut Printout, kind: FileRole) {
         page.text(self.path);
         page.text(" is ");
         page.text(kind.words());
@@ -275,13 +275,13 @@ impl Hint<'_> {
     }
 
     /// Adds how to have the fault explained.
-    fn say_fault(&self, page: &mut Page) {
+    fn say_fault(&self, page: &mut Printout) {
         add_texts(page, &["the fault is in ", self.path, ": dalictl explain"]);
         add_typed(page, path_or(self.files.text, "TEXT"));
         if let Some(binding) = self.files.binding {
             add_typed(page, binding.path);
         }
-        if matches!(self.place, FileKind::Scenario) {
+        if matches!(self.place, FileRole::Scenario) {
             add_typed(page, self.path);
         }
     }
@@ -297,7 +297,7 @@ fn path_or<'a>(file: Option<ReadFile<'a>>, other: &'a str) -> &'a str {
 
 /// Adds a blank and a path as it is typed in a shell, where a word that begins with a minus is an
 /// option.
-fn add_typed(page: &mut Page, path: &str) {
+fn add_typed(page: &mut Printout, path: &str) {
     page.text(if path.starts_with('-') { " ./" } else { " " });
     if path.chars().all(is_plain) {
         page.text(path);
@@ -307,7 +307,7 @@ fn add_typed(page: &mut Page, path: &str) {
 }
 
 /// Adds a path between apostrophes.
-fn add_quoted(page: &mut Page, path: &str) {
+fn add_quoted(page: &mut Printout, path: &str) {
     page.text("'");
     for letter in path.chars() {
         page.text(if letter == '\'' { "'\\'" } else { "" });

@@ -9,10 +9,10 @@ ghost use Rattle.commandfiles.specs.Reports.{unknown_task_text, variable_line};
 use exitstatus::ExitStatus;
 use gearcmd::RequestLine;
 use ilcompile::Setup;
-use inquiries::{Answer, Stepped, Stop, UnknownTask, task_line};
 use std::alloc::Global;
 use std::io;
 use std::io::{BufWriter, Write};
+use textanswers::{Answer, Stepped, Stop, UnknownTask, task_line};
 
 /// Prints the answer through a buffer, of which nothing is left behind; the writer, which then has
 /// every line, and how the program ends. `complaints` gets which tasks there are, where one is not.

@@ -5,15 +5,15 @@ ghost use Rattle.std.specs.Option.{option_copied};
 ghost use Rattle.commandfiles.specs.Served.{IsGiven, IsNotRead, IsNotWritten, IsServed};
 ghost use Rattle.commandfiles.specs.Served.{IsUnserved};
 
-use crate::hints::{FileKind, ReadFiles, tell_hint};
+use crate::hints::{FileRole, ReadFiles, tell_hint};
 use crate::reading::{Disk, DiskFault};
 use crate::report;
+use commandoptions::Inquiry;
 use exitstatus::ExitStatus;
-use inquiries::{Answer, respond};
-use options::Inquiry;
 use std::alloc::Global;
 use std::io;
 use std::io::Write;
+use textanswers::{Answer, respond};
 
 /// Why a command is not served.
 #[derive(Drop)]
@@ -67,9 +67,9 @@ pub fn serve<'a, D: Disk, W: Write + Drop, E: Write>(
 }
 
 /// What the file is that has the fault which is answered, where one is.
-fn place_of(answer: &Answer) -> Option<FileKind> {
+fn place_of(answer: &Answer) -> Option<FileRole> {
     match answer {
-        Answer::Stopped(stop) => FileKind::of_stop(stop),
+        Answer::Stopped(stop) => FileRole::of_stop(stop),
         Answer::Checked(_) | Answer::Stepped(_) => None,
     }
 }

@@ -1,9 +1,9 @@
 //! Texts on a page, one after another.
 
-use page::Page;
+use printout::Printout;
 
 /// Adds texts.
-pub fn add_texts(page: &mut Page, texts: &[&str]) {
+pub fn add_texts(page: &mut Printout, texts: &[&str]) {
     for text in texts {
         page.text(text);
     }

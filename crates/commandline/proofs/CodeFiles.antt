@@ -3,7 +3,7 @@ use Rattle.std.proofs.Common.{◌≡◌, ◌∙◌, ap, sym, inl, inr, List, Opt
 use Rattle.std.specs.Borrow.{Bor}
 use Rattle.clap.specs.Words.{Row, Text}
 use Rattle.commandline.specs.TextWords.{AreCodeWords}
-use Rattle.options.specs.declared.files.Files.{Files}
+use Rattle.commandoptions.specs.declared.files.Files.{Files}
 use Rattle.commandline.specs.CommandLine.{IsInput, NamesInput}
 
 pub one_reading : (found : List Row) (files : Files) (task : Option (Bor Text)) (to : Bor Text)

@@ -13,7 +13,7 @@ use Rattle.commandline.specs.ExpectedWords.{AreExpected, IsExpectedWord, IsFirst
 use Rattle.commandline.specs.ExpectedWords.{unexpected_word}
 use Rattle.commandline.specs.declared.expected_words.ExpectedFault.{ExpectedFault}
 use Rattle.commandline.specs.declared.expected_words.ExpectedFault.TheVariants.{NoPair, TooMany}
-use Rattle.options.specs.declared.expected_word.ExpectedWord.{ExpectedWord}
+use Rattle.commandoptions.specs.declared.expected_word.ExpectedWord.{ExpectedWord}
 
 abbrev texts : List (Bor Text) → List Text
 texts = map (λ word. word.now)

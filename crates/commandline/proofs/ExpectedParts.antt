@@ -7,7 +7,7 @@ use Rattle.std.proofs.lemmas.Str.Pattern.{IsSplitOnceResult, split_after, split_
 use Rattle.clap.specs.Words.{Text}
 use Rattle.commandline.specs.ExpectedWords.{IsExpectedWord}
 use Rattle.commandline.specs.LineWords.{equals_sign}
-use Rattle.options.specs.declared.expected_word.ExpectedWord.{ExpectedWord}
+use Rattle.commandoptions.specs.declared.expected_word.ExpectedWord.{ExpectedWord}
 use Rattle.commandline.proofs.LineParts.{nowhere}
 
 -- a word says what is expected in one way

@@ -11,7 +11,7 @@ use Rattle.wordlines.specs.WordLines.{number_upto}
 use Rattle.commandline.proofs.LineParts.{StandsNowhere, between, bus_spelled, no_sign_there, nowhere}
 use Rattle.commandline.specs.LineWords.{AreLines, ArePaths, IsFaultAfter, IsFirstFault, IsLineWord, SharePath, comma}
 use Rattle.commandline.specs.LineWords.{equals_sign, word_of}
-use Rattle.options.specs.declared.line_word.LineWord.{LineWord}
+use Rattle.commandoptions.specs.declared.line_word.LineWord.{LineWord}
 use Rattle.commandline.specs.declared.line_words.LineWordFault.{LineWordFault}
 use Rattle.commandline.specs.declared.line_words.LineWordFault.TheVariants.{Again, NoLine, Shared}
 

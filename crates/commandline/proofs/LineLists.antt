@@ -13,7 +13,7 @@ use Rattle.std.proofs.lemmas.Bool.Decides.{Decides-eqb}
 use Rattle.clap.specs.Words.{Text}
 use Rattle.commandline.specs.LineWords.{AreLines, IsFaultAfter, IsFirstFault, IsLineWord, SharePath, word_of}
 use Rattle.commandline.proofs.LineParts.{bus_spelled}
-use Rattle.options.specs.declared.line_word.LineWord.{LineWord}
+use Rattle.commandoptions.specs.declared.line_word.LineWord.{LineWord}
 use Rattle.commandline.specs.declared.line_words.LineWordFault.{LineWordFault}
 
 abbrev texts : List (Bor Text) → List Text

@@ -15,7 +15,7 @@ use Rattle.std.proofs.lemmas.Str.Pattern.{IsSplitOnceResult, contains_char, spli
 use Rattle.clap.specs.Words.{Text}
 use Rattle.wordlines.specs.WordLines.{are_digits, number_upto}
 use Rattle.commandline.specs.LineWords.{ArePaths, IsLineWord, IsPath, comma, equals_sign}
-use Rattle.options.specs.declared.line_word.LineWord.{LineWord}
+use Rattle.commandoptions.specs.declared.line_word.LineWord.{LineWord}
 
 -- ---- a byte that stands nowhere in a text
 

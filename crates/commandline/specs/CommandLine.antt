@@ -28,10 +28,10 @@ use Rattle.commandline.specs.Invocations.{IsLineName, IsOfCommand, expected_word
 use Rattle.commandline.specs.Invocations.{watched_words}
 use Rattle.commandline.specs.LineWords.{AreLines, ArePaths}
 use Rattle.commandline.specs.TextWords.{AreCodeWords}
-use Rattle.options.specs.declared.expected_word.ExpectedWord.{ExpectedWord}
-use Rattle.options.specs.declared.files.Files.{Files}
+use Rattle.commandoptions.specs.declared.expected_word.ExpectedWord.{ExpectedWord}
+use Rattle.commandoptions.specs.declared.files.Files.{Files}
 use Rattle.commandline.specs.declared.invocations.Invocation.{Invocation}
-use Rattle.options.specs.declared.line_word.LineWord.{LineWord}
+use Rattle.commandoptions.specs.declared.line_word.LineWord.{LineWord}
 
 -- ---- the words that are taken
 

@@ -5,7 +5,7 @@ use Rattle.clap.specs.Words.{Text}
 use Rattle.commandline.specs.LineWords.{equals_sign}
 use Rattle.commandline.specs.declared.expected_words.ExpectedFault.{ExpectedFault}
 use Rattle.commandline.specs.declared.expected_words.ExpectedFault.TheVariants.{NoPair, TooMany}
-use Rattle.options.specs.declared.expected_word.ExpectedWord.{ExpectedWord}
+use Rattle.commandoptions.specs.declared.expected_word.ExpectedWord.{ExpectedWord}
 
 -- the word says what is expected: a name with no `=`, `=`, and what the value is to be; neither is empty
 pub record IsExpectedWord (word : Text) (expected : ExpectedWord) : Type 0 where

@@ -8,23 +8,23 @@ use Rattle.commandline.specs.ExpectedWords.{AreExpected, IsFirstUnexpected}
 use Rattle.commandline.specs.LineWords.{AreLines, ArePaths, IsFirstFault, IsNoPath}
 use Rattle.commandline.specs.TextWords.{AreCodeWords, AreTaskWords, IsBound, given, scenario_by}
 use Rattle.commandline.specs.WatchedNames.{AreWatched, IsSeventeenth}
-use Rattle.options.specs.declared.files.Files.{Files}
-use Rattle.options.specs.declared.files.LiveFiles.{LiveFiles}
-use Rattle.options.specs.declared.files.PlayFiles.{PlayFiles}
-use Rattle.options.specs.declared.inquiry.Inquiry.{Inquiry}
-use Rattle.options.specs.declared.inquiry.Inquiry.TheVariants.{Check, Step}
-use Rattle.options.specs.declared.beside.Beside.{Beside}
+use Rattle.commandoptions.specs.declared.files.Files.{Files}
+use Rattle.commandoptions.specs.declared.files.LiveFiles.{LiveFiles}
+use Rattle.commandoptions.specs.declared.files.PlayFiles.{PlayFiles}
+use Rattle.commandoptions.specs.declared.inquiry.Inquiry.{Inquiry}
+use Rattle.commandoptions.specs.declared.inquiry.Inquiry.TheVariants.{Check, Step}
+use Rattle.commandoptions.specs.declared.beside.Beside.{Beside}
 use Rattle.commandline.specs.declared.invocations.GivenFrames.{GivenFrames}
 use Rattle.commandline.specs.declared.invocations.Invocation.{Invocation}
 use Rattle.commandline.specs.declared.invocations.Invocation.TheVariants as invocations
 use Rattle.commandline.specs.declared.invocations.Invocation.TheVariants.{Ask, CheckCode, Code, EventLine, Frame, Live}
 use Rattle.commandline.specs.declared.invocations.Invocation.TheVariants.{Look, Play, Run, Tell}
-use Rattle.options.specs.declared.live_options.LiveOptions.{LiveOptions}
+use Rattle.commandoptions.specs.declared.live_options.LiveOptions.{LiveOptions}
 use Rattle.commandline.specs.declared.invocations.LookOptions.{LookOptions}
 use Rattle.commandline.specs.declared.invocations.PlayShows.{PlayShows}
-use Rattle.options.specs.declared.live_options.RunSize.{RunSize}
-use Rattle.options.specs.declared.expected_word.ExpectedWord.{ExpectedWord}
-use Rattle.options.specs.declared.line_word.LineWord.{LineWord}
+use Rattle.commandoptions.specs.declared.live_options.RunSize.{RunSize}
+use Rattle.commandoptions.specs.declared.expected_word.ExpectedWord.{ExpectedWord}
+use Rattle.commandoptions.specs.declared.line_word.LineWord.{LineWord}
 use Rattle.commandline.specs.declared.line_words.LineWordFault.{LineWordFault}
 use Rattle.commandline.specs.declared.questions.Question.{Question}
 use Rattle.commandline.specs.declared.questions.Question.TheVariants.{Faults, Notes, Sizes, Words}

@@ -5,7 +5,7 @@ use Rattle.std.specs.List.{AllPairs, AllZip, Any, Contains}
 use Rattle.clap.specs.Words.{Text}
 use Rattle.limits.specs.Limits.{most_buses}
 use Rattle.wordlines.specs.WordLines.{number_upto}
-use Rattle.options.specs.declared.line_word.LineWord.{LineWord}
+use Rattle.commandoptions.specs.declared.line_word.LineWord.{LineWord}
 use Rattle.commandline.specs.declared.line_words.LineWordFault.{LineWordFault}
 use Rattle.commandline.specs.declared.line_words.LineWordFault.TheVariants.{Again, NoLine, Shared}
 

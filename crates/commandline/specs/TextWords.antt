@@ -4,7 +4,7 @@ use Rattle.std.specs.Borrow.{Bor}
 use Rattle.std.specs.List.{list_any}
 use Rattle.std.specs.Option.{option_or}
 use Rattle.clap.specs.Words.{Row, Text, first_of}
-use Rattle.options.specs.declared.files.Files.{Files}
+use Rattle.commandoptions.specs.declared.files.Files.{Files}
 
 -- the text that was given, or none
 abbrev pub given : Option Text → Text

@@ -12,7 +12,7 @@ use crate::questions::word_in;
 use crate::readers::{flag_in, given_number_in, patience_in, text_in};
 use crate::tools::{GivenListenEnd, GivenRequest, Tool};
 use clap::ArgMatches;
-use options::{LineWord, LiveFiles};
+use commandoptions::{LineWord, LiveFiles};
 
 /// What is done at one line by what was found under a command's name, where it is that of a command
 /// at one line, or the fault of its word for the line.

@@ -2,10 +2,10 @@
 
 ghost use Rattle.std.specs.Prelude.{MatchOption, MatchResult, map};
 ghost use Rattle.commandline.specs.ExpectedWords.{AreExpected, IsExpectedWord, IsFirstUnexpected};
-ghost use Rattle.options.specs.declared.expected_word.ExpectedWord.{ExpectedWord};
+ghost use Rattle.commandoptions.specs.declared.expected_word.ExpectedWord.{ExpectedWord};
 
 use arrayvec::ArrayVec;
-use options::ExpectedWord;
+use commandoptions::ExpectedWord;
 
 /// How many values may be expected at most.
 pub const MOST_EXPECTED: usize = 16;

@@ -5,7 +5,7 @@ use crate::line_words::LineWords;
 use crate::questions::Question;
 use crate::tools::Tool;
 use crate::watched_names::WatchedNames;
-use options::{Files, Inquiry, LiveFiles, LiveOptions, PlayFiles, RunSize};
+use commandoptions::{Files, Inquiry, LiveFiles, LiveOptions, PlayFiles, RunSize};
 
 /// What the user asks for.
 #[derive(Drop)]

@@ -6,11 +6,11 @@ ghost use Rattle.std.specs.List.{Any};
 ghost use Rattle.clap.specs.Words.{Text};
 ghost use Rattle.commandline.specs.LineWords.{ArePaths, AreLines, HasPath, IsFirstFault};
 ghost use Rattle.commandline.specs.LineWords.{IsLineWord, IsPath, SharePath};
-ghost use Rattle.options.specs.declared.line_word.LineWord.{LineWord};
+ghost use Rattle.commandoptions.specs.declared.line_word.LineWord.{LineWord};
 
 use arrayvec::ArrayVec;
+use commandoptions::LineWord;
 use limits::MOST_BUSES;
-use options::LineWord;
 use wordlines::number_of;
 
 /// The most lines: one of each bus.

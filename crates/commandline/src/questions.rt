@@ -8,7 +8,7 @@ ghost use Rattle.commandline.specs.TextWords.{scenario_by};
 use crate::readers::flag_in;
 use crate::text_words::{files_in, task_words_in};
 use clap::ArgMatches;
-use options::Files;
+use commandoptions::Files;
 
 /// What an installer asks of a text.
 #[derive(Clone, Copy)]

@@ -18,7 +18,7 @@ use crate::text_words::{code_words_in, files_in, task_words_in};
 use crate::word_fault::WordFault;
 use arrayvec::ArrayVec;
 use clap::ArgMatches;
-use options::{Beside, Inquiry, LiveFiles, LiveOptions, PlayFiles, RunSize};
+use commandoptions::{Beside, Inquiry, LiveFiles, LiveOptions, PlayFiles, RunSize};
 
 /// The invocation of what was found under a command's name.
 ///

@@ -9,7 +9,7 @@ ghost use Rattle.commandline.specs.TextWords.{task_by};
 use crate::questions::word_in;
 use crate::readers::text_in;
 use clap::ArgMatches;
-use options::Files;
+use commandoptions::Files;
 
 /// The files that a command reads, and the task that it is about, where its name is given.
 #[derive(Clone, Copy)]

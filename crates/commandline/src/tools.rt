@@ -1,6 +1,6 @@
 //! What is done at one line.
 
-use options::{LineWord, LiveFiles};
+use commandoptions::{LineWord, LiveFiles};
 
 /// What is done at one line, which may be silent for the milliseconds of its patience, 100 to
 /// 60,000.

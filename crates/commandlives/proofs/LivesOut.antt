@@ -6,9 +6,9 @@ use Rattle.ilcompile.specs.Loaded.{Loaded}
 use Rattle.plant.specs.Shown.{plant_of}
 use Rattle.livehouse.specs.Lived.{Lived}
 use Rattle.livehouse.specs.Lives.{HasLived}
-use Rattle.options.specs.declared.live_options.LiveOptions.{LiveOptions}
-use Rattle.options.specs.declared.live_options.RunSize.{RunSize}
-use Rattle.options.specs.declared.line_word.LineWord.{LineWord}
+use Rattle.commandoptions.specs.declared.live_options.LiveOptions.{LiveOptions}
+use Rattle.commandoptions.specs.declared.live_options.RunSize.{RunSize}
+use Rattle.commandoptions.specs.declared.line_word.LineWord.{LineWord}
 use Rattle.livehouse.specs.declared.buildings.Building.{Building}
 use Rattle.livehouse.specs.Buildings.{IsOpened}
 use Rattle.commandfiles.specs.declared.beginning.Beginning.{Beginning}

@@ -7,9 +7,9 @@ use Rattle.plantload.specs.MeantScans.{AreAsMeant}
 use Rattle.plantdriving.specs.Downs.{has_down}
 use Rattle.livehouse.specs.Lived.{Lived}
 use Rattle.livehouse.specs.Lives.{HasLived}
-use Rattle.options.specs.declared.files.LiveFiles.{LiveFiles}
-use Rattle.options.specs.declared.live_options.LiveOptions.{LiveOptions}
-use Rattle.options.specs.declared.line_word.LineWord.{LineWord}
+use Rattle.commandoptions.specs.declared.files.LiveFiles.{LiveFiles}
+use Rattle.commandoptions.specs.declared.live_options.LiveOptions.{LiveOptions}
+use Rattle.commandoptions.specs.declared.line_word.LineWord.{LineWord}
 use Rattle.livekeep.specs.KeptFiles.{KeptState}
 use Rattle.commandfiles.specs.ExitStatus.{ExitStatus}
 use Rattle.commandfiles.specs.ExitStatus.TheVariants.{Accepted, Failed, Misused}

@@ -13,12 +13,12 @@ use commandfiles::{
     Beginning, Disk, ExitStatus, FileKind, KeptNote, ReadFiles, Stop, Unserved, beginning_of,
     bytes_at, hint_of, kept_at,
 };
+use commandoptions::{LineWord, LiveFiles, LiveOptions};
 use livehouse::{BuildingObserver, Departure, Gate, LiveStop, OpenGate, Site, Storage, open};
-use options::{LineWord, LiveFiles, LiveOptions};
-use page::Page;
 use plant::StartFault;
 use plantdriving::has_down;
 use plantload::{kept_scans_are_as_meant, scans_are_as_meant};
+use printout::Printout;
 use std::alloc::Global;
 use std::io;
 use std::io::{BufWriter, Write};
@@ -89,7 +89,7 @@ pub trait Notice {
     /// # Errors
     ///
     /// It cannot be told.
-    fn hints(&self, hint: Page) -> io::Result<()>;
+    fn hints(&self, hint: Printout) -> io::Result<()>;
 
     /// The building does not run.
     ///

@@ -1,11 +1,11 @@
 //! What the commands at one line work with: the line, and the files that they read.
 
 use commandfiles::{Disk, Stop, Unserved, binding_of, bytes_at, setup_of};
+use commandoptions::{LineWord, LiveFiles};
+use commissioning::Served;
 use daliframe::BusNumber;
 use ilcompile::Setup;
 use livehouse::{LineupFault, LiveStop, Site, SiteFault};
-use livesurvey::Served;
-use options::{LineWord, LiveFiles};
 use plant::StartFault;
 use std::alloc::Global;
 use std::io;

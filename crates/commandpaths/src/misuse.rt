@@ -3,7 +3,7 @@
 use crate::paths::{PathFault, Writing, Written, check_paths};
 use crate::replaced::check_code_file;
 use commandline::{Invocation, Tool};
-use options::{LineWord, LiveFiles, LiveOptions};
+use commandoptions::{LineWord, LiveFiles, LiveOptions};
 use std::alloc::{AllocError, Global};
 use std::rt::Files;
 

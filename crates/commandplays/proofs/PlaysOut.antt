@@ -13,7 +13,7 @@ use Rattle.plantplay.specs.declared.installation.Installation.{Installation}
 use Rattle.plantplay.specs.declared.ending.Ending.{Ending}
 use Rattle.plant.specs.Shown.{Shown}
 use Rattle.commandfiles.specs.ExitStatus.{ExitStatus}
-use Rattle.options.specs.declared.expected_word.ExpectedWord.{ExpectedWord}
+use Rattle.commandoptions.specs.declared.expected_word.ExpectedWord.{ExpectedWord}
 use Rattle.commandplays.specs.Plays.{PlayBytes, AreNames, IsJudgedBy, IsSetupOf, IsStarted, IsPlayedOut, IsPlayedUnder}
 use Rattle.commandplays.specs.Plays.{status_of_played}
 use Rattle.commandfiles.specs.declared.beginning.Beginning.{Beginning}

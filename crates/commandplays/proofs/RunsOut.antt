@@ -8,7 +8,7 @@ use Rattle.simbus.specs.Simulated.{Simulated}
 use Rattle.plant.specs.Shown.{plant_of}
 use Rattle.plantrun.specs.Runs.{IsRun}
 use Rattle.plantrun.specs.ClosedParts.{ClosedParts}
-use Rattle.options.specs.declared.live_options.RunSize.{RunSize}
+use Rattle.commandoptions.specs.declared.live_options.RunSize.{RunSize}
 use Rattle.commandplays.specs.Plays.{PlayBytes, IsSetupOf}
 use Rattle.commandplays.specs.Runs.{IsRunOut}
 use Rattle.commandfiles.proofs.MeantOut.{KeptScansAreAsMeant, ScansAreAsMeant, meant_of}

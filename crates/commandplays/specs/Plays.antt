@@ -22,11 +22,11 @@ use Rattle.plantplay.specs.declared.installation.Installation.{Installation}
 use Rattle.plantplay.specs.declared.ending.Ending.{Ending}
 use Rattle.commandfiles.specs.ExitStatus.{ExitStatus}
 use Rattle.commandfiles.specs.ExitStatus.TheVariants.{Accepted, Refused, Misused}
-use Rattle.options.specs.declared.expected_word.ExpectedWord.{ExpectedWord}
-use Rattle.options.specs.declared.files.PlayFiles.{PlayFiles}
+use Rattle.commandoptions.specs.declared.expected_word.ExpectedWord.{ExpectedWord}
+use Rattle.commandoptions.specs.declared.files.PlayFiles.{PlayFiles}
 use Rattle.commandfiles.specs.PlayStop.{PlayStop}
 use Rattle.commandfiles.specs.PlayStop.TheVariants.{Text, Scenario, Start}
-use Rattle.inquiries.specs.declared.stop.Stop.{Stop}
+use Rattle.textanswers.specs.declared.stop.Stop.{Stop}
 use Rattle.commandfiles.specs.declared.reading.DiskFault.{DiskFault}
 use Rattle.commandfiles.specs.declared.serving.Unserved.{Unserved}
 use Rattle.commandfiles.specs.declared.serving.Unserved.TheVariants.{NotRead, NotWritten, NotPrinted}

@@ -9,8 +9,8 @@ use Rattle.plantdriving.specs.Downs.{has_down}
 use Rattle.plantrun.specs.Runs.{IsRun}
 use Rattle.plantrun.specs.ClosedParts.{ClosedParts}
 use Rattle.commandfiles.specs.ExitStatus.{ExitStatus}
-use Rattle.options.specs.declared.files.PlayFiles.{PlayFiles}
-use Rattle.options.specs.declared.live_options.RunSize.{RunSize}
+use Rattle.commandoptions.specs.declared.files.PlayFiles.{PlayFiles}
+use Rattle.commandoptions.specs.declared.live_options.RunSize.{RunSize}
 use Rattle.commandfiles.specs.PlayStop.{PlayStop}
 use Rattle.commandfiles.specs.ExitStatuses.{status_of_play_stop, status_of_run}
 use Rattle.commandplays.specs.Plays.{PlayBytes, AreGiven, AreMeantBy, IsPlayStop, IsSetupOf}

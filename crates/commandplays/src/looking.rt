@@ -4,13 +4,13 @@
 use crate::pages::{Pages, read_pages};
 use crate::playing::start;
 use crate::unknown::write_unwatchable;
-use commandfiles::{Disk, ExitStatus, FileKind, PlayStop, Unserved, tell_hint, write_at};
+use commandfiles::{Disk, ExitStatus, FileRole, PlayStop, Unserved, tell_hint, write_at};
 use commandline::LookOptions;
-use options::PlayFiles;
-use page::Page;
+use commandoptions::PlayFiles;
 use plant::Plant;
 use plantplay::{Ending, Installation, are_watchable, play_on, write_counts};
 use playdraw::{Drawing, Moment, Picture, write_svg, write_text};
+use printout::Printout;
 use simbus::{Scenario, SimBus};
 use std::alloc::{AllocError, Global};
 use std::io::Write;
@@ -116,7 +116,7 @@ fn stopped(alloc: Global, pages: &Pages, files: PlayFiles, stop: &PlayStop) -> i
         alloc,
         &mut lines,
         pages.read_from(files),
-        FileKind::of_play_stop(stop),
+        FileRole::of_play_stop(stop),
     );
     Ok(Seen {
         lines,
@@ -167,7 +167,7 @@ fn draw_all(
 /// The lines below a picture: that the bus that is asked for is not there, why the play ended
 /// before its scenario, and what was given up.
 fn notes_of(alloc: Global, ending: Ending, plant: &Plant, bus: Option<u32>) -> io::Result<Vec<u8>> {
-    let mut page = Page::new(alloc);
+    let mut page = Printout::new(alloc);
     note_absent(&mut page, bus, plant.setup().plan().buses());
     page.text(match ending {
         Ending::Whole => "",
@@ -184,7 +184,7 @@ fn notes_of(alloc: Global, ending: Ending, plant: &Plant, bus: Option<u32>) -> i
 
 /// Adds that a bus is not there, where one is asked for whose number is not below that of the
 /// buses.
-fn note_absent(page: &mut Page, bus: Option<u32>, buses: u8) {
+fn note_absent(page: &mut Printout, bus: Option<u32>, buses: u8) {
     if let Some(bus) = bus {
         if bus >= u32::from(buses) {
             page.text("bus ");
@@ -198,7 +198,7 @@ fn note_absent(page: &mut Page, bus: Option<u32>, buses: u8) {
 
 /// What a picture is of: the paths of its files, and the part that is asked for.
 fn name_of(alloc: Global, files: PlayFiles, options: LookOptions) -> io::Result<String> {
-    let mut page = Page::new(alloc);
+    let mut page = Printout::new(alloc);
     page.text(files.text);
     add_part(&mut page, ", ", Some(files.binding));
     add_part(&mut page, ", ", Some(files.scenario));
@@ -212,7 +212,7 @@ fn name_of(alloc: Global, files: PlayFiles, options: LookOptions) -> io::Result<
 }
 
 /// Adds to a name what it is of, behind a word, where there is that.
-fn add_part<D: fmt::Display + Copy>(page: &mut Page, word: &str, part: Option<D>) {
+fn add_part<D: fmt::Display + Copy>(page: &mut Printout, word: &str, part: Option<D>) {
     if let Some(part) = part {
         page.text(word);
         page.shown(&part);

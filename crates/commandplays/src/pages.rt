@@ -6,11 +6,11 @@ ghost use Rattle.commandfiles.specs.Beginnings.{HasBegun};
 ghost use Rattle.commandplays.specs.Plays.{AreGiven, IsSetupOf, IsTextStop, IsUnplayed};
 
 use commandfiles::{Beginning, Disk, ReadFiles, Unserved, beginning_of, bytes_at, named_at};
-use inquiries::Stop;
-use options::PlayFiles;
+use commandoptions::PlayFiles;
 use simbus::{Scenario, ScenarioFault, parse};
 use std::alloc::Global;
 use std::marker::Model;
+use textanswers::Stop;
 
 /// What the files of a scenario hold that is played or run.
 #[derive(Drop)]

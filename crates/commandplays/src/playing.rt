@@ -10,10 +10,10 @@ use crate::brief::Brief;
 use crate::pages::{Pages, beginning_in, read_pages, scenario_of};
 use crate::unknown::{write_unknown, write_unwatchable};
 use commandfiles::{
-    Beginning, Disk, ExitStatus, FileKind, KeptNote, PlayStop, Unserved, tell_hint,
+    Beginning, Disk, ExitStatus, FileRole, KeptNote, PlayStop, Unserved, tell_hint,
 };
 use commandline::PlayShows;
-use options::{ExpectedWord, PlayFiles};
+use commandoptions::{ExpectedWord, PlayFiles};
 use plantload::{kept_scans_are_as_meant, scans_are_as_meant};
 use plantplay::{
     FrameStyle, Installation, are_known, are_met, are_watchable, open, play_watched,
@@ -164,7 +164,7 @@ fn report_stop<W: Write, E: Write>(
 ) -> io::Result<()> {
     writeln!(out, "{stop}")?;
     out.flush()?;
-    let place = FileKind::of_play_stop(stop);
+    let place = FileRole::of_play_stop(stop);
     tell_hint(alloc, complaints, pages.read_from(files), place);
     Ok(())
 }

@@ -5,8 +5,8 @@ ghost use Rattle.commandplays.specs.Plays.{IsPlayStop, IsUnplayed};
 ghost use Rattle.commandplays.specs.Runs.{IsRunServed, IsRunEnd, IsRunOut, status_of_run_end};
 
 use crate::pages::{Pages, beginning_in, read_pages, scenario_of};
-use commandfiles::{Beginning, Disk, ExitStatus, FileKind, PlayStop, Unserved, tell_hint};
-use options::{PlayFiles, RunSize};
+use commandfiles::{Beginning, Disk, ExitStatus, FileRole, PlayStop, Unserved, tell_hint};
+use commandoptions::{PlayFiles, RunSize};
 use plantdriving::has_down;
 use plantload::{kept_scans_are_as_meant, scans_are_as_meant};
 use plantrun::{Closed, run, write_run};
@@ -44,7 +44,7 @@ pub fn serve_run<'a, D: Disk, W: Write + Drop, E: Write, R: Threads + Wait + Tim
     let pages = read_pages(alloc, disk, files)?;
     let done = print(rt, alloc, to, complaints, &pages, size)?;
     if let Err(stop) = &done.1 {
-        let place = FileKind::of_play_stop(stop);
+        let place = FileRole::of_play_stop(stop);
         tell_hint(alloc, complaints, pages.read_from(files), place);
     }
     Ok(done)

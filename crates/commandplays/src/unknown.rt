@@ -1,10 +1,10 @@
 //! What is said of variables that are not there: each with those that are.
 
 use commandfiles::add_texts;
+use commandoptions::ExpectedWord;
 use ilplan::Plan;
-use options::ExpectedWord;
-use page::Page;
 use plantplay::{report_unknown, report_unwatchable};
+use printout::Printout;
 use std::alloc::Global;
 use std::io;
 use std::io::Write;
@@ -50,8 +50,8 @@ pub(crate) fn write_unwatchable<E: Write>(
 
 /// These lines, each with the global variables that there are, or with what is said where there is
 /// none, and then with what stands at its end.
-fn with_globals(alloc: Global, plan: &Plan, lines: &[u8], none: &str, end: &str) -> Page {
-    let mut page = Page::new(alloc);
+fn with_globals(alloc: Global, plan: &Plan, lines: &[u8], none: &str, end: &str) -> Printout {
+    let mut page = Printout::new(alloc);
     for line in str::from_utf8(lines).unwrap_or("").lines() {
         add_texts(&mut page, &[line, ": "]);
         list_globals(&mut page, plan, none);
@@ -61,7 +61,7 @@ fn with_globals(alloc: Global, plan: &Plan, lines: &[u8], none: &str, end: &str)
 }
 
 /// Adds which global variables there are, or what is said where there is none.
-fn list_globals(page: &mut Page, plan: &Plan, none: &str) {
+fn list_globals(page: &mut Printout, plan: &Plan, none: &str) {
     page.text(match plan.globals() {
         0 => none,
         1 => "there is ",

@@ -7,11 +7,11 @@ use commandline::{Invocation, Tool};
 use commandlives::{
     Departure, Grounds, LiveStop, Notice, Site, Storage, ToolLine, serve_live, status_of_live,
 };
+use commandoptions::{LineWord, LiveFiles, LiveOptions, PlayFiles, RunSize};
 use commandpaths::{PathFault, check_invocation};
 use commandplays::{serve_look, serve_play, serve_run, status_of_run};
 use commandtexts::{DiskFault, ExitStatus, HostDisk, KeptNote, Unserved, serve, serve_question};
-use options::{LineWord, LiveFiles, LiveOptions, PlayFiles, RunSize};
-use page::Page;
+use printout::Printout;
 use std::rt::{Env, Files};
 use std::sync::Wait;
 use std::thread::Threads;
@@ -290,7 +290,7 @@ impl<R: Eprint> Notice for HostNotice<'_, R> {
         eprint!(self.rt; "{note}")
     }
 
-    fn hints(&self, hint: Page) -> io::Result<()> {
+    fn hints(&self, hint: Printout) -> io::Result<()> {
         hint.write_to(&mut Complaints { rt: self.rt })
     }
 

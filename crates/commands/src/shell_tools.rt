@@ -7,14 +7,14 @@ use commandlives::{
     Care, Notice, Site, Storage, ToolEnd, ToolLine, ToolStop, binding_at, opened, setup_at,
     status_of_live_stop,
 };
+use commandoptions::LiveFiles;
 use commandtexts::{ExitStatus, HostDisk, Unserved};
+use commissioning::{
+    DeclaredBus, ListenEnd, ProbeForm, Served, serve_ask, serve_blink, serve_listen, serve_probe,
+};
 use daliframe::ShortAddress;
 use gearcmd::Command;
 use liveline::StopCondition;
-use livesurvey::{
-    DeclaredBus, ListenEnd, ProbeForm, Served, serve_ask, serve_blink, serve_listen, serve_probe,
-};
-use options::LiveFiles;
 use std::io::Write;
 use std::rt::Files;
 use std::time::Clock as Timer;

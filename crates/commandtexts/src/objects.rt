@@ -8,7 +8,7 @@ use ilcompile::Setup;
 use illisting::write_task;
 use ilnotes::{NotesAsked, Played, Quoted, write_notes};
 use ilsource::Source;
-use page::Page;
+use printout::Printout;
 use std::alloc::Global;
 use std::io;
 
@@ -40,7 +40,7 @@ pub(crate) fn write_stop(
     } else {
         ("", "\n")
     };
-    let mut page = Page::new(alloc);
+    let mut page = Printout::new(alloc);
     page.text(before);
     page.shown(stop);
     page.text(behind);
@@ -54,7 +54,7 @@ pub(crate) fn write_sizes(
     out: &mut Vec<u8>,
     setup: &Setup,
 ) -> io::Result<ExitStatus> {
-    let mut page = Page::new(alloc);
+    let mut page = Printout::new(alloc);
     page.text(TASKS);
     for number in 0..setup.plan().tasks() {
         page.text(if number == 0 { "" } else { "," });
@@ -105,7 +105,7 @@ pub(crate) fn write_explanation(
         out.extend_from_slice(lines)?;
         return Ok(());
     }
-    let mut page = Page::new(alloc);
+    let mut page = Printout::new(alloc);
     page.text(EXPLANATION);
     list_lines(&mut page, lines);
     page.text("}\n");
@@ -119,7 +119,7 @@ pub(crate) fn write_words(
     setup: &Setup,
     one: Option<usize>,
 ) -> io::Result<()> {
-    let mut page = Page::new(alloc);
+    let mut page = Printout::new(alloc);
     page.text(TASKS);
     let mut is_first = true;
     for number in 0..setup.plan().tasks() {
@@ -134,7 +134,7 @@ pub(crate) fn write_words(
 }
 
 /// Adds the words of a task, with the lines that `list` prints of it.
-fn list_task(alloc: Global, page: &mut Page, setup: &Setup, number: usize) -> io::Result<()>
+fn list_task(alloc: Global, page: &mut Printout, setup: &Setup, number: usize) -> io::Result<()>
     requires { number < length setup.now.plan.tasks }
 {
     let mut lines = Vec::new(alloc);
@@ -148,7 +148,7 @@ fn list_task(alloc: Global, page: &mut Page, setup: &Setup, number: usize) -> io
 }
 
 /// Adds the lines of a text as a list.
-fn list_lines(page: &mut Page, text: &[u8]) {
+fn list_lines(page: &mut Printout, text: &[u8]) {
     page.text("[");
     let mut is_first = true;
     for line in str::from_utf8(text).unwrap_or("").lines() {

@@ -2,19 +2,19 @@
 
 use crate::objects::{write_explanation, write_noted, write_sizes, write_stop, write_words};
 use commandfiles::{
-    Disk, ExitStatus, FileKind, PlayStop, ReadFiles, Stop, UnknownTask, Unserved, add_texts,
+    Disk, ExitStatus, FileRole, PlayStop, ReadFiles, Stop, UnknownTask, Unserved, add_texts,
     binding_of, bytes_at, check, misplaced_text, named_at, tell_hint,
 };
 use commandline::Question;
+use commandoptions::Files;
 use explaining::{AskedText, explain_binding, explain_scenario, explanation_of};
 use ilcompile::Setup;
 use ilfacts::write_load;
 use illisting::write_task;
 use ilnotes::{NOTE_NAMES, NotedFiles, NotesAsked, Played, is_note_name};
 use ilsource::Source;
-use options::Files;
-use page::Page;
 use plantload::load_with_source;
+use printout::Printout;
 use simbus::Scenario;
 use std::alloc::Global;
 use std::io;
@@ -120,7 +120,7 @@ fn sheets_at<'a, D: Disk>(
 
 /// Writes that no notes have a name.
 fn tell_unknown_notes<E: Write>(alloc: Global, complaints: &mut E, name: &str) -> io::Result<()> {
-    let mut page = Page::new(alloc);
+    let mut page = Printout::new(alloc);
     add_texts(&mut page, &["error: no note ", name, ": there are all"]);
     for known in &NOTE_NAMES {
         page.text(", ");
@@ -204,7 +204,7 @@ fn report_stop(
             alloc,
             others,
             sheets.read_from(asked.files),
-            FileKind::of_stop(stop),
+            FileRole::of_stop(stop),
         );
     }
     Ok(status)

@@ -7,14 +7,14 @@ use Rattle.plantplay.specs.declared.ending.Ending.{Ending}
 use Rattle.plantplay.specs.declared.ending.Ending.TheVariants as endings
 use Rattle.workers.specs.declared.ended.Ended.{Ended}
 use Rattle.workers.specs.declared.ended.Ended.TheVariants.{Asked}
-use Rattle.inquiries.specs.declared.code_answer.CodeAnswer.{CodeAnswer}
-use Rattle.inquiries.specs.declared.code_answer.CodeAnswer.TheVariants as answers
+use Rattle.textanswers.specs.declared.code_answer.CodeAnswer.{CodeAnswer}
+use Rattle.textanswers.specs.declared.code_answer.CodeAnswer.TheVariants as answers
 use Rattle.exitstatus.specs.declared.exit_status.ExitStatus.{ExitStatus}
 use Rattle.exitstatus.specs.declared.exit_status.ExitStatus.TheVariants.{Accepted, Refused, Misused, Failed}
 use Rattle.exitstatus.specs.declared.play_stop.PlayStop.{PlayStop}
 use Rattle.exitstatus.specs.declared.play_stop.PlayStop.TheVariants as play_stops
-use Rattle.inquiries.specs.declared.stop.Stop.{Stop}
-use Rattle.inquiries.specs.declared.stop.Stop.TheVariants as stops
+use Rattle.textanswers.specs.declared.stop.Stop.{Stop}
+use Rattle.textanswers.specs.declared.stop.Stop.TheVariants as stops
 
 -- the number that the program exits with
 abbrev pub number_of_status : ExitStatus → ℕ

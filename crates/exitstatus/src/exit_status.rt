@@ -1,8 +1,8 @@
 //! How the program ends.
 
 use clap::error::ErrorKind;
-use inquiries::{CodeAnswer, Stop, UnknownTask};
 use plantplay::Ending;
+use textanswers::{CodeAnswer, Stop, UnknownTask};
 use workers::Ended;
 
 /// How a call of the program ends.

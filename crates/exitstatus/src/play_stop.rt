@@ -1,9 +1,9 @@
 //! Why a scenario is not played or run.
 
 use crate::exit_status::ExitStatus;
-use inquiries::Stop;
 use simbus::ScenarioFault;
 use std::fmt;
+use textanswers::Stop;
 use workers::StartFault;
 
 /// The first of what stands against playing or running a scenario, in the order in which it is

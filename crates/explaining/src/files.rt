@@ -14,8 +14,8 @@ use explaintexts::answer_text;
 use ildeclared::{NameCause, NameFault};
 use ilsource::Source;
 use iltext::{TextCause, TextFault};
-use page::Page;
 use plantload::{LoadFault, NotLoaded, RefusedTask};
+use printout::Printout;
 use std::alloc::{AllocError, Global};
 use std::io;
 use std::io::Write;
@@ -105,7 +105,7 @@ fn told_name(
 }
 
 /// Prints how many faults of names there are besides; where `is_cut` there may be more.
-fn print_more(page: &mut Page, more: usize, is_cut: bool) {
+fn print_more(page: &mut Printout, more: usize, is_cut: bool) {
     let (front, behind) = match (more, is_cut) {
         (0, true) => return page.text("there may be more faults of names\n"),
         (0, false) => return,
@@ -135,7 +135,7 @@ fn told_code(
     let page = &mut further.page;
     let (mark, answer) = answer_task(alloc, asked, page, true, plan, task, refusal)?;
     further.add_tasks(plan, task.saturating_add(1))?;
-    let mut head = Page::new(alloc);
+    let mut head = Printout::new(alloc);
     print_refused(
         &mut head,
         asked,
@@ -203,6 +203,6 @@ fn explain_lines<Of, W: Write>(
         LineFile::Scenario => Title::Line("scenario"),
     };
     let place = (line, bad.col);
-    let told = Explanation::of(alloc, path, place, title, bad.answer, Page::new(alloc));
+    let told = Explanation::of(alloc, path, place, title, bad.answer, Printout::new(alloc));
     told.write_to(alloc, out, bytes)
 }

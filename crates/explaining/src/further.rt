@@ -13,7 +13,7 @@ use ilsource::Source;
 use ilsyms::resolve;
 use iltext::{TextCause, TextFault, parse};
 use ilverify::{VerifyError, verify};
-use page::Page;
+use printout::Printout;
 use std::alloc::{AllocError, Global};
 
 /// How many faults of a text are named at most behind the one that is explained.
@@ -24,7 +24,7 @@ const MOST_NAMED: usize = 20;
 pub(crate) struct Further<'a> {
     alloc: Global,
     asked: &'a AskedText<'a>,
-    pub page: Page,
+    pub page: Printout,
     /// How many there are.
     count: usize,
 }
@@ -35,13 +35,13 @@ impl<'a> Further<'a> {
         Further {
             alloc,
             asked,
-            page: Page::new(alloc),
+            page: Printout::new(alloc),
             count: 0,
         }
     }
 
     /// The page with them.
-    pub(crate) fn into_page(self) -> Page {
+    pub(crate) fn into_page(self) -> Printout {
         let Further { page, .. } = self;
         page
     }

@@ -15,7 +15,7 @@ use ilcompile::compile;
 use illisting::{TaskNames, functions_in, line_at, print_deepest_calls, print_longest_calls};
 use ilplan::Plan;
 use ilverify::{Cause, Refusal};
-use page::Page;
+use printout::Printout;
 use std::alloc::{AllocError, Global};
 
 /// A refused word with what it is asked about.
@@ -33,7 +33,7 @@ pub(crate) struct Refused<'q, 'n> {
 pub(crate) fn answer_task(
     alloc: Global,
     asked: &AskedText,
-    page: &mut Page,
+    page: &mut Printout,
     is_first: bool,
     plan: &Plan,
     task: usize,
@@ -67,7 +67,7 @@ pub(crate) fn answer_task(
 
 /// Prints what stands against a task, in a line.
 pub(crate) fn print_refused(
-    page: &mut Page,
+    page: &mut Printout,
     asked: &AskedText,
     task: &str,
     refusal: Refusal,
@@ -80,7 +80,7 @@ pub(crate) fn print_refused(
 }
 
 /// Prints the calls or the way that lead to a refused word.
-fn print_calls(alloc: Global, page: &mut Page, refused: &Refused) -> Result<(), AllocError> {
+fn print_calls(alloc: Global, page: &mut Printout, refused: &Refused) -> Result<(), AllocError> {
     let (names, word) = (refused.names, refused.refusal.word);
     match refused.refusal.cause {
         Cause::TooLong => print_longest_calls(alloc, page, names),

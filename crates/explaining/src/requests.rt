@@ -3,7 +3,7 @@
 use crate::taken::{Way, ways_up_to};
 use ilcode::{Code, Word};
 use illisting::{TaskNames, WordText, line_at};
-use page::Page;
+use printout::Printout;
 use std::alloc::{AllocError, Global};
 
 /// The most requests on a way up to a place, and the place before it on that way.
@@ -17,7 +17,7 @@ struct Most {
 /// whatever their jumps test.
 pub(crate) fn print_requests(
     alloc: Global,
-    page: &mut Page,
+    page: &mut Printout,
     names: &TaskNames,
     word: usize,
 ) -> Result<(), AllocError> {

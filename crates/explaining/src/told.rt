@@ -3,7 +3,7 @@
 ghost use Rattle.std.specs.Prelude.{◌≡◌, Some};
 
 use explaincures::{FaultAnswer, write_answer, write_found, write_line};
-use page::Page;
+use printout::Printout;
 use std::alloc::Global;
 use std::io;
 use std::io::Write;
@@ -12,7 +12,7 @@ use std::io::Write;
 #[derive(Drop)]
 pub struct Explanation {
     /// The first line: where it stands, and what it is.
-    pub(crate) head: Page,
+    pub(crate) head: Printout,
     /// The line of the file, counted from 1.
     pub line: usize,
     /// The column that is marked, counted from 1, where there is one.
@@ -21,7 +21,7 @@ pub struct Explanation {
     pub(crate) is_found: bool,
     pub answer: FaultAnswer,
     /// What else stands against the file, and what leads there.
-    pub(crate) behind: Page,
+    pub(crate) behind: Printout,
 }
 
 /// What stands against a file, with its number.
@@ -43,13 +43,13 @@ impl Explanation {
         place: (usize, usize),
         title: Title,
         answer: FaultAnswer,
-        behind: Page,
+        behind: Printout,
     ) -> Explanation
         ensures line { result.line ≡ place.0 }
         ensures mark { result.mark ≡ Some place.1 }
         ensures answer { result.answer ≡ answer }
     {
-        let mut head = Page::new(alloc);
+        let mut head = Printout::new(alloc);
         print_head(&mut head, path, place, title, &answer.what);
         Explanation {
             head,
@@ -87,7 +87,7 @@ impl Explanation {
 
 /// Prints where a fault stands, as editors read it, and what it is, in a line.
 pub(crate) fn print_head(
-    page: &mut Page,
+    page: &mut Printout,
     path: &str,
     (line, col): (usize, usize),
     title: Title,
@@ -106,7 +106,7 @@ pub(crate) fn print_head(
 }
 
 /// Prints what stands against a file.
-fn print_title(page: &mut Page, title: Title) {
+fn print_title(page: &mut Printout, title: Title) {
     let (front, between, number) = match title {
         Title::Fault(kind, number) => (kind, " fault ", usize::from(number)),
         Title::Line(kind) => {

@@ -8,7 +8,7 @@ use illisting::{KnownText, TaskNames, WordText, line_at};
 use iltokens::Keyword::{Jmp, Jmpc, Jmpcn, Ret, Retc, Retcn};
 use iltokens::{Delimiter, Lexed, What, keyword_of, token};
 use ilverify::{Cause, Pass, Passed, Refusal};
-use page::Page;
+use printout::Printout;
 use std::alloc::{AllocError, Global};
 
 /// How many words of the way are shown at most.
@@ -18,7 +18,7 @@ const MOST_SHOWN: usize = 16;
 /// before it.
 pub(crate) fn print_way(
     alloc: Global,
-    page: &mut Page,
+    page: &mut Printout,
     names: &TaskNames,
     text: &[u8],
     refusal: Refusal,
@@ -63,7 +63,7 @@ fn way_to(alloc: Global, ways: &[Way], word: usize) -> Result<Vec<usize>, AllocE
 /// Prints the word to which a pass has come, with what is known before it.
 fn print_step(
     alloc: Global,
-    page: &mut Page,
+    page: &mut Printout,
     names: &TaskNames,
     text: &[u8],
     pass: &Pass,
@@ -81,7 +81,7 @@ fn print_step(
 }
 
 /// Prints where else control comes from to a place of the way.
-fn print_meeting(page: &mut Page, code: &Code, ways: &[Way], place: usize) {
+fn print_meeting(page: &mut Printout, code: &Code, ways: &[Way], place: usize) {
     let before = place_before(ways, place);
     for way in ways {
         if way.to == place && before != Some(way.from) {

@@ -11,7 +11,7 @@
 
 use crate::conditions::holds;
 use crate::slots::{place_within, slot_end, word_end, word_meant, words_end};
-use crate::standing::{Place, Standing};
+use crate::standing::{Extent, Standing};
 use explaincures::Spot;
 
 /// How far a line is like a pattern, and what stands in its slots.
@@ -20,9 +20,9 @@ pub struct Likeness {
     to: usize,
     count: usize,
     /// What stands in the slots.
-    pub parts: [Place; 6],
+    pub parts: [Extent; 6],
     /// What a change replaces.
-    pub put: Place,
+    pub put: Extent,
     /// The word of the operator in a slot for one, or that which is near to what stands there.
     pub word: &'static str,
 }
@@ -67,7 +67,7 @@ impl Likeness {
     }
 
     /// Goes to a place, with what a change replaces.
-    fn mark(&mut self, put: Place, to: usize) -> bool {
+    fn mark(&mut self, put: Extent, to: usize) -> bool {
         (self.put, self.to) = (put, to);
         true
     }

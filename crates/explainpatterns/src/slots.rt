@@ -4,7 +4,7 @@ use crate::around::{Around, is_around};
 use crate::bytes::{named, names};
 use crate::kinds::{Kind, is_kind};
 use crate::spans::{Span, bracket_len, front_len, operator_of, span_len};
-use crate::standing::{Place, Standing};
+use crate::standing::{Extent, Standing};
 use explaincures::{Spot, is_one_of, near_word, part};
 
 /// Slots for a word, by what it is.
@@ -111,7 +111,7 @@ pub(crate) fn is_type(word: &[u8]) -> bool {
 }
 
 /// The place of a slot, or of what stands within its signs.
-pub(crate) fn place_within(here: &Spot, slot: &[u8], to: usize) -> Place {
+pub(crate) fn place_within(here: &Spot, slot: &[u8], to: usize) -> Extent {
     let len = match named(SPANS, slot) {
         Some(Span::Within(open, close)) => bracket_len(here.rest(), open, close),
         _ => 0,

@@ -12,7 +12,7 @@ pub const CALLS: &[&str] = &["CAL", "CALC", "CALCN"];
 pub const JUMPS: &[&str] = &["JMP", "JMPC", "JMPCN"];
 
 /// Where a part of the asked text begins and ends.
-pub type Place = (usize, usize);
+pub type Extent = (usize, usize);
 
 /// A place that is asked about, with all that is known of it.
 #[derive(Clone, Copy)]

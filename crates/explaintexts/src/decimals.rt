@@ -3,7 +3,7 @@
 use crate::habit_rows::FRACTION;
 use crate::said::{Row, Said, advice};
 use explaincures::{Spot, content_len, part};
-use explainpatterns::{Place, count_of_digits, place_of_any};
+use explainpatterns::{Extent, count_of_digits, place_of_any};
 
 const WHOLE: Row = advice!("a whole number with a dot or an exponent";
     "write it in digits alone: there are no fractions and no exponents";
@@ -47,7 +47,7 @@ impl Decimal {
 
     /// This number in whole numbers where it stands, if it is one, or if MUL or DIV stands before
     /// it.
-    pub(crate) fn said(self, spot: &Spot, place: Place) -> Said {
+    pub(crate) fn said(self, spot: &Spot, place: Extent) -> Said {
         let Decimal { number, divisor } = self;
         let whole = quotient(number, divisor);
         let said = Said::of(if whole.is_some() { WHOLE } else { FRACTION }, place);
@@ -94,7 +94,7 @@ fn quotient(number: u64, of: u64) -> Option<u64> {
 }
 
 /// A multiplication and a division behind it, or one of them where that is enough.
-fn product(said: Said, line: Place, number: u64, divisor: u64) -> Said {
+fn product(said: Said, line: Extent, number: u64, divisor: u64) -> Said {
     match (quotient(divisor, number), quotient(number, divisor)) {
         (Some(part), _) => said.put(line, "DIV {n}").with_numbers((part, 0)),
         (None, Some(times)) => said.put(line, "MUL {n}").with_numbers((times, 0)),

@@ -5,7 +5,7 @@ use crate::decimals::Decimal;
 use crate::habit_rows::{BASED, DOTTED, FRACTION, GROUPED, PERCENT};
 use crate::said::{Row, Said, advice};
 use explaincures::{Advice, Spot, content_len, part};
-use explainpatterns::{Place, Standing, digits_len, place_of_any, place_of_pair};
+use explainpatterns::{Extent, Standing, digits_len, place_of_any, place_of_pair};
 
 const NO_TIME: Row = advice!("a number with a fraction where a time is asked for";
     "a time begins with T#, and has whole numbers with the units d, h, m, s and ms,\n\
@@ -88,7 +88,7 @@ fn of_letters(number: &[u8]) -> Row {
 
 /// What is said of a number with `#` behind its base: of the first character behind it that is no
 /// digit of this base. One of base 10 has no base before it.
-fn based(spot: &Spot, place: Place, base: usize) -> Option<Said> {
+fn based(spot: &Spot, place: Extent, base: usize) -> Option<Said> {
     let from = place.0.saturating_add(base);
     let behind = from.saturating_add(1);
     let (number, digits, line) = match spot.part(place.0, from) {
@@ -121,7 +121,7 @@ fn based(spot: &Spot, place: Place, base: usize) -> Option<Said> {
 
 /// Where the number stands that breaks off at a place, if one does: it begins before the place, or
 /// there with a dot.
-fn number_at(spot: &Spot, is_in_body: bool) -> Option<Place> {
+fn number_at(spot: &Spot, is_in_body: bool) -> Option<Extent> {
     let (from, to) = if is_in_body && is_comma_inside(spot) {
         let behind = Spot::of(spot.text, spot.at.saturating_add(1));
         (spot.literal().0, behind.literal().1)
@@ -144,7 +144,7 @@ fn is_comma_inside(spot: &Spot) -> bool {
 }
 
 /// Where what belongs to a number stands around the place, up to two dots.
-fn without_ranges(spot: &Spot) -> Place {
+fn without_ranges(spot: &Spot) -> Extent {
     let (first, last) = spot.literal();
     let front = spot.part(first, spot.at.saturating_add(1));
     let from = match front.windows(2).rposition(|pair| pair == b"..".as_slice()) {

@@ -7,7 +7,7 @@ use explaincures::{
     Advice, Group, OpenConstruct, Possible, Spot, content_len, is_one_of, line_number, near_word,
     part, sign_name,
 };
-use explainpatterns::{Place, Standing, is_digits};
+use explainpatterns::{Extent, Standing, is_digits};
 use iltokens::keyword_of;
 
 /// Words that begin a block of variables.
@@ -131,7 +131,7 @@ fn ends(word: &[u8], open: Option<OpenConstruct>) -> bool {
 }
 
 /// A text in place of a part, where there is a word for it.
-fn put(row: Row, place: Place, word: Option<&'static str>, with: &'static str) -> Option<Said> {
+fn put(row: Row, place: Extent, word: Option<&'static str>, with: &'static str) -> Option<Said> {
     let said = Said::of(row, place).with_words((word?, ""));
     Some(said.put(place, with))
 }

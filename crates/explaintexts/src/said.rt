@@ -1,7 +1,7 @@
 //! What is said of a fault, as small values: rows of texts, words, and places of the asked text.
 
 use explaincures::Advice;
-use explainpatterns::{Likeness, Place};
+use explainpatterns::{Extent, Likeness};
 
 /// A row of what is said, as one text ([`Advice::of`]).
 pub(crate) type Row = &'static str;
@@ -21,7 +21,7 @@ pub(crate) use advice;
 pub(crate) struct Said {
     pub row: Advice,
     /// `{0}` to `{5}`: parts of the asked text. `{=}` is the first with `:=` for each `=`.
-    pub parts: [Place; 6],
+    pub parts: [Extent; 6],
     /// `{w}` and `{v}`.
     pub words: (&'static str, &'static str),
     /// `{n}` and `{d}`; `{)}` is `)` on as many lines as the second says.
@@ -35,7 +35,7 @@ pub(crate) struct Said {
 pub(crate) enum Change {
     Nothing,
     /// A text with slots in place of a part. `{i}` is as many blanks as stand before the part.
-    Put(Place, &'static str),
+    Put(Extent, &'static str),
     /// Without the sign that was found, where nothing stands behind it.
     LeaveOut,
     /// This sign in place of the one that was found.
@@ -58,12 +58,12 @@ pub(crate) enum Trial {
 
 impl Said {
     /// What a row says of a part.
-    pub(crate) fn of(row: Row, part: Place) -> Said {
+    pub(crate) fn of(row: Row, part: Extent) -> Said {
         Said::told(Advice::of(row), part)
     }
 
     /// What is said of a part.
-    pub(crate) fn told(row: Advice, part: Place) -> Said {
+    pub(crate) fn told(row: Advice, part: Extent) -> Said {
         Said {
             row,
             parts: [part; 6],
@@ -95,13 +95,13 @@ impl Said {
     }
 
     /// The same, with a text in place of a part.
-    pub(crate) fn put(self, part: Place, with: &'static str) -> Said {
+    pub(crate) fn put(self, part: Extent, with: &'static str) -> Said {
         let change = Change::Put(part, with);
         Said { change, ..self }
     }
 
     /// The same of two parts, with a text in place of another one.
-    pub(crate) fn put_parts(self, part: Place, with: &'static str, parts: [Place; 2]) -> Said {
+    pub(crate) fn put_parts(self, part: Extent, with: &'static str, parts: [Extent; 2]) -> Said {
         let [first, second] = parts;
         let parts = [first, second, first, second, second, second];
         Said {

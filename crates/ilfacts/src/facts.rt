@@ -4,7 +4,7 @@
 ghost use Rattle.std.specs.Prelude.{◌<◌, length};
 
 use crate::current::{Current, Way};
-use crate::levels::{BROADCAST, Driven, Level, Levels};
+use crate::levels::{BROADCAST, Level, LevelTable, LevelTarget};
 use crate::line_starts::LineStarts;
 use ilblocks::{BlockKind, MOST_PORTS};
 use ilcode::{Code, Word, WordOperand};
@@ -26,7 +26,7 @@ pub struct House<'p> {
     /// Where the lines of the text begin.
     pub lines: LineStarts,
     pub tasks: Vec<TaskFacts<'p>>,
-    pub levels: Levels,
+    pub levels: LevelTable,
 }
 
 /// What notes look at of a task.
@@ -66,9 +66,9 @@ pub struct GlobalSlot {
 
 impl GlobalSlot {
     /// What it drives, where it is a level.
-    pub fn driven(self) -> Option<Driven> {
+    pub fn driven(self) -> Option<LevelTarget> {
         match self.location {
-            Some(Location::Level { bus, address }) => Some(Driven { bus, address }),
+            Some(Location::Level { bus, address }) => Some(LevelTarget { bus, address }),
             _ => None,
         }
     }
@@ -228,10 +228,10 @@ impl BlockCall {
     }
 
     /// What BUS and ADR name, of a block that sends.
-    pub fn driven(&self) -> Option<Driven> {
+    pub fn driven(&self) -> Option<LevelTarget> {
         let bus = u8::try_from(self.port(1)?).ok()?;
         let address = u8::try_from(self.port(2)?).ok()?;
-        Some(Driven { bus, address })
+        Some(LevelTarget { bus, address })
     }
 }
 
@@ -248,7 +248,7 @@ pub fn house_of<'p>(
     let plan = setup.plan();
     let lines = LineStarts::of(alloc, source.text())?;
     let tasks = facts_of(alloc, setup)?;
-    let levels = Levels::of(alloc, plan, &tasks)?;
+    let levels = LevelTable::of(alloc, plan, &tasks)?;
     Ok(House {
         plan,
         source,
@@ -314,7 +314,7 @@ impl<'p> TaskFacts<'p> {
             globals: globals_in(alloc, plan, task)?,
             used: vec![in alloc; UNNAMED; port_place(code, code.kinds().len(), 0)]?,
             calls: Vec::new(alloc),
-            sent: vec![in alloc; 0; Driven::end(plan).number()]?,
+            sent: vec![in alloc; 0; LevelTarget::end(plan).number()]?,
             conditions: Vec::new(alloc),
         })
     }
@@ -385,7 +385,7 @@ impl<'p> TaskFacts<'p> {
     }
 
     /// The level that a call sends again as it is, to what that drives or to all gear of its bus.
-    fn level_sent(&self, call: &BlockCall) -> Option<Driven> {
+    fn level_sent(&self, call: &BlockCall) -> Option<LevelTarget> {
         let level = self.globals.get(call.level?)?.driven()?;
         let driven = call.driven()?;
         let is_there = driven.address == BROADCAST || driven.address == level.address;

@@ -24,16 +24,16 @@ const ADD_TO_GROUP: i64 = 18;
 
 /// What a level or a command goes to.
 #[derive(Clone, Copy)]
-pub struct Driven {
+pub struct LevelTarget {
     pub bus: u8,
     /// 0 to 63 a short address, 64 to 79 a group, 80 all gear.
     pub address: u8,
 }
 
-impl Driven {
+impl LevelTarget {
     /// Past the last of all buses of a plan.
-    pub fn end(plan: &Plan) -> Driven {
-        Driven {
+    pub fn end(plan: &Plan) -> LevelTarget {
+        LevelTarget {
             bus: plan.buses(),
             address: 0,
         }
@@ -58,28 +58,28 @@ pub struct Level {
     /// The number of its global variable.
     pub number: usize,
     pub name: Name,
-    pub driven: Driven,
+    pub driven: LevelTarget,
     /// Whether a cyclic task changes it step by step, so that it is sent again soon.
     pub is_moved: bool,
 }
 
 /// The levels of all buses of a plan.
 #[derive(Drop)]
-pub struct Levels {
+pub struct LevelTable {
     levels: Vec<Option<Level>>,
     /// For each address whether the text puts it into the group: first by address, then by group.
     members: Vec<bool>,
 }
 
-impl Levels {
+impl LevelTable {
     /// The levels that tasks store.
     ///
     /// # Errors
     ///
     /// The allocator is out of memory.
-    pub fn of(alloc: Global, plan: &Plan, tasks: &[TaskFacts]) -> Result<Levels, AllocError> {
-        let end = Driven::end(plan);
-        let mut levels = Levels {
+    pub fn of(alloc: Global, plan: &Plan, tasks: &[TaskFacts]) -> Result<LevelTable, AllocError> {
+        let end = LevelTarget::end(plan);
+        let mut levels = LevelTable {
             levels: vec![in alloc; None; end.number()]?,
             members: vec![in alloc; false; end.member(0)]?,
         };
@@ -106,13 +106,13 @@ impl Levels {
     }
 
     /// The level that drives just this.
-    pub fn get(&self, driven: Driven) -> Option<Level> {
+    pub fn get(&self, driven: LevelTarget) -> Option<Level> {
         *self.levels.get(driven.number())?
     }
 
     /// Whether what is sent to the one surely reaches what the other drives as well: it is all gear
     /// of the same bus, or a group into which the text puts it.
-    fn covers(&self, one: Driven, other: Driven) -> bool {
+    fn covers(&self, one: LevelTarget, other: LevelTarget) -> bool {
         match one.address.checked_sub(FIRST_GROUP) {
             _ if one.address == other.address => false,
             Some(_) if one.address == BROADCAST => true,
@@ -122,9 +122,9 @@ impl Levels {
     }
 
     /// A level of more gear, that of this among it. Of several it is the first by its address.
-    pub fn above(&self, driven: Driven) -> Option<Level> {
+    pub fn above(&self, driven: LevelTarget) -> Option<Level> {
         for address in 0..ADDRESSES {
-            if let Some(level) = self.get(Driven { address, ..driven }) {
+            if let Some(level) = self.get(LevelTarget { address, ..driven }) {
                 if self.covers(level.driven, driven) {
                     return Some(level);
                 }
@@ -135,9 +135,9 @@ impl Levels {
 
     /// A level that what is sent there at a place changes as well, but none that is soon sent
     /// again. Of several it is the first by its address.
-    pub fn below(&self, driven: Driven, facts: &TaskFacts, place: usize) -> Option<Level> {
+    pub fn below(&self, driven: LevelTarget, facts: &TaskFacts, place: usize) -> Option<Level> {
         for address in 0..BROADCAST {
-            if let Some(level) = self.get(Driven { address, ..driven }) {
+            if let Some(level) = self.get(LevelTarget { address, ..driven }) {
                 let is_again = level.is_moved || facts.sends_again(level, place);
                 if self.covers(driven, level.driven) && !is_again {
                     return Some(level);

@@ -26,7 +26,7 @@ mod reads;
 
 pub use current::constant_of;
 pub use facts::{BlockCall, GlobalSlot, House, TaskFacts, Usage, house_of, place_of};
-pub use levels::{BROADCAST, Driven, FIRST_GROUP, Level, Levels};
+pub use levels::{BROADCAST, FIRST_GROUP, Level, LevelTable, LevelTarget};
 pub use line_starts::LineStarts;
 pub use load::{Counted, add_tenths, rate_of, write_load};
 pub use planned::{is_stored, starts_task, uses_function, uses_source};

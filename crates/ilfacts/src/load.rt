@@ -7,7 +7,7 @@ use ilcode::Word;
 use ilcompile::Setup;
 use illisting::{add_at, count_at};
 use iltypes::Condition;
-use page::Page;
+use printout::Printout;
 use std::alloc::{AllocError, Global};
 use std::io;
 use std::io::Write;
@@ -30,7 +30,7 @@ pub enum Counted {
 /// The writer's, or that the allocator is out of memory.
 pub fn write_load<W: Write>(alloc: Global, out: &mut W, setup: &Setup) -> io::Result<()> {
     let tasks = facts_of(alloc, setup)?;
-    let mut page = Page::new(alloc);
+    let mut page = Printout::new(alloc);
     for bus in 0..setup.plan().buses() {
         add_bus(alloc, &mut page, &tasks, bus)?;
     }
@@ -38,7 +38,12 @@ pub fn write_load<W: Write>(alloc: Global, out: &mut W, setup: &Setup) -> io::Re
 }
 
 /// Adds the line of a bus, where it may be asked for frames.
-fn add_bus(alloc: Global, page: &mut Page, tasks: &[TaskFacts], bus: u8) -> Result<(), AllocError> {
+fn add_bus(
+    alloc: Global,
+    page: &mut Printout,
+    tasks: &[TaskFacts],
+    bus: u8,
+) -> Result<(), AllocError> {
     let tenths = rate_of(alloc, tasks, bus, Counted::Stored)?;
     let mut is_begun = tenths > 0;
     if is_begun {
@@ -66,7 +71,7 @@ fn add_bus(alloc: Global, page: &mut Page, tasks: &[TaskFacts], bus: u8) -> Resu
 }
 
 /// Begins the line of a bus, or goes on with it.
-fn begin_part(page: &mut Page, bus: u8, is_begun: bool) {
+fn begin_part(page: &mut Printout, bus: u8, is_begun: bool) {
     if is_begun {
         page.text(", ");
     } else {
@@ -77,7 +82,7 @@ fn begin_part(page: &mut Page, bus: u8, is_begun: bool) {
 }
 
 /// Adds a number of tenths.
-pub fn add_tenths(page: &mut Page, tenths: i64) {
+pub fn add_tenths(page: &mut Printout, tenths: i64) {
     page.number(tenths / 10);
     page.text(".");
     page.number(tenths % 10);

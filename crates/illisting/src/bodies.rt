@@ -9,7 +9,7 @@ use crate::words::{Part, PartText};
 use ilcode::{Code, Word};
 use iltypes::Condition;
 use ilverify::LongestWays;
-use page::Page;
+use printout::Printout;
 use std::alloc::{AllocError, Global};
 
 /// The place where a body begins: that of the programs is 0, that of function n is n + 1.
@@ -115,13 +115,13 @@ fn place_after(code: &Code, ways: &LongestWays, body: usize, place: usize) -> us
 }
 
 /// Adds a number behind a text.
-pub(crate) fn add_number(page: &mut Page, before: &str, number: u32) {
+pub(crate) fn add_number(page: &mut Printout, before: &str, number: u32) {
     page.text(before);
     page.number(i64::from(number));
 }
 
 /// Adds a number, with blanks before it up to so many columns.
-pub(crate) fn add_column(page: &mut Page, number: usize, columns: usize) {
+pub(crate) fn add_column(page: &mut Printout, number: usize, columns: usize) {
     let mut least: usize = 10;
     for _ in 1..columns {
         if number < least {
@@ -133,13 +133,13 @@ pub(crate) fn add_column(page: &mut Page, number: usize, columns: usize) {
 }
 
 /// Adds a name.
-fn add_name(page: &mut Page, names: &TaskNames, part: Part) {
+fn add_name(page: &mut Printout, names: &TaskNames, part: Part) {
     page.shown(&PartText { names, part });
 }
 
 /// Adds, where the code has functions, what makes the bound: how many words of a longest path are
 /// of the programs, and of each function that it goes through, and how often it does.
-pub(crate) fn add_bound(page: &mut Page, names: &TaskNames, path: &LongestPath, bound: u32) {
+pub(crate) fn add_bound(page: &mut Printout, names: &TaskNames, path: &LongestPath, bound: u32) {
     let code = names.code;
     if code.functions().is_empty() {
         return;
@@ -167,7 +167,7 @@ pub(crate) fn add_bound(page: &mut Page, names: &TaskNames, path: &LongestPath, 
 /// Adds a line for each function that begins at a place: its name, its words, the greatest number
 /// of words on a path from its first word on, and who calls it.
 pub(crate) fn add_functions_at(
-    page: &mut Page,
+    page: &mut Printout,
     names: &TaskNames,
     ways: &LongestWays,
     place: usize,
@@ -187,7 +187,7 @@ pub(crate) fn add_functions_at(
 }
 
 /// Adds who calls a function, each once, in the order of the code.
-fn add_callers(page: &mut Page, names: &TaskNames, function: usize) {
+fn add_callers(page: &mut Printout, names: &TaskNames, function: usize) {
     let mut last = None;
     for place in 0..names.code.len() {
         if callee_at(names.code, place) == Some(function) {
@@ -226,7 +226,7 @@ fn caller_at(code: &Code, place: usize) -> usize {
 /// The allocator is out of memory.
 pub fn print_longest_calls(
     alloc: Global,
-    page: &mut Page,
+    page: &mut Printout,
     names: &TaskNames,
 ) -> Result<(), AllocError> {
     page.text("the calls that make it:\n");
@@ -249,7 +249,7 @@ pub fn print_longest_calls(
 }
 
 /// Adds how often a function is called, and how many words that is each time.
-fn add_times(page: &mut Page, times: u32, words: u32) {
+fn add_times(page: &mut Printout, times: u32, words: u32) {
     if times > 1 {
         add_number(page, " ", times);
         page.text(" times");
@@ -277,7 +277,7 @@ fn longest_call(code: &Code, ways: &LongestWays, calls: &[u32]) -> Option<usize>
 }
 
 /// Adds the first call of a function in a body.
-fn add_first_call(page: &mut Page, names: &TaskNames, body: usize, function: usize) {
+fn add_first_call(page: &mut Printout, names: &TaskNames, body: usize, function: usize) {
     for place in start_of(names.code, body)..names.code.end_of(body) {
         if callee_at(names.code, place) == Some(function) {
             return add_call(page, names, place, function);
@@ -286,7 +286,7 @@ fn add_first_call(page: &mut Page, names: &TaskNames, body: usize, function: usi
 }
 
 /// Adds who calls what at a place, with the line.
-fn add_call(page: &mut Page, names: &TaskNames, place: usize, function: usize) {
+fn add_call(page: &mut Printout, names: &TaskNames, place: usize, function: usize) {
     add_column(page, line_at(names.code, place), 6);
     page.text(" | ");
     add_name(page, names, Part::Caller(caller_at(names.code, place)));
@@ -302,7 +302,7 @@ fn add_call(page: &mut Page, names: &TaskNames, place: usize, function: usize) {
 /// The allocator is out of memory.
 pub fn print_deepest_calls(
     alloc: Global,
-    page: &mut Page,
+    page: &mut Printout,
     names: &TaskNames,
     place: usize,
 ) -> Result<(), AllocError> {

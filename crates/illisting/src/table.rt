@@ -11,7 +11,7 @@ use ilcode::Word;
 use ilcompile::Setup;
 use iltypes::Condition;
 use ilverify::{Entry, LongestWays, Pass, Passed};
-use page::Page;
+use printout::Printout;
 use std::alloc::{AllocError, Global};
 use std::io;
 use std::io::Write;
@@ -33,13 +33,18 @@ pub fn write_task<W: Write>(
 ) -> io::Result<()>
     requires { task < length setup.now.plan.tasks }
 {
-    let mut page = Page::new(alloc);
+    let mut page = Printout::new(alloc);
     add_task(alloc, &mut page, setup, task)?;
     page.write_to(out)
 }
 
 /// Adds the words of a task.
-fn add_task(alloc: Global, page: &mut Page, setup: &Setup, task: usize) -> Result<(), AllocError>
+fn add_task(
+    alloc: Global,
+    page: &mut Printout,
+    setup: &Setup,
+    task: usize,
+) -> Result<(), AllocError>
     requires { task < length setup.now.plan.tasks }
 {
     let plan = setup.plan();
@@ -70,7 +75,7 @@ fn add_task(alloc: Global, page: &mut Page, setup: &Setup, task: usize) -> Resul
 /// Adds a line for each word, and one before the words of each function.
 fn add_words(
     alloc: Global,
-    page: &mut Page,
+    page: &mut Printout,
     names: &TaskNames,
     ways: &LongestWays,
     on_longest: &[bool],
@@ -97,7 +102,7 @@ fn add_words(
 }
 
 /// Adds the numbers of a word: its place, its line, and the words from it on.
-fn add_numbers(page: &mut Page, names: &TaskNames, ways: &LongestWays, place: usize) {
+fn add_numbers(page: &mut Printout, names: &TaskNames, ways: &LongestWays, place: usize) {
     let left = ways.words_from(names.code.body_at(place), place);
     add_column(page, place, 5);
     page.text(" ");
@@ -113,7 +118,7 @@ const WORD_COLUMNS: usize = 24;
 /// Adds what a word does, and what is known before it.
 fn add_word(
     alloc: Global,
-    page: &mut Page,
+    page: &mut Printout,
     names: &TaskNames,
     word: Word,
     entry: Option<&Entry>,
@@ -132,7 +137,7 @@ fn add_word(
 
 /// Ends the line of a word: with how long the longest paths are on both ways from a jump that has
 /// two, and in a function that is called.
-fn add_ways(page: &mut Page, names: &TaskNames, ways: &LongestWays, place: usize) {
+fn add_ways(page: &mut Printout, names: &TaskNames, ways: &LongestWays, place: usize) {
     match names.code.get(place) {
         Some(Word::Jump { condition, target }) if condition != Condition::Always => {
             let body = names.code.body_at(place);

@@ -4,7 +4,7 @@
 use crate::kinds::{Kind, Rule};
 use crate::note::{Found, Note, NotePlace, Notes, note_at, note_of};
 use ilblocks::BlockKind;
-use ilfacts::{BROADCAST, BlockCall, Driven, FIRST_GROUP, House, TaskFacts};
+use ilfacts::{BROADCAST, BlockCall, FIRST_GROUP, House, LevelTarget, TaskFacts};
 use ilplan::{Location, Plan};
 use ilsource::Name;
 use std::alloc::{AllocError, Global};
@@ -41,7 +41,7 @@ impl Calls {
     ///
     /// The allocator is out of memory.
     pub fn of(alloc: Global, plan: &Plan) -> Result<Calls, AllocError> {
-        let end = Driven::end(plan);
+        let end = LevelTarget::end(plan);
         let mut calls = Calls {
             answerers: vec![in alloc; None; number_of(end, false)]?,
             commanded: vec![in alloc; None; end.number()]?,
@@ -60,7 +60,7 @@ impl Calls {
             Some(Location::DeviceAnswer { bus, short }) => (bus, short, true),
             _ => return,
         };
-        let number = number_of(Driven { bus, address }, is_device);
+        let number = number_of(LevelTarget { bus, address }, is_device);
         if let Some(kept) = self.answerers.get_mut(number) {
             *kept = Some(Answerer {
                 answer,
@@ -122,7 +122,7 @@ impl Calls {
                 let is_all = (address == BROADCAST) != (driven.address == BROADCAST);
                 let least = address.min(driven.address);
                 if first.is_none() && is_all && least < FIRST_GROUP {
-                    first = self.shared_at(Driven { address, ..driven }, this, true);
+                    first = self.shared_at(LevelTarget { address, ..driven }, this, true);
                 }
             }
         }
@@ -137,7 +137,12 @@ impl Calls {
 
     /// The first command to this, where another task makes it, one of both tasks is a cyclic one,
     /// or both are, and it was not noted yet.
-    fn shared_at(&mut self, driven: Driven, this: Commanded, is_both: bool) -> Option<Commanded> {
+    fn shared_at(
+        &mut self,
+        driven: LevelTarget,
+        this: Commanded,
+        is_both: bool,
+    ) -> Option<Commanded> {
         let first = self.commanded.get_mut(driven.number())?.as_mut()?;
         let is_cyclic = if is_both {
             first.is_cyclic && this.is_cyclic
@@ -153,7 +158,7 @@ impl Calls {
 }
 
 /// The number of a gear, or of a device, among both.
-fn number_of(asked: Driven, is_device: bool) -> usize {
+fn number_of(asked: LevelTarget, is_device: bool) -> usize {
     asked
         .number()
         .saturating_mul(2)
@@ -210,7 +215,7 @@ pub(crate) fn note_on_mask(call: &BlockCall) -> Option<Note> {
 }
 
 /// What a call commands that changes levels.
-fn commanded_by(call: &BlockCall) -> Option<Driven> {
+fn commanded_by(call: &BlockCall) -> Option<LevelTarget> {
     if call.may_request() && matches!(call.kind, BlockKind::GearLevel | BlockKind::GearDo) {
         call.driven()
     } else {
@@ -224,14 +229,14 @@ pub(crate) fn add_covered_levels(notes: &mut Notes, house: &House) {
         for address in 0..BROADCAST {
             notes.add(
                 Rule::Overlaps,
-                note_on_covered(house, Driven { bus, address }),
+                note_on_covered(house, LevelTarget { bus, address }),
             );
         }
     }
 }
 
 /// The note on a level whose gear another level drives as well, where there is one.
-fn note_on_covered(house: &House, driven: Driven) -> Option<Note> {
+fn note_on_covered(house: &House, driven: LevelTarget) -> Option<Note> {
     let level = house.levels.get(driven)?;
     let other = house.levels.above(driven)?;
     let (name, other_name) = (Found::Name(level.name), Found::Name(other.name));

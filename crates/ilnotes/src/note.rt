@@ -27,9 +27,9 @@ pub(crate) enum Found {
     Value(Value),
     /// A number of frames in a second, in tenths.
     Tenths(i64),
-    Driven(Driven),
+    LevelTarget(LevelTarget),
     /// The control device with this short address.
-    Device(Driven),
+    Device(LevelTarget),
     Source { bus: u8, source: u8 },
     /// The frame of an event.
     Event(u32),

@@ -7,11 +7,11 @@ use crate::rules::add_all_notes;
 use crate::scenario_notes::{Played, add_scenario_notes};
 use ilcode::Word;
 use ilcompile::Setup;
-use ilfacts::{BROADCAST, Driven, FIRST_GROUP, House, add_tenths, house_of};
+use ilfacts::{BROADCAST, FIRST_GROUP, House, LevelTarget, add_tenths, house_of};
 use illisting::{ValuesText, WordText};
 use ilplan::DeclaredName;
 use ilsource::{LineColumn, Source};
-use page::Page;
+use printout::Printout;
 use std::alloc::{AllocError, Global};
 use std::io::Write;
 use std::{fmt, io};
@@ -54,7 +54,7 @@ pub fn write_notes<W: Write>(
         house: &house,
         asked,
     };
-    let mut page = Page::new(alloc);
+    let mut page = Printout::new(alloc);
     let is_denied = on.add_notes(&mut page, &notes)?;
     page.write_to(out)?;
     Ok(is_denied)
@@ -91,7 +91,7 @@ struct Printed<'h, 'p, 'a> {
 
 impl<'h, 'p, 'a> Printed<'h, 'p, 'a> {
     /// Adds the notes, rule by rule, or that there are none. Whether one is denied.
-    fn add_notes(&self, page: &mut Page, notes: &Notes) -> Result<bool, AllocError> {
+    fn add_notes(&self, page: &mut Printout, notes: &Notes) -> Result<bool, AllocError> {
         let places = self.house.source.text().len().saturating_add(1);
         let mut noted = vec![in notes.alloc; None; places]?;
         let mut is_first = true;
@@ -134,7 +134,7 @@ impl<'h, 'p, 'a> Printed<'h, 'p, 'a> {
 
     /// Adds a note: `FILE:LINE:COLUMN: note NAME: MESSAGE` on a line, or an object of JSON, behind
     /// a comma where it is not the first. No message has what JSON escapes.
-    fn add_note(&self, page: &mut Page, is_first: bool, note: &Note, texts: (&str, &str)) {
+    fn add_note(&self, page: &mut Printout, is_first: bool, note: &Note, texts: (&str, &str)) {
         let (file, at) = self.locate(note.place);
         let (name, message) = texts;
         if self.asked.is_json {
@@ -186,7 +186,7 @@ impl<'h, 'p, 'a> Printed<'h, 'p, 'a> {
     }
 
     /// Adds the text of a note, with what was found.
-    fn add_message(&self, page: &mut Page, message: &str, note: &Note) {
+    fn add_message(&self, page: &mut Printout, message: &str, note: &Note) {
         for (number, piece) in message.split('{').enumerate() {
             if number == 0 {
                 page.text(piece);
@@ -201,7 +201,7 @@ impl<'h, 'p, 'a> Printed<'h, 'p, 'a> {
     }
 
     /// Adds what was found.
-    fn add_found(&self, page: &mut Page, found: Found) {
+    fn add_found(&self, page: &mut Printout, found: Found) {
         match found {
             Found::Nothing => {}
             Found::Port(kind, port) => {
@@ -238,7 +238,7 @@ impl<'h, 'p, 'a> Printed<'h, 'p, 'a> {
     }
 
     /// Adds a word of a task's code.
-    fn add_word(&self, page: &mut Page, task: usize, word: Word) {
+    fn add_word(&self, page: &mut Printout, task: usize, word: Word) {
         if let Some(facts) = self.house.tasks.get(task) {
             let names = facts.names(self.house.plan);
             page.shown(&WordText {
@@ -250,13 +250,13 @@ impl<'h, 'p, 'a> Printed<'h, 'p, 'a> {
 }
 
 /// Adds a number behind a text.
-fn add_numbered(page: &mut Page, before: &str, number: u8) {
+fn add_numbered(page: &mut Printout, before: &str, number: u8) {
     page.text(before);
     page.count(usize::from(number));
 }
 
 /// Adds what a level or a command goes to.
-fn add_driven(page: &mut Page, driven: Driven) {
+fn add_driven(page: &mut Printout, driven: LevelTarget) {
     match driven.address.checked_sub(FIRST_GROUP) {
         Some(_) if driven.address == BROADCAST => page.text("all gear"),
         Some(group) => add_numbered(page, "group ", group),
@@ -299,7 +299,7 @@ fn first_column(text: &[u8], start: usize) -> usize {
 
 /// Adds a place behind a file: texts stand before the line and before the column, and one in place
 /// of both where there is none.
-fn add_place(page: &mut Page, at: Option<LineColumn>, texts: [&str; 3]) {
+fn add_place(page: &mut Printout, at: Option<LineColumn>, texts: [&str; 3]) {
     match at {
         Some(LineColumn { line, col }) => {
             page.text(texts[0]);

@@ -6,7 +6,7 @@ use crate::note::{Found, Note, NotePlace, note_at, note_of, note_on};
 use crate::number_notes::is_swapped;
 use ilblocks::BlockKind;
 use ilcode::{Code, Target, Word, WordOperand};
-use ilfacts::{Driven, House, TaskFacts, constant_of};
+use ilfacts::{House, LevelTarget, TaskFacts, constant_of};
 use illisting::line_at;
 use ilplan::Location;
 use iltypes::{Operator, Range, Value};
@@ -212,7 +212,7 @@ pub(crate) fn note_on_level(house: &House, number: usize, kept: Kept) -> Option<
     let Some(Location::Level { bus, address }) = global.location else {
         return None;
     };
-    if house.levels.above(Driven { bus, address }).is_some() {
+    if house.levels.above(LevelTarget { bus, address }).is_some() {
         return None;
     }
     note_on(Kind::NeverOff, global.name, Found::Number(lo))

@@ -4,7 +4,7 @@
 use crate::kinds::{Kind, Rule};
 use crate::note::{Added, Found, NotePlace, Notes, note_at};
 use daliframe::Frame24;
-use ilfacts::{Driven, FIRST_GROUP, House};
+use ilfacts::{FIRST_GROUP, House, LevelTarget};
 use ilplan::Plan;
 use indexmap::IndexMap;
 use std::alloc::Global;
@@ -97,7 +97,8 @@ impl<'p> Comparison<'p> {
         match *statement {
             Statement::Gear { short, .. } => {
                 let address = short.number();
-                self.gear.insert(Driven { bus, address }.number(), true)?;
+                self.gear
+                    .insert(LevelTarget { bus, address }.number(), true)?;
             }
             Statement::Event { frame, .. } => {
                 let is_new = self.seen.insert(sender_of(bus, frame), true)?.is_none();
@@ -124,7 +125,7 @@ impl<'p> Comparison<'p> {
     fn add_lacking_gear(&self, notes: &mut Notes, house: &House) {
         for bus in 0..self.plan.buses() {
             for address in 0..FIRST_GROUP {
-                let driven = Driven { bus, address };
+                let driven = LevelTarget { bus, address };
                 if self.gear.get(&driven.number()).is_none() {
                     if let Some(level) = house.levels.get(driven) {
                         let name = Found::Name(level.name);

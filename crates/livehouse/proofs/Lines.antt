@@ -2,7 +2,7 @@
 use Rattle.std.proofs.Common.{◌≡◌, ℕ, ◌+◌, List, [], ◌∷◌, ◌++◌, length, length-append, sym, ◌∙◌, subst, zero-add, arith}
 use Rattle.buslink.specs.BusLog.{BusLog}
 use Rattle.buslink.proofs.Eaching.{each_push}
-use Rattle.options.specs.declared.line_word.LineWord.{LineWord}
+use Rattle.commandoptions.specs.declared.line_word.LineWord.{LineWord}
 use Rattle.livehouse.specs.Sites.{AreNewBuses, AreReached, IsNewBus, IsReached}
 
 pub one_line_more : {B : Type 0} → (bus_log : B → BusLog) (is_of : B → LineWord → ℕ → Type 0) (words : List LineWord)

@@ -1,6 +1,6 @@
 -- Where each bus below one has a line, and that one has, so has each below the next.
 use Rattle.std.proofs.Common.{◌≡◌, ◌∙◌, ℕ, zero, suc, ◌+◌, ◌<◌, List, refl, ap, arith, sym, ◌⊎◌, inl, inr}
-use Rattle.options.specs.declared.line_word.LineWord.{LineWord}
+use Rattle.commandoptions.specs.declared.line_word.LineWord.{LineWord}
 use Rattle.livehouse.specs.Lineups.{HasLine, IsLineFor}
 
 next : (n bound : ℕ) → (n < bound) ⊎ (n ≡ bound) → (suc n < suc bound) ⊎ (suc n ≡ suc bound)

@@ -7,9 +7,9 @@ use Rattle.buslink.specs.ClockLog.{ClockLog}
 use Rattle.ilcompile.specs.Loaded.{Loaded}
 use Rattle.plant.specs.declared.open_fault.OpenFault.TheVariants.{Limit}
 use Rattle.plant.specs.Shown.{IsRoomy}
-use Rattle.options.specs.declared.line_word.LineWord.{LineWord}
-use Rattle.options.specs.declared.live_options.LiveOptions.{LiveOptions}
-use Rattle.options.specs.declared.live_options.RunSize.{RunSize}
+use Rattle.commandoptions.specs.declared.line_word.LineWord.{LineWord}
+use Rattle.commandoptions.specs.declared.live_options.LiveOptions.{LiveOptions}
+use Rattle.commandoptions.specs.declared.live_options.RunSize.{RunSize}
 use Rattle.plant.specs.declared.start_fault.StartFault.TheVariants.{Memory, Plant}
 use Rattle.plantlive.specs.Starts.{IsStartFault}
 use Rattle.plantlive.specs.declared.living.Lived.{Lived}

@@ -1,7 +1,7 @@
 -- Which line each bus of a plant has, by the words of `--line` (profile).
 use Rattle.std.specs.Prelude.{◌≡◌, ℕ, ◌<◌, All, List}
 use Rattle.std.specs.List.{Contains}
-use Rattle.options.specs.declared.line_word.LineWord.{LineWord}
+use Rattle.commandoptions.specs.declared.line_word.LineWord.{LineWord}
 use Rattle.livehouse.specs.declared.lineup.LineupFault.{LineupFault}
 use Rattle.livehouse.specs.declared.lineup.LineupFault.TheVariants.{Missing, Unknown}
 

@@ -4,7 +4,7 @@ use Rattle.buslink.specs.BusLog.{BusLog}
 use Rattle.buslink.specs.ClockLog.{ClockLog}
 use Rattle.buslink.specs.Each.{Each}
 use Rattle.ilplan.specs.Plans.{Planned}
-use Rattle.options.specs.declared.line_word.LineWord.{LineWord}
+use Rattle.commandoptions.specs.declared.line_word.LineWord.{LineWord}
 use Rattle.plantlive.specs.Periods.{IsPeriod}
 use Rattle.livehouse.specs.Lineups.{IsLineFor}
 

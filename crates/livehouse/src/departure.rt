@@ -3,9 +3,9 @@
 use crate::buildings::Building;
 use crate::lineup::line_for;
 use buslink::{Bus, Clock};
+use commandoptions::LineWord;
 use ilplan::{Activation, Global, Location, Plan};
 use iltypes::Value;
-use options::LineWord;
 use std::fmt;
 
 /// What is about to run in a building: its buses with their lines, its tasks with their bounds, and

@@ -4,8 +4,8 @@
 ghost use Rattle.std.specs.Prelude.{◌≡◌, IfOk, IsSome, option_map, string_bytes, true};
 
 use crate::watch::DownWatch;
+use commandoptions::LineWord;
 use liveline::{Opener, Reason, Teller};
-use options::LineWord;
 use std::alloc::{AllocError, Global};
 use std::fs::{File, OpenFile, OpenOptions};
 use std::io;

@@ -5,7 +5,7 @@ ghost use Rattle.std.specs.List.{Contains};
 ghost use Rattle.livehouse.specs.Lineups.{AreKnown, AreLinesOf, HasLine, HasNoLine, IsLineFor};
 ghost use Rattle.livehouse.specs.Lineups.{IsLineupFault};
 
-use options::LineWord;
+use commandoptions::LineWord;
 use std::fmt;
 
 /// Why the words of `--line` are not the lines of a plant's buses.

@@ -2,8 +2,8 @@
 
 use crate::watch::{DownWatch, End};
 use buslink::{Bus, Clock};
+use commandoptions::LineWord;
 use daliframe::BusNumber;
-use options::LineWord;
 use std::alloc::{AllocError, Global};
 use std::num::NonZeroU64;
 use std::sync::Arc;
@@ -30,7 +30,7 @@ pub trait Site {
     ghost use Rattle.std.specs.Prelude.{◌≡◌, ℕ, IfOk, IfErr, IsSome, List, Option, option_map};
     ghost use Rattle.std.specs.Int.NonZero.{non_zero_u64_get};
     ghost use Rattle.livehouse.specs.Sites.{IsNewBus, IsNewClock};
-    ghost use Rattle.options.specs.declared.line_word.LineWord.{LineWord};
+    ghost use Rattle.commandoptions.specs.declared.line_word.LineWord.{LineWord};
     ghost use Rattle.livehouse.specs.declared.site.SiteFault.{SiteFault};
     ghost use Rattle.livehouse.specs.declared.site.SiteFault.TheVariants.{Ended};
 

@@ -1,7 +1,7 @@
 //! Why a building does not run.
 
 use crate::lineup::LineupFault;
-use options::LineWord;
+use commandoptions::LineWord;
 use plant::StartFault;
 use std::alloc::AllocError;
 use std::fmt;

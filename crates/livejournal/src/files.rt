@@ -12,9 +12,9 @@ use crate::record::RecordEnd;
 use crate::status::{Status, write_json, write_lines};
 use crate::storage::{Care, Storage};
 use crate::told::{tell, try_page};
+use commandoptions::Beside;
 use jiff::Timestamp;
 use livekeep::KeptAt;
-use options::Beside;
 use std::alloc::{AllocError, Global};
 use std::io;
 

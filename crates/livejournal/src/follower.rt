@@ -4,7 +4,7 @@ use buslink::{Mark, Report};
 use ilcompile::Setup;
 use limits::MOST_EVENTS;
 use plant::{OpenFault, Plant};
-use plantsteps::{Step, StepReply, SteppedPlant};
+use plantscript::{Step, StepReply, SteppedPlant};
 use plantturns::Happened;
 use std::alloc::Global;
 

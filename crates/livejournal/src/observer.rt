@@ -3,8 +3,8 @@
 use crate::pages::Pages;
 use crate::storage::Storage;
 use crate::unsorted::{Told, Unsorted};
+use commandoptions::Beside;
 use ilcompile::Setup;
-use options::Beside;
 use plantturns::{Gate, Happened};
 use std::alloc::{AllocError, Global};
 use std::sync::{Mutex, Wait};

@@ -11,8 +11,8 @@ use crate::record::Record;
 use crate::storage::Storage;
 use crate::told::{tell, tell_turn};
 use crate::unsorted::Told;
+use commandoptions::Beside;
 use ilcompile::Setup;
-use options::Beside;
 use std::alloc::{AllocError, Global};
 
 /// What is written beside a building, by events in the order of the history.

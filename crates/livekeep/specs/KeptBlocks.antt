@@ -76,8 +76,8 @@ moments = numbers (pos 0) (pos most_number)
 abbrev pub kept_start : List KeptEntry → List ℕ → BlockKind → Option ℕ
 kept_start kept block kind =
     if keeps_start kind then
-        option_map (λ value. natural_of (number_or_zero (Some value)))
-        (kept_value kept (part_name block (codes "start")) moments)
+    option_map (λ value. natural_of (number_or_zero (Some value)))
+    (kept_value kept (part_name block (codes "start")) moments)
     else Some 0
 
 abbrev pub block_of : List Value → Bool → ℕ → Block

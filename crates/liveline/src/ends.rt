@@ -5,7 +5,7 @@ ghost use Rattle.std.specs.Io.KnownBytes.{Appends, Consumes};
 ghost use Rattle.liveline.specs.Exchanges.{IsAtMost, IsWrittenBut};
 ghost use Rattle.liveline.specs.Lines.{hear_line, line_end, send_line};
 
-use crate::troubles::{Line, MOST_LINE, Trouble};
+use crate::troubles::{LineBytes, MOST_LINE, Trouble};
 use daliframe::Frame;
 use std::io::{ErrorKind, Read, Write};
 
@@ -22,10 +22,10 @@ pub(crate) fn ask_to_send<W: Write>(to: &mut W, frame: &Frame, priority: u8) -> 
 }
 
 /// The line that asks for a frame to be sent, with its end.
-fn send_request(frame: &Frame, priority: u8) -> Result<Line, Trouble>
+fn send_request(frame: &Frame, priority: u8) -> Result<LineBytes, Trouble>
     ensures { IfOk result (λ line. line.items ≡ send_line frame.now priority ++ line_end) }
 {
-    let mut line = Line::new();
+    let mut line = LineBytes::new();
     match writeln!(line, "send {priority} {frame}") {
         Ok(()) => Ok(line),
         Err(_) => Err(Trouble::Absent),
@@ -105,11 +105,11 @@ fn read_byte<R: Read>(from: &mut R) -> Result<u8, Trouble>
 
 /// The next line. There is none where it is too long, where nothing more comes, or where the reader
 /// fails.
-pub(crate) fn read_line<R: Read>(from: &mut R) -> Result<Line, Trouble>
+pub(crate) fn read_line<R: Read>(from: &mut R) -> Result<LineBytes, Trouble>
     ensures { IfOk result (λ line. Consumes (R.remaining from.old) (R.remaining from.new)
         (line.items ++ line_end)) }
 {
-    let mut line = Line::new();
+    let mut line = LineBytes::new();
     for _ in 0..MOST_LINE {
         let byte = read_byte(from)?;
         if byte == b'\n' {

@@ -8,7 +8,7 @@ ghost use Rattle.liveline.specs.Lines.{numbered_greeting};
 
 use crate::answers::{is_fault, is_greeting, is_same};
 use crate::ends::{read_line, say, trouble_of};
-use crate::troubles::{Line, Trouble};
+use crate::troubles::{LineBytes, Trouble};
 use std::io::{ErrorKind, Read, Write};
 use std::marker::Model;
 
@@ -100,10 +100,10 @@ fn greet_by<W: Write>(to: &mut W, number: u64) -> Result<(), Trouble>
 }
 
 /// The greeting of this number, with its end.
-fn greeting_of(number: u64) -> Result<Line, Trouble>
+fn greeting_of(number: u64) -> Result<LineBytes, Trouble>
     ensures { IfOk result (λ line. line.items ≡ numbered_greeting number ++ line_end) }
 {
-    let mut line = Line::new();
+    let mut line = LineBytes::new();
     match writeln!(line, "gushewa 2 {number}") {
         Ok(()) => Ok(line),
         Err(_) => Err(Trouble::Absent),
@@ -111,10 +111,10 @@ fn greeting_of(number: u64) -> Result<Line, Trouble>
 }
 
 /// What answers the greeting of this number, without its end.
-fn answer_to(number: u64) -> Result<Line, Trouble>
+fn answer_to(number: u64) -> Result<LineBytes, Trouble>
     ensures { IfOk result (λ line. line.items ≡ numbered_answer number) }
 {
-    let mut line = Line::new();
+    let mut line = LineBytes::new();
     match write!(line, "gushewa 2 hears {number}") {
         Ok(()) => Ok(line),
         Err(_) => Err(Trouble::Absent),
@@ -146,14 +146,14 @@ fn read_answer<R: Read>(from: &mut R, number: u64) -> Result<bool, Trouble>
 }
 
 /// Whether the lines are the same.
-fn is_line(line: &Line, other: &Line) -> bool
+fn is_line(line: &LineBytes, other: &LineBytes) -> bool
     ensures { IsTrue result ↔ (line.now.items ≡ other.now.items) }
 {
     is_same(line.as_slice(), other.as_slice())
 }
 
 /// Whether a line says that the interface does not know what was asked.
-fn is_refusal(line: &Line) -> bool
+fn is_refusal(line: &LineBytes) -> bool
     ensures { IsTrue result ↔ (line.now.items ≡ fault_line) }
 {
     is_fault(line.as_slice())

@@ -1,6 +1,6 @@
 //! Why a line is down.
 
-use crate::troubles::{Line, Trouble};
+use crate::troubles::{LineBytes, Trouble};
 use std::fmt;
 use std::io::ErrorKind;
 
@@ -24,7 +24,7 @@ pub enum Reason {
     /// The interface answered `fault`.
     Fault,
     /// The interface answered this line, which is no answer to what was asked.
-    Answered(Line),
+    Answered(LineBytes),
 }
 
 impl Reason {
@@ -42,8 +42,8 @@ impl Reason {
 }
 
 /// The same line.
-fn copy_of(line: &Line) -> Line {
-    let mut copy = Line::new();
+fn copy_of(line: &LineBytes) -> LineBytes {
+    let mut copy = LineBytes::new();
     for byte in line.as_slice() {
         if copy.try_push(*byte).is_err() {
             return copy;

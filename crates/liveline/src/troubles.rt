@@ -7,7 +7,7 @@ use arrayvec::ArrayVec;
 pub(crate) const MOST_LINE: usize = 64;
 
 /// A line that was read, without its end.
-pub type Line = ArrayVec<u8, MOST_LINE>;
+pub type LineBytes = ArrayVec<u8, MOST_LINE>;
 
 /// Why what was asked last came to nothing.
 #[derive(Drop)]
@@ -21,12 +21,12 @@ pub enum Trouble {
     /// The interface answered `fault`.
     Fault,
     /// It answered this line, which is no answer to what was asked.
-    Answered(Line),
+    Answered(LineBytes),
 }
 
 impl Trouble {
     /// An answer that is none.
-    pub(crate) fn of(line: Line) -> Trouble {
+    pub(crate) fn of(line: LineBytes) -> Trouble {
         if is_fault(line.as_slice()) {
             Trouble::Fault
         } else {

@@ -23,7 +23,7 @@ use Rattle.plantevents.specs.declared.event.Event.TheVariants.{Tick, Heard, Take
 use Rattle.plantevents.specs.Plants.{Plant, first_tasks}
 use Rattle.plantevents.specs.Histories.{OpenScan, scan}
 use Rattle.plantevents.specs.Legal.{AreLegal, IsCommit, IsResult}
-use Rattle.taskset.specs.TaskSets.{TaskSet, Follows}
+use Rattle.readytasks.specs.TaskSets.{TaskSet, Follows}
 use Rattle.plantbuses.specs.KeptSteps.{KeptBus, BusesFollow, ImageFollows, ScansFollow}
 use Rattle.plantbuses.specs.OwedSteps.{OwedFollow}
 use Rattle.plantbuses.specs.declared.owed.OwedLevels.{OwedLevels}

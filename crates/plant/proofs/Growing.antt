@@ -7,7 +7,7 @@ use Rattle.plantevents.specs.declared.event.Event.{Event}
 use Rattle.plantevents.specs.declared.event.Event.TheVariants.{Tick, Heard, Take, Commit, Hand, Done, Down, Up}
 use Rattle.plantevents.specs.declared.role.Role.TheVariants.{Bus, Clock}
 use Rattle.plantevents.specs.Histories.{moment, is_down, heards}
-use Rattle.taskset.specs.TaskSets.{TaskSet, Follows}
+use Rattle.readytasks.specs.TaskSets.{TaskSet, Follows}
 use Rattle.ilmachine.specs.Images.{ProcessImage, ImageVariable, layout_of, value_of, blocks_of}
 use Rattle.plantevents.specs.Plants.{Plant}
 use Rattle.plantevents.specs.Variables.{newest, write_of}

@@ -7,7 +7,7 @@ use Rattle.plantevents.specs.declared.event.Event.{Event}
 use Rattle.plantevents.specs.declared.event.Event.TheVariants.{Hand}
 use Rattle.plantevents.specs.declared.event.Origin.{Origin}
 use Rattle.plantevents.specs.Legal.{IsHand}
-use Rattle.taskset.specs.TaskSets.{Follows}
+use Rattle.readytasks.specs.TaskSets.{Follows}
 use Rattle.plantbuses.specs.KeptSteps.{KeptBus, BusesFollow}
 use Rattle.plantbuses.specs.OwedSteps.{OwedFollow}
 use Rattle.plantbuses.specs.declared.owed.OwedLevels.{OwedLevels}

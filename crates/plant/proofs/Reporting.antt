@@ -10,7 +10,7 @@ use Rattle.plantevents.specs.declared.event.Event.{Event}
 use Rattle.plantevents.specs.declared.event.Event.TheVariants.{Tick, Heard, Take, Commit, Hand, Done, Down, Up}
 use Rattle.plantevents.specs.Histories.{OpenHand, hand}
 use Rattle.plantevents.specs.Legal.{IsDone}
-use Rattle.taskset.specs.TaskSets.{Follows}
+use Rattle.readytasks.specs.TaskSets.{Follows}
 use Rattle.plantbuses.specs.KeptSteps.{KeptBus, bus_at, BusesFollow, ImageFollows}
 use Rattle.plantbuses.proofs.OwedChanges.{owed_done}
 use Rattle.plant.specs.Shown.{Shown, grown, kept, unreported, sum_below}

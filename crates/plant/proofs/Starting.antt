@@ -8,7 +8,7 @@ use Rattle.ilmachine.specs.Images.{ProcessImage}
 use Rattle.plantevents.specs.declared.event.Event.{Event}
 use Rattle.plantevents.specs.Plants.{Plant, opening}
 use Rattle.plantevents.specs.Histories.{OpenScan}
-use Rattle.taskset.specs.TaskSets.{TaskSet, Follows}
+use Rattle.readytasks.specs.TaskSets.{TaskSet, Follows}
 use Rattle.plantbuses.specs.declared.outputs.LevelOutput.{LevelOutput}
 use Rattle.plantbuses.specs.OutputSteps.{planned, OutputsFollow}
 use Rattle.plant.specs.IndexSteps.{FromBus, InputsFollow}

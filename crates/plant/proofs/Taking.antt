@@ -24,7 +24,7 @@ use Rattle.plantevents.specs.Readiness.{pending}
 use Rattle.plantevents.specs.Variables.{value, newest, event_value, pending_value, snapshot_value}
 use Rattle.plantevents.specs.Variables.{IsSnapshot}
 use Rattle.plantevents.specs.Legal.{IsTake}
-use Rattle.taskset.specs.TaskSets.{TaskSet, Follows}
+use Rattle.readytasks.specs.TaskSets.{TaskSet, Follows}
 use Rattle.std.proofs.lemmas.List.{length-map}
 use Rattle.std.proofs.lemmas.Slice.Zip.{AllZip-long}
 use Rattle.ilcompile.specs.Loaded.{AreCodes, IsCodeOf}

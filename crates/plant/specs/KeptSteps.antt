@@ -10,7 +10,7 @@ use Rattle.plantevents.specs.declared.event.Event.{Event}
 use Rattle.plantevents.specs.Plants.{first_count}
 use Rattle.plantevents.specs.Histories.{OpenScan, moment, message_count}
 use Rattle.plantevents.specs.Legal.{AreLegal}
-use Rattle.taskset.specs.TaskSets.{TaskSet, Follows}
+use Rattle.readytasks.specs.TaskSets.{TaskSet, Follows}
 use Rattle.plantbuses.specs.declared.outputs.LevelOutput.{LevelOutput}
 use Rattle.plantbuses.specs.declared.owed.OwedLevels.{OwedLevels}
 use Rattle.plantbuses.specs.KeptSteps.{KeptBus, BusesFollow, ImageFollows, ScansFollow, TakesFollow}

@@ -41,10 +41,10 @@ use plantbuses::{
     note_heard, outputs_of, owed_levels,
 };
 use plantevents::Event;
+use readytasks::{Tasks, other_events_leave_tasks};
 use std::alloc::{AllocError, Global};
 use std::marker::Model;
 pub use taking::Order;
-use taskset::{Tasks, other_events_leave_tasks};
 
 /// A plan with its verified codes, scan workers and buses, as it runs. Its history has no bytes.
 pub struct Plant {

@@ -2,7 +2,7 @@
 
 ghost use Rattle.std.specs.Prelude.{◌≡◌, ◌<◌, All, find, length, IfOk, option_map};
 ghost use Rattle.plantevents.specs.Plants.{Plant as Made, activator, trigger_of};
-ghost use Rattle.taskset.specs.TaskSets.{AreSetups, HasInterval};
+ghost use Rattle.readytasks.specs.TaskSets.{AreSetups, HasInterval};
 ghost use Rattle.plant.specs.InputSteps.{is_bound_at};
 ghost use Rattle.plant.specs.TakingSteps.{trigger_place};
 
@@ -10,8 +10,8 @@ use crate::first_counts::first_count;
 use dalievent::EventSource;
 use ilplan::{Activation, Location, Plan};
 use plantevents::Activator;
+use readytasks::TaskSetup;
 use std::alloc::{AllocError, Global};
-use taskset::TaskSetup;
 use wordlines::BoundSource;
 
 /// The source that is bound at this place of a bus.

@@ -9,7 +9,7 @@ use Rattle.ilplan.specs.Plans.{Planned}
 use Rattle.plantevents.specs.Variables.{value}
 use Rattle.plant.specs.Shown.{Shown}
 use Rattle.plantplay.specs.Names.{IsAlike, IsNamed}
-use Rattle.options.specs.declared.expected_word.ExpectedWord.{ExpectedWord}
+use Rattle.commandoptions.specs.declared.expected_word.ExpectedWord.{ExpectedWord}
 
 -- ---- values
 

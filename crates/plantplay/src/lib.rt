@@ -25,6 +25,7 @@ mod playing;
 mod reporting;
 mod watch;
 
+pub use commandoptions::ExpectedWord;
 pub use ending::{Ending, write_counts, write_globals};
 pub use installation::Installation;
 pub use laws::plays_are_by_scenario;
@@ -33,7 +34,6 @@ pub use meeting::{are_known, are_met};
 pub use meetings_reported::{report_unknown, report_unmet};
 pub use naming::{are_watchable, is_named};
 pub use opening::{bus_of, open};
-pub use options::ExpectedWord;
 pub use playing::{play, play_on, play_watched};
 pub use reporting::report_unwatchable;
 pub use watch::{Watch, WatchedVariable};

@@ -4,9 +4,9 @@ ghost use Rattle.std.specs.Prelude.{◌<◌, ◌↔◌, length, IsTrue};
 ghost use Rattle.plantplay.specs.Expected.{AreKnown, AreMet, IsKnown, IsMet, IsMetAt, IsSpelled};
 
 use crate::naming::is_named;
+use commandoptions::ExpectedWord;
 use ilplan::Plan;
 use iltypes::Value;
-use options::ExpectedWord;
 use plant::Plant;
 
 /// Whether each name that is expected is one of a global variable, in any letter case.

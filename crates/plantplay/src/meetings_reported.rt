@@ -4,8 +4,8 @@ ghost use Rattle.std.specs.Prelude.{◌<◌, length};
 
 use crate::meeting::{is_known, is_spelled};
 use crate::naming::is_named;
+use commandoptions::ExpectedWord;
 use ilplan::Plan;
-use options::ExpectedWord;
 use plant::Plant;
 use std::io;
 use std::io::Write;

@@ -5,8 +5,8 @@ ghost use Rattle.std.specs.Prelude.{slice_index, slice_set, slice_index_or};
 ghost use Rattle.planttallies.specs.SeatTallies.{number};
 
 use crate::tallies::{Tallies, Tally};
-use plantledgers::{GroupLockTallies, GroupThreadTally, LedgerNames};
 use std::marker::Model;
+use tallygroups::{GroupLockTallies, GroupThreadTally, LedgerNames};
 
 /// The number of each seat, as it stands under the lock. Contracts see them, by groups of nine.
 pub struct LockTallies<N: LedgerNames> {

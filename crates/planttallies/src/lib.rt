@@ -6,7 +6,7 @@
 //! them.
 //!
 //! Callers take any `K: Tallies<T>` with `T: Tally` (src/tallies.rt, to be read first), and name
-//! all ledgers in one call alone. These stand in nine groups (`plantledgers`).
+//! all ledgers in one call alone. These stand in nine groups (`tallygroups`).
 //!
 //! ```text
 //! let (mut tallies, mut thread_tallies) = NewTallies::new().open::<N>(alloc)?;
@@ -20,5 +20,5 @@ mod tallies;
 
 pub use all_groups::{LockTallies, ThreadTally};
 pub use opening::NewTallies;
-pub use plantledgers::LedgerNames;
 pub use tallies::{Tallies, Tally};
+pub use tallygroups::LedgerNames;

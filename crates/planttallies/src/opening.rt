@@ -4,17 +4,17 @@ ghost use Rattle.std.specs.Prelude.{◌≡◌, ℕ, ◌+◌, ◌≤◌, [], ◌�
 ghost use Rattle.std.specs.Prelude.{slice_index_or, vec_capacity, vec_len};
 ghost use Rattle.std.specs.List.{range_with_len};
 ghost use Rattle.limits.specs.Limits.{most_seats};
-ghost use Rattle.plantledgers.specs.Openings.{no_amounts};
+ghost use Rattle.tallygroups.specs.Openings.{no_amounts};
 ghost use Rattle.planttallies.specs.SeatTallies.{SeatAmount, number, seat_amount_of};
 ghost use Rattle.planttallies.specs.Openings.{fresh, fresh_group};
 
 use crate::all_groups::{LockTallies, TallyByGroup, ThreadTally};
 use limits::MOST_SEATS;
-use plantledgers::{
-    GroupLockTallies, GroupThreadTallies, GroupThreadTally, LedgerNames, NewGroupTallies,
-};
 use std::alloc::{AllocError, Global};
 use std::marker::Model;
+use tallygroups::{
+    GroupLockTallies, GroupThreadTallies, GroupThreadTally, LedgerNames, NewGroupTallies,
+};
 
 /// A new ledger for each seat. Contracts see their names, by groups of nine.
 pub struct NewTallies {

@@ -5,7 +5,7 @@
 use buslink::Mark;
 use daliframe::Frame24;
 use plant::CallRefusal;
-use plantsteps::{Driven, Step, StepReply, drive_text};
+use plantscript::{Driven, Step, StepReply, drive_text};
 use std::alloc::{AllocError, Global};
 use std::test::Fail;
 use wordlines::Binding;

@@ -5,7 +5,7 @@ use crate::near_limits::{HALL, WIRES, plant_of, setup_of};
 use ilcompile::Setup;
 use plant::{CallError, CallRefusal, OpenFault, Plant};
 use plantload::LoadFault;
-use plantsteps::{DriveFault, Driven, Step, StepReply, drive_text};
+use plantscript::{DriveFault, Driven, Step, StepReply, drive_text};
 use std::alloc::{AllocError, Global};
 use std::test::Fail;
 use wordlines::Binding;

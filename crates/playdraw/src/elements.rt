@@ -1,9 +1,9 @@
 //! The elements of an SVG, each on a line of its own.
 
-use page::Page;
+use printout::Printout;
 
 /// Writes a form with these numbers, and then a text, in place of its `{}`, one after the other.
-pub(crate) fn fill(page: &mut Page, form: &str, numbers: &[usize], text: &str) {
+pub(crate) fn fill(page: &mut Printout, form: &str, numbers: &[usize], text: &str) {
     let mut next = numbers.iter();
     for (place, piece) in form.split("{}").enumerate() {
         if place > 0 {
@@ -17,7 +17,7 @@ pub(crate) fn fill(page: &mut Page, form: &str, numbers: &[usize], text: &str) {
 }
 
 /// Writes a text: marks of tags are written as what stands for them.
-fn write_plain(page: &mut Page, text: &str) {
+fn write_plain(page: &mut Printout, text: &str) {
     for letter in text.chars() {
         match letter {
             '&' => page.text("&amp;"),
@@ -29,14 +29,14 @@ fn write_plain(page: &mut Page, text: &str) {
 }
 
 /// Begins a text with the looks of a class at a place.
-pub(crate) fn begin_words(page: &mut Page, class: &str, x: usize, y: usize) {
+pub(crate) fn begin_words(page: &mut Printout, class: &str, x: usize, y: usize) {
     page.text("<text class=\"");
     page.text(class);
     fill(page, "\" x=\"{}\" y=\"{}\">", &[x, y], "");
 }
 
 /// Writes a text with the looks of a class that begins at a place.
-pub(crate) fn write_words(page: &mut Page, class: &str, x: usize, y: usize, text: &str) {
+pub(crate) fn write_words(page: &mut Printout, class: &str, x: usize, y: usize, text: &str) {
     begin_words(page, class, x, y);
     fill(page, "{}</text>\n", &[], text);
 }

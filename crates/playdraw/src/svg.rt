@@ -8,7 +8,7 @@ use crate::moment::width_of;
 use crate::parts::Picture;
 use crate::sheet::{Base, EDGE, HEADING, LETTER, MOMENTS, NOTE, TOP, place_blocks};
 use crate::svg_rows::write_svg_row;
-use page::Page;
+use printout::Printout;
 use std::alloc::{AllocError, Global};
 use std::io;
 use std::io::Write;
@@ -91,7 +91,7 @@ pub fn write_svg<W: Write>(alloc: Global, out: &mut W, picture: Picture) -> io::
 }
 
 /// A picture as SVG.
-fn svg_of(alloc: Global, mut picture: Picture) -> Result<Page, AllocError> {
+fn svg_of(alloc: Global, mut picture: Picture) -> Result<Printout, AllocError> {
     let mut blocks = blocks_of(alloc, &picture.rows)?;
     let left = widest_of(&picture.rows, &blocks, 8, LETTER).saturating_add(2 * EDGE);
     let end = left.saturating_add(600).max(1200 - EDGE);
@@ -102,7 +102,7 @@ fn svg_of(alloc: Global, mut picture: Picture) -> Result<Page, AllocError> {
         block.fold(alloc, &picture.rows, letters)?;
     }
     let bottom = place_blocks(&mut blocks);
-    let mut page = Page::new(alloc);
+    let mut page = Printout::new(alloc);
     write_head(&mut page, &picture, width, bottom);
     write_moments(&mut page, &axis, bottom);
     for block in &blocks {
@@ -113,7 +113,7 @@ fn svg_of(alloc: Global, mut picture: Picture) -> Result<Page, AllocError> {
 }
 
 /// Writes what stands before all that is drawn, and the picture's name.
-fn write_head(page: &mut Page, picture: &Picture, width: usize, bottom: usize) {
+fn write_head(page: &mut Printout, picture: &Picture, width: usize, bottom: usize) {
     let notes = picture.notes.len().saturating_add(1).saturating_mul(NOTE);
     let height = bottom.saturating_add(MOMENTS + EDGE).saturating_add(notes);
     fill(page, HEAD, &[width, height, width, height], &picture.name);
@@ -123,7 +123,7 @@ fn write_head(page: &mut Page, picture: &Picture, width: usize, bottom: usize) {
 /// Marks the times that are left out: a band over all rows, and two strokes below. Then draws a line
 /// for each moment, and writes its name below where there is room; and that the axis is not true to
 /// time, where it is not.
-fn write_moments(page: &mut Page, axis: &Axis, bottom: usize) {
+fn write_moments(page: &mut Printout, axis: &Axis, bottom: usize) {
     for left in axis.breaks.iter() {
         let (x, stroke) = (left.saturating_add(8), left.saturating_add(12));
         let (height, y) = (bottom.saturating_sub(TOP), bottom.saturating_add(6));
@@ -152,7 +152,7 @@ fn write_moments(page: &mut Page, axis: &Axis, bottom: usize) {
 /// folded.
 fn draw_block(
     alloc: Global,
-    page: &mut Page,
+    page: &mut Printout,
     picture: &Picture,
     block: &Block,
     axis: &Axis,
@@ -171,7 +171,7 @@ fn draw_block(
 }
 
 /// Writes lines with the looks of a class, the first one at a height.
-fn write_lines(page: &mut Page, class: &str, lines: &[String], y: usize) {
+fn write_lines(page: &mut Printout, class: &str, lines: &[String], y: usize) {
     let mut y = y;
     for line in lines {
         write_words(page, class, EDGE, y, line);
@@ -180,7 +180,7 @@ fn write_lines(page: &mut Page, class: &str, lines: &[String], y: usize) {
 }
 
 /// Writes what the signs mean, the notes, and what happened in each column, over all rows.
-fn write_foot(page: &mut Page, picture: &Picture, axis: &Axis, bottom: usize) {
+fn write_foot(page: &mut Printout, picture: &Picture, axis: &Axis, bottom: usize) {
     let y = bottom.saturating_add(MOMENTS + NOTE - 4);
     fill(page, SIGNS, &[EDGE, y], "");
     write_lines(page, "x", &picture.notes, y.saturating_add(NOTE));

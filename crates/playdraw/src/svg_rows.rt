@@ -7,7 +7,7 @@ use crate::moment::width_of;
 use crate::parts::{Kind, Row, Sign};
 use crate::sheet::{Base, EDGE, LETTER};
 use crate::signs::{beside_of, element_of, gravity, level_of, words_of};
-use page::Page;
+use printout::Printout;
 
 /// The place of a row, which ends at a place.
 const PLACE: &str = "<text class=\"p\" x=\"{}\" y=\"{}\" text-anchor=\"end\">{}</text>\n";
@@ -15,7 +15,13 @@ const PLACE: &str = "<text class=\"p\" x=\"{}\" y=\"{}\" text-anchor=\"end\">{}<
 /// Draws a row: its name and place, the line on which its marks stand, its levels over that as an
 /// area and its edge, and the marks. Those of what went wrong come last, so that no other hides
 /// them.
-pub(crate) fn write_svg_row(page: &mut Page, row: &Row, marks: &[Mark], axis: &Axis, base: Base) {
+pub(crate) fn write_svg_row(
+    page: &mut Printout,
+    row: &Row,
+    marks: &[Mark],
+    axis: &Axis,
+    base: Base,
+) {
     write_words(page, "n", EDGE, base.name, &row.name);
     if !row.place.is_empty() {
         let end = [axis.left.saturating_sub(10), base.name];
@@ -47,7 +53,7 @@ pub(crate) fn write_svg_row(page: &mut Page, row: &Row, marks: &[Mark], axis: &A
 
 /// Begins a path along the levels of a row, as far as the last mark: the way to each mark and there
 /// to its level. At first that of a lamp begins at the base.
-fn write_way(page: &mut Page, begin: &str, kind: Kind, marks: &[Mark], base: Base) {
+fn write_way(page: &mut Printout, begin: &str, kind: Kind, marks: &[Mark], base: Base) {
     page.text(begin);
     for mark in marks {
         let level = level_of(mark.sign);
@@ -64,7 +70,7 @@ fn write_way(page: &mut Page, begin: &str, kind: Kind, marks: &[Mark], base: Bas
 }
 
 /// Draws what stands for a mark, where it happened.
-fn write_sign(page: &mut Page, sign: Sign, mark: &Mark, axis: &Axis, base: Base) {
+fn write_sign(page: &mut Printout, sign: Sign, mark: &Mark, axis: &Axis, base: Base) {
     let end = match sign {
         Sign::Down => axis.right,
         Sign::Number(_) => base.y.saturating_sub(6),
@@ -78,7 +84,7 @@ fn write_sign(page: &mut Page, sign: Sign, mark: &Mark, axis: &Axis, base: Base)
 
 /// Writes what is written of a mark: its word, or its number where that has room up to the next
 /// mark. In a column of an even axis each has.
-fn write_beside(page: &mut Page, sign: Sign, mark: &Mark, base: Base) {
+fn write_beside(page: &mut Printout, sign: Sign, mark: &Mark, base: Base) {
     let (class, right, up) = beside_of(sign);
     let (_, word, number) = words_of(sign);
     let right = if mark.is_new { right } else { 2 };

@@ -6,7 +6,7 @@ use crate::marks::{Mark, marks_of};
 use crate::moment::width_of;
 use crate::parts::{Kind, Picture, Row, Sign};
 use crate::signs::level_of;
-use page::Page;
+use printout::Printout;
 use std::alloc::{AllocError, Global};
 use std::io;
 use std::io::Write;
@@ -33,7 +33,7 @@ pub fn write_text<W: Write>(alloc: Global, out: &mut W, picture: &Picture) -> io
 }
 
 /// A picture as lines.
-fn text_of(alloc: Global, picture: &Picture) -> Result<Page, AllocError> {
+fn text_of(alloc: Global, picture: &Picture) -> Result<Printout, AllocError> {
     let mut blocks = blocks_of(alloc, &picture.rows)?;
     for block in &mut blocks {
         block.fold(alloc, &picture.rows, WIDTH)?;
@@ -42,7 +42,7 @@ fn text_of(alloc: Global, picture: &Picture) -> Result<Page, AllocError> {
     let places = widest_of(&picture.rows, &blocks, 0, 1);
     let left = names.saturating_add(places).saturating_add(4);
     let cells = (WIDTH.saturating_sub(left) / CELL).max(1);
-    let mut page = Page::new(alloc);
+    let mut page = Printout::new(alloc);
     let mut first: usize = 0;
     for columns in picture.columns.chunks(cells) {
         let mut axis = even_axis(alloc, columns, 0, CELL, 0)?;
@@ -62,7 +62,7 @@ fn text_of(alloc: Global, picture: &Picture) -> Result<Page, AllocError> {
 /// Draws the rows of a picture with their marks on an axis, behind names and places in these widths.
 fn draw_rows(
     alloc: Global,
-    page: &mut Page,
+    page: &mut Printout,
     picture: &Picture,
     blocks: &[Block],
     axis: &Axis,
@@ -80,7 +80,7 @@ fn draw_rows(
 }
 
 /// Writes lines.
-fn write_lines(page: &mut Page, lines: &[String]) {
+fn write_lines(page: &mut Printout, lines: &[String]) {
     for line in lines {
         page.text(line);
         page.text("\n");
@@ -89,7 +89,7 @@ fn write_lines(page: &mut Page, lines: &[String]) {
 
 /// Writes a line of the moments of a band whose first cell begins at `left`, each where there is
 /// room, where there is one, and an empty line.
-fn write_moments(page: &mut Page, axis: &Axis, left: usize) {
+fn write_moments(page: &mut Printout, axis: &Axis, left: usize) {
     let mut end = 0;
     for (x, moment) in axis.labels.iter() {
         let x = x.saturating_add(left);
@@ -104,7 +104,7 @@ fn write_moments(page: &mut Page, axis: &Axis, left: usize) {
 
 /// Draws a row, its name and place in these widths: a level as high as it is, up to the next one,
 /// and other marks in their cells.
-fn write_text_row(page: &mut Page, row: &Row, marks: &[Mark], (names, places): (usize, usize)) {
+fn write_text_row(page: &mut Printout, row: &Row, marks: &[Mark], (names, places): (usize, usize)) {
     write_padded(page, &row.name, names);
     write_padded(page, &row.place, places);
     let mut end = 0;
@@ -119,7 +119,7 @@ fn write_text_row(page: &mut Page, row: &Row, marks: &[Mark], (names, places): (
 }
 
 /// Writes a text in a width, and two spaces.
-fn write_padded(page: &mut Page, text: &str, width: usize) {
+fn write_padded(page: &mut Printout, text: &str, width: usize) {
     page.text(text);
     let gap = width.saturating_sub(text.len());
     page.repeat(" ", gap.saturating_add(2));
@@ -127,7 +127,7 @@ fn write_padded(page: &mut Page, text: &str, width: usize) {
 
 /// Draws a level up to the next mark, behind its number where it is not TRUE or FALSE. Where that
 /// ends; what stands before ends at `end`.
-fn write_level(page: &mut Page, level: u8, mark: &Mark, end: usize) -> usize {
+fn write_level(page: &mut Printout, level: u8, mark: &Mark, end: usize) -> usize {
     if mark.x >= mark.next {
         return end;
     }
@@ -144,7 +144,7 @@ fn write_level(page: &mut Page, level: u8, mark: &Mark, end: usize) -> usize {
 
 /// Writes a mark, and a dot in each further cell up to the next mark, each where there is room: a
 /// number of a variable touches nothing. Where that ends; what stands before ends at `end`.
-fn write_cells(page: &mut Page, mark: &Mark, end: usize) -> usize {
+fn write_cells(page: &mut Printout, mark: &Mark, end: usize) -> usize {
     let mut end = end;
     for x in (mark.x..mark.next).step_by(CELL) {
         let has_room = match mark.sign {

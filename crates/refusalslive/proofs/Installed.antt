@@ -18,17 +18,17 @@ use Rattle.buslink.specs.Attempts.{Attempt, IsAttempt, IsReport, ReportParts, al
 use Rattle.buslink.specs.Marks.{outcome_of}
 use Rattle.buslink.specs.BusLog.{BusLog}
 use Rattle.buslink.specs.Performing.{failures_after}
-use Rattle.livesurvey.specs.declared.asking.AskFault.{AskFault}
-use Rattle.livesurvey.specs.declared.asking.AskFault.TheVariants as faults
-use Rattle.livesurvey.specs.declared.asking.Asked.{Asked}
-use Rattle.livesurvey.specs.declared.blinking.Shown.{Shown}
-use Rattle.livesurvey.specs.declared.serving.Served.{Served}
-use Rattle.livesurvey.specs.declared.serving.Served.TheVariants as served
-use Rattle.livesurvey.specs.Asking.{AreAsked, HasAsked, IsAnswered, IsBrokenOff}
-use Rattle.livesurvey.specs.Asking.{IsSent, IsUnanswered, IsWhole, transaction_of}
-use Rattle.livesurvey.specs.Blinking.{Asks, IsShown}
-use Rattle.livesurvey.specs.Serving.{IsServed, served_as}
-use Rattle.livesurvey.specs.Unaddressed.{IsMissingAnswered, missing_query}
+use Rattle.commissioning.specs.declared.asking.AskFault.{AskFault}
+use Rattle.commissioning.specs.declared.asking.AskFault.TheVariants as faults
+use Rattle.commissioning.specs.declared.asking.Asked.{Asked}
+use Rattle.commissioning.specs.declared.blinking.Shown.{Shown}
+use Rattle.commissioning.specs.declared.serving.Served.{Served}
+use Rattle.commissioning.specs.declared.serving.Served.TheVariants as served
+use Rattle.commissioning.specs.Asking.{AreAsked, HasAsked, IsAnswered, IsBrokenOff}
+use Rattle.commissioning.specs.Asking.{IsSent, IsUnanswered, IsWhole, transaction_of}
+use Rattle.commissioning.specs.Blinking.{Asks, IsShown}
+use Rattle.commissioning.specs.Serving.{IsServed, served_as}
+use Rattle.commissioning.specs.Unaddressed.{IsMissingAnswered, missing_query}
 
 -- ---- one command
 

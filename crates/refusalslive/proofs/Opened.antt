@@ -7,8 +7,8 @@ use Rattle.std.proofs.lemmas.List.Elements.{All-contains}
 use Rattle.buslink.specs.BusLog.{BusLog}
 use Rattle.buslink.specs.ClockLog.{ClockLog}
 use Rattle.ilcompile.specs.Loaded.{Loaded}
-use Rattle.options.specs.declared.live_options.LiveOptions.{LiveOptions}
-use Rattle.options.specs.declared.line_word.LineWord.{LineWord}
+use Rattle.commandoptions.specs.declared.live_options.LiveOptions.{LiveOptions}
+use Rattle.commandoptions.specs.declared.line_word.LineWord.{LineWord}
 use Rattle.livehouse.specs.Buildings.{IsOpened}
 use Rattle.livehouse.specs.Lineups.{HasNoLine}
 use Rattle.livehouse.specs.Sites.{IsPeriodFor, moment_of_end}

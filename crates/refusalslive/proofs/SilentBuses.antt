@@ -8,11 +8,11 @@ use Rattle.buslink.specs.declared.marks.Outcome.{Outcome}
 use Rattle.buslink.specs.declared.marks.Outcome.TheVariants.{Done}
 use Rattle.buslink.specs.declared.marks.Reply.TheVariants.{Quiet}
 use Rattle.buslink.specs.BusLog.{BusLog}
-use Rattle.livesurvey.specs.Asking.{AreAnswered}
-use Rattle.livesurvey.specs.declared.asking.AskFault.{AskFault}
-use Rattle.livesurvey.specs.declared.asking.Asked.{Asked}
-use Rattle.livesurvey.specs.Surveys.{AreParts, AreQueries, IsDevicePart, IsGearPart, IsInstancePart, IsScheme, IsSurvey}
-use Rattle.livesurvey.specs.Surveys.{is_answer}
+use Rattle.commissioning.specs.Asking.{AreAnswered}
+use Rattle.commissioning.specs.declared.asking.AskFault.{AskFault}
+use Rattle.commissioning.specs.declared.asking.Asked.{Asked}
+use Rattle.commissioning.specs.Surveys.{AreParts, AreQueries, IsDevicePart, IsGearPart, IsInstancePart, IsScheme, IsSurvey}
+use Rattle.commissioning.specs.Surveys.{is_answer}
 
 abbrev pub IsSilent : Asked → Type 0
 IsSilent a = a.outcome ≡ Done Quiet

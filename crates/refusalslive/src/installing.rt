@@ -4,11 +4,11 @@ ghost use Rattle.std.specs.Prelude.{◌≡◌, [], All, IfErr, IfOk, Ok, length}
 ghost use Rattle.std.specs.Prelude.{replicate};
 
 use buslink::{Bus, Mark, Outcome, Reply, Report};
-use daliframe::{Address, Frame, ShortAddress};
-use gearcmd::Command;
-use livesurvey::{
+use commissioning::{
     AskFault, Served, Shown, Survey, Table, ask, ask_unaddressed, blink, make_survey, serve_ask,
 };
+use daliframe::{Address, Frame, ShortAddress};
+use gearcmd::Command;
 use std::alloc::Global;
 use std::io;
 use std::io::Write;

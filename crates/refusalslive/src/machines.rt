@@ -3,10 +3,10 @@
 ghost use Rattle.std.specs.Prelude.{◌≡◌, IfOk, Some, codes, option_map, string_bytes};
 ghost use Rattle.std.specs.Int.NonZero.{non_zero_u64_get};
 
+use commandoptions::LineWord;
 use daliframe::BusNumber;
 use livehouse::{Devices, DownWatch, End, HostLine, HostSite, Site, SiteFault, StopAt};
 use liveline::LiveClock;
-use options::LineWord;
 use std::alloc::{AllocError, Global};
 use std::num::NonZeroU64;
 use std::rt::Files;

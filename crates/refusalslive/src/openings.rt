@@ -5,11 +5,11 @@ ghost use Rattle.std.specs.Prelude.{option_map, slice_get};
 ghost use Rattle.std.specs.Arc.{arc_value};
 ghost use Rattle.std.specs.List.{Contains};
 ghost use Rattle.livehouse.specs.Lineups.{HasNoLine};
-ghost use Rattle.options.specs.declared.line_word.LineWord.{LineWord as Line};
+ghost use Rattle.commandoptions.specs.declared.line_word.LineWord.{LineWord as Line};
 
+use commandoptions::{LineWord, LiveOptions};
 use ilcompile::Setup;
 use livehouse::{Building, LiveStop, Site, open};
-use options::{LineWord, LiveOptions};
 use plant::{OpenFault, StartFault};
 use std::alloc::Global;
 

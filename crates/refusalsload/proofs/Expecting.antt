@@ -4,7 +4,7 @@ use Rattle.std.proofs.lemmas.Int.{ints}
 use Rattle.iltypes.specs.declared.value.Value.{Value}
 use Rattle.iltypes.specs.declared.value.Value.TheVariants.{Bool, Int}
 use Rattle.ilmachine.specs.Images.{Global}
-use Rattle.options.specs.declared.expected_word.ExpectedWord.{ExpectedWord}
+use Rattle.commandoptions.specs.declared.expected_word.ExpectedWord.{ExpectedWord}
 use Rattle.plant.specs.Shown.{Shown}
 use Rattle.plantevents.specs.Variables.{value}
 use Rattle.plantplay.specs.Names.{IsNamed}

@@ -13,8 +13,8 @@ use Rattle.commandline.specs.ExpectedWords.{IsExpectedWord, IsFirstUnexpected}
 use Rattle.commandline.specs.LineWords.{ArePaths, IsFirstFault, IsLineWord, comma}
 use Rattle.commandline.specs.TextWords.{given}
 use Rattle.commandline.specs.declared.expected_words.ExpectedFault.TheVariants.{NoPair}
-use Rattle.options.specs.declared.expected_word.ExpectedWord.{ExpectedWord}
-use Rattle.options.specs.declared.line_word.LineWord.{LineWord}
+use Rattle.commandoptions.specs.declared.expected_word.ExpectedWord.{ExpectedWord}
+use Rattle.commandoptions.specs.declared.line_word.LineWord.{LineWord}
 use Rattle.commandline.specs.declared.line_words.LineWordFault.TheVariants.{Shared}
 use Rattle.std.specs.Borrow.{Bor}
 

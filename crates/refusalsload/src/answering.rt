@@ -11,17 +11,17 @@ ghost use Rattle.ilverify.specs.Verdicts.{Accepted};
 ghost use Rattle.plantload.specs.Loading.{IsPlanOfText};
 ghost use Rattle.ilcodefile.specs.Faults.{IsFirst};
 ghost use Rattle.ilcodefile.specs.Files.{HasFile, file};
-ghost use Rattle.inquiries.specs.Answered.{IsFound, NoneIsCalled};
-ghost use Rattle.inquiries.specs.Stepping.{IsScanAt, lasting};
-ghost use Rattle.inquiries.specs.Taking.{Taking};
+ghost use Rattle.textanswers.specs.Answered.{IsFound, NoneIsCalled};
+ghost use Rattle.textanswers.specs.Stepping.{IsScanAt, lasting};
+ghost use Rattle.textanswers.specs.Taking.{Taking};
 
 use ilcodefile::FileCause;
 use iltypes::Value;
 use ilverify::Verified;
-use inquiries::{CodeAnswer, Scans, Stop, code_of, judge, make};
 use plantload::LoadFault;
 use std::alloc::{AllocError, Global};
 use std::sync::Arc;
+use textanswers::{CodeAnswer, Scans, Stop, code_of, judge, make};
 use wordlines::Binding;
 
 /// `each_fault_is_told_as_cut`: another fault was reported than the first of the bytes.

@@ -6,12 +6,12 @@ ghost use Rattle.clap.specs.Words.{first_of, found_of, rows_of};
 ghost use Rattle.commandline.specs.ExpectedWords.{IsExpectedWord};
 ghost use Rattle.commandline.specs.Invocations.{expected_words, line_words};
 ghost use Rattle.commandline.specs.LineWords.{HasPath, IsLineWord, SharePath};
-ghost use Rattle.options.specs.declared.expected_word.ExpectedWord.{ExpectedWord as Expected};
-ghost use Rattle.options.specs.declared.line_word.LineWord.{LineWord as Line};
+ghost use Rattle.commandoptions.specs.declared.expected_word.ExpectedWord.{ExpectedWord as Expected};
+ghost use Rattle.commandoptions.specs.declared.line_word.LineWord.{LineWord as Line};
 
 use clap::ArgMatches;
 use commandline::{ExpectedFault, Invocation, LineWordFault, Tool, WordFault, invocation_of};
-use options::LineWord;
+use commandoptions::LineWord;
 
 /// `an_expected_name_may_be_empty`: a word that begins with `=` was taken.
 pub fn expected_name_has_bytes(found: &ArgMatches<'_>) -> Option<usize>

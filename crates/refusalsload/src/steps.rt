@@ -1,11 +1,11 @@
 //! Steps of a plant.
 
 ghost use Rattle.std.specs.Prelude.{◌≡◌};
-ghost use Rattle.plantsteps.specs.Runs.{HasNoReport};
+ghost use Rattle.plantscript.specs.Runs.{HasNoReport};
 
 use buslink::Mark;
 use plant::CallRefusal;
-use plantsteps::{Step, StepReply, SteppedPlant};
+use plantscript::{Step, StepReply, SteppedPlant};
 use std::alloc::Global;
 
 /// `report_under_another_number`, `a_report_is_taken_twice`: a report was taken of a transaction

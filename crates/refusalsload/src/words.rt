@@ -9,7 +9,7 @@ use clap::ArgMatches;
 use commandline::{
     CodeWords, Invocation, LookOptions, Question, Tool, code_words_in, invocation_of,
 };
-use options::{LiveOptions, PlayFiles};
+use commandoptions::{LiveOptions, PlayFiles};
 
 /// `limit_taken_for_the_workers`, `the_period_is_taken_for_the_seconds`,
 /// `the_record_is_taken_for_the_log`, `a_flag_is_turned`, `it_ends_where_it_is_to_stay`,

@@ -16,7 +16,7 @@ use Rattle.plantevents.specs.Choices.{Rank, Chooses, IsFirstFree, is_free, rank}
 use Rattle.plantevents.specs.Histories.{OpenScan}
 use Rattle.plantevents.specs.Plants.{Plant, activator, priority}
 use Rattle.plantevents.specs.Readiness.{activates, most_pending, pending, pending_event, ready, ready_by, since}
-use Rattle.taskset.specs.TaskSets.{Follows, TaskSet}
+use Rattle.readytasks.specs.TaskSets.{Follows, TaskSet}
 use Rattle.refusalsplant.specs.Turns.{scanned}
 
 -- there are as many tasks after another event

@@ -8,15 +8,15 @@ ghost use Rattle.plantevents.specs.Choices.{is_free};
 ghost use Rattle.plantevents.specs.Histories.{moment};
 ghost use Rattle.plantevents.specs.Plants.{activator, priority};
 ghost use Rattle.plantevents.specs.Readiness.{activates, last_take, pending, since};
-ghost use Rattle.taskset.specs.TaskSets.{AreSetups, Follows, HasInterval};
+ghost use Rattle.readytasks.specs.TaskSets.{AreSetups, Follows, HasInterval};
 ghost use Rattle.refusalsplant.specs.Turns.{scanned};
 
 use dalievent::EventSource;
 use daliframe::Frame24;
 use plant::Plant;
 use plantevents::{Activator, NotedResult, NotedSnapshot, PendingEvent};
+use readytasks::{TaskSetup, Tasks};
 use std::alloc::{AllocError, Global};
-use taskset::{TaskSetup, Tasks};
 
 /// `the_newest_event_comes_first`: of two events of a task the newest was taken, so that its
 /// information was scanned twice, and that of the oldest never.

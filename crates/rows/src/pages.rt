@@ -11,7 +11,7 @@ use std::rt::Files;
 use std::sync::Wait;
 use std::thread::Threads;
 use std::time::Clock as Timer;
-use workedrows::{CHANGED, ChangedLine, Difference, Fit, Judge, PageStep, RowsStop, page_steps};
+use workedrows::{CHANGED, ChangedLine, Fit, Judge, PageStep, RowDifference, RowsStop, page_steps};
 
 /// Judges a page: its path, which the names of its rows begin with, and its text.
 ///
@@ -112,7 +112,7 @@ fn take_block<R: Files + AllocGlobal>(
     judge.end_part()?;
     let path = joined(judge.alloc(), folder, name)?;
     match fs::read(rt, path.as_str()) {
-        Ok(found) if found.as_slice() != bytes => Err(judge.difference(Difference::Page)),
+        Ok(found) if found.as_slice() != bytes => Err(judge.difference(RowDifference::Page)),
         _ => Ok(()),
     }
 }
@@ -214,7 +214,7 @@ fn compare_picture<R: Files + AllocGlobal>(
     let wanted = fs::read(rt, path.as_str())?;
     match judge.last_output() {
         Some(printed) if printed == wanted.as_slice() => Ok(()),
-        _ => Err(judge.difference(Difference::Page)),
+        _ => Err(judge.difference(RowDifference::Page)),
     }
 }
 

@@ -2,9 +2,9 @@
 //! what else has one, in the order of the history, in whatever order workers tell of them.
 
 use crate::house::House;
+use commandoptions::Beside;
 use daliframe::BusNumber;
 use livejournal::{BuildingObserver, Care, Storage};
-use options::Beside;
 use plant::Plant;
 use plantdriving::Happened;
 use plantlive::live;

@@ -3,9 +3,9 @@
 //! tried, and what it took.
 
 use crate::house::House;
+use commandoptions::Beside;
 use daliframe::Frame24;
 use livejournal::{BuildingObserver, Care, Storage};
-use options::Beside;
 use plantdriving::Happened;
 use plantturns::Gate;
 use std::alloc::Global;

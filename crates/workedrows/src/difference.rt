@@ -5,7 +5,7 @@ use std::{fmt, io};
 
 /// What a row's command did that it shouldn't, or why its line is not one of a row.
 #[derive(Drop)]
-pub enum Difference {
+pub enum RowDifference {
     /// The line is none of a row.
     Line,
     /// It ended with another status.
@@ -20,29 +20,29 @@ pub enum Difference {
     Page,
 }
 
-impl Difference {
+impl RowDifference {
     /// Its kind, in one word.
     pub fn kind(&self) -> &'static str {
         match self {
-            Difference::Line => "line",
-            Difference::Status(_) => "status",
-            Difference::Printed(_) => "printed",
-            Difference::Complained(_) => "complained",
-            Difference::Wrote(_) => "wrote",
-            Difference::Page => "page",
+            RowDifference::Line => "line",
+            RowDifference::Status(_) => "status",
+            RowDifference::Printed(_) => "printed",
+            RowDifference::Complained(_) => "complained",
+            RowDifference::Wrote(_) => "wrote",
+            RowDifference::Page => "page",
         }
     }
 }
 
-impl fmt::Display for Difference {
+impl fmt::Display for RowDifference {
     fn fmt<W: fmt::Write>(&self, f: &mut fmt::Formatter<W>) -> fmt::Result {
         match self {
-            Difference::Line => write!(f, "is no line of a row"),
-            Difference::Page => write!(f, "isn't the file that lies there"),
-            Difference::Status(status) => write!(f, "ended with status {status}"),
-            Difference::Printed(text) | Difference::Complained(text) | Difference::Wrote(text) => {
-                write!(f, "{}\n{text}", self.kind())
-            }
+            RowDifference::Line => write!(f, "is no line of a row"),
+            RowDifference::Page => write!(f, "isn't the file that lies there"),
+            RowDifference::Status(status) => write!(f, "ended with status {status}"),
+            RowDifference::Printed(text)
+            | RowDifference::Complained(text)
+            | RowDifference::Wrote(text) => { write!(f, "{}\n{text}", self.kind()) }
         }
     }
 }
@@ -56,7 +56,7 @@ pub enum RowsStop {
     Row {
         row: String,
         line: String,
-        why: Difference,
+        why: RowDifference,
     },
     /// A row of this name holds, though it is wrong.
     Held(String),

@@ -2,7 +2,7 @@
 
 use crate::body::{Body, bytes_of_hex, hex_of_bytes};
 use crate::command_line::CommandLine;
-use crate::difference::{Difference, RowsStop};
+use crate::difference::{RowDifference, RowsStop};
 use crate::lines::{each_line_is_part, each_line_stands, text_of, without_digits};
 use crate::machine::{Machine, Output, StoredFile, Terminal, bytes_at, place_among};
 use std::alloc::{AllocError, Global};
@@ -232,7 +232,7 @@ impl Judge {
                     self.part = part;
                     Ok(())
                 }
-                None => Err(self.difference(Difference::Line)),
+                None => Err(self.difference(RowDifference::Line)),
             },
         }
     }
@@ -243,7 +243,7 @@ impl Judge {
             Some((many, pattern)) => Ok(self.body.add_times(many, pattern)?),
             None => {
                 self.keep_heading(heading)?;
-                Err(self.difference(Difference::Line))
+                Err(self.difference(RowDifference::Line))
             }
         }
     }
@@ -301,7 +301,7 @@ impl Judge {
     fn keep_hex(&mut self, digits: &[u8]) -> Result<(), RowsStop> {
         match bytes_of_hex(self.alloc, digits)? {
             Some(bytes) => self.keep_file(bytes),
-            None => Err(self.difference(Difference::Line)),
+            None => Err(self.difference(RowDifference::Line)),
         }
     }
 
@@ -315,7 +315,7 @@ impl Judge {
                 "stdout-starved" => self.terminal.output_fails = Some(io::ErrorKind::OutOfMemory),
                 "stderr-full" => self.terminal.error_fails = Some(io::ErrorKind::StorageFull),
                 "stderr-starved" => self.terminal.error_fails = Some(io::ErrorKind::OutOfMemory),
-                _ => return Err(self.difference(Difference::Line)),
+                _ => return Err(self.difference(RowDifference::Line)),
             }
         }
         Ok(())
@@ -325,7 +325,7 @@ impl Judge {
     fn outcome(&self) -> Result<&Outcome, RowsStop> {
         match &self.outcome {
             Some(outcome) => Ok(outcome),
-            None => Err(self.difference(Difference::Line)),
+            None => Err(self.difference(RowDifference::Line)),
         }
     }
 
@@ -334,8 +334,8 @@ impl Judge {
         let found = self.outcome()?.status;
         match wanted.parse::<u8>() {
             Ok(status) if status == found => Ok(()),
-            Ok(_) => Err(self.difference(Difference::Status(found))),
-            Err(_) => Err(self.difference(Difference::Line)),
+            Ok(_) => Err(self.difference(RowDifference::Status(found))),
+            Err(_) => Err(self.difference(RowDifference::Line)),
         }
     }
 
@@ -386,7 +386,7 @@ impl Judge {
             return Ok(());
         }
         let shown = String::from_str(self.alloc, text_of(found))?;
-        Err(self.difference(Difference::Printed(shown)))
+        Err(self.difference(RowDifference::Printed(shown)))
     }
 
     /// Compares all that was printed on standard error.
@@ -407,14 +407,14 @@ impl Judge {
             return Ok(());
         }
         let shown = String::from_str(self.alloc, text_of(found))?;
-        Err(self.difference(Difference::Complained(shown)))
+        Err(self.difference(RowDifference::Complained(shown)))
     }
 
     /// Compares a file with bytes that are given as hex digits.
     fn compare_written(&self, digits: &[u8]) -> Result<(), RowsStop> {
         match bytes_of_hex(self.alloc, digits)? {
             Some(wanted) => self.compare_bytes(&wanted),
-            None => Err(self.difference(Difference::Line)),
+            None => Err(self.difference(RowDifference::Line)),
         }
     }
 
@@ -425,11 +425,11 @@ impl Judge {
             Some(found) => hex_of_bytes(self.alloc, &found)?,
             None => String::from_str(self.alloc, "no file")?,
         };
-        Err(self.difference(Difference::Wrote(shown)))
+        Err(self.difference(RowDifference::Wrote(shown)))
     }
 
     /// That this row does not hold, or that there is no memory to say so.
-    pub fn difference(&self, why: Difference) -> RowsStop {
+    pub fn difference(&self, why: RowDifference) -> RowsStop {
         match self.row_stop(why) {
             Ok(stop) => stop,
             Err(_) => RowsStop::Memory,
@@ -437,7 +437,7 @@ impl Judge {
     }
 
     /// That this row does not hold.
-    fn row_stop(&self, why: Difference) -> Result<RowsStop, AllocError> {
+    fn row_stop(&self, why: RowDifference) -> Result<RowsStop, AllocError> {
         Ok(RowsStop::Row {
             row: self.row.clone()?,
             line: self.heading.clone()?,

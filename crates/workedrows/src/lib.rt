@@ -24,8 +24,8 @@ mod page;
 mod table;
 
 pub use command_line::CommandLine;
-pub use difference::{Difference, RowsStop};
+pub use difference::{RowDifference, RowsStop};
 pub use judge::Judge;
-pub use machine::{Machine, Output, Page, StoredFile, Terminal};
-pub use page::{Fit, PageStep, ShownRun, page_steps};
+pub use machine::{Machine, Output, Printout, StoredFile, Terminal};
+pub use printout::{Fit, PageStep, ShownRun, page_steps};
 pub use table::{CHANGED, ChangedLine};

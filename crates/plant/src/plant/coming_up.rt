@@ -10,7 +10,7 @@ use super::Plant;
 use crate::refusal::CallRefusal;
 use plantbuses::{note_owed_anew, note_up};
 use plantevents::Event;
-use taskset::other_events_leave_tasks;
+use readytasks::other_events_leave_tasks;
 
 impl Plant {
     /// Whether a bus may come up, and else why not.

@@ -20,7 +20,7 @@ use busqueue::Class;
 use gearcmd::Request;
 use plantbuses::{Next, first_of, note_hand, note_handed, transaction_of};
 use plantevents::{Event, Origin};
-use taskset::other_events_leave_tasks;
+use readytasks::other_events_leave_tasks;
 
 /// A transaction that was handed to a bus.
 #[derive(Drop)]

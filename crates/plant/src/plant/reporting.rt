@@ -11,7 +11,7 @@ use crate::answers::write_answer;
 use buslink::{Report, Transaction};
 use plantbuses::note_report;
 use plantevents::{Event, Origin};
-use taskset::other_events_leave_tasks;
+use readytasks::other_events_leave_tasks;
 
 impl Plant {
     /// What the transaction was made of, where it is the one that a bus has open.

@@ -1,4 +1,4 @@
-use Rattle.inquiries.specs.Printed.{printed_task}
+use Rattle.textanswers.specs.Printed.{printed_task}
 use Rattle.commandfiles.specs.Reports.{task_line}
 use Rattle.commandfiles.proofs.ReportedLines.{one_line_more, task_is}
 use Rattle.commandfiles.proofs.report.tasks.Goals as goal

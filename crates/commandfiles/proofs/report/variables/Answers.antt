@@ -1,5 +1,5 @@
 use Rattle.std.specs.Prelude.{option_map}
-use Rattle.inquiries.specs.Printed.{printed_variable}
+use Rattle.textanswers.specs.Printed.{printed_variable}
 use Rattle.commandfiles.specs.Reports.{variable_line}
 use Rattle.commandfiles.proofs.ReportedLines.{one_line_more, variable_is}
 use Rattle.commandfiles.proofs.report.variables.Goals as goal

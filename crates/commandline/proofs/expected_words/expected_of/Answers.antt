@@ -3,7 +3,7 @@ use Rattle.std.proofs.lemmas.Bool.Decides.{Decides-eqb}
 use Rattle.clap.specs.Words.{Text}
 use Rattle.commandline.proofs.ExpectedLists.{few_said, no_pair, one_more, too_many}
 use Rattle.commandline.specs.ExpectedWords.{AreExpected}
-use Rattle.options.specs.declared.expected_word.ExpectedWord.{ExpectedWord}
+use Rattle.commandoptions.specs.declared.expected_word.ExpectedWord.{ExpectedWord}
 use Rattle.commandline.proofs.expected_words.expected_of.Goals as goal
 
 -- what stands past the end

@@ -4,7 +4,7 @@ use Rattle.std.specs.List.{Any}
 use Rattle.clap.specs.Words.{Text}
 use Rattle.commandline.proofs.LineLists.{first_fault, one_more, room}
 use Rattle.commandline.specs.LineWords.{AreLines, SharePath}
-use Rattle.options.specs.declared.line_word.LineWord.{LineWord}
+use Rattle.commandoptions.specs.declared.line_word.LineWord.{LineWord}
 use Rattle.commandline.proofs.line_words.lines_of.Goals as goal
 
 any_of_same : (Meets : LineWord → Type 0) (ones others : List LineWord) → others ≡ ones → Any Meets others

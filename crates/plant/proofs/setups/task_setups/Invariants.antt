@@ -1,7 +1,7 @@
 use Rattle.std.proofs.Common.{◌≡◌, ℕ, ◌<◌, length, Some}
 use Rattle.std.specs.Prelude.{All, slice_get}
 use Rattle.plantevents.specs.Plants.{Plant}
-use Rattle.taskset.specs.TaskSets.{HasInterval, setup_of}
+use Rattle.readytasks.specs.TaskSets.{HasInterval, setup_of}
 use Rattle.plant.proofs.setups.task_setups.Given as goal
 
 abbrev pub invariant-loop-task : goal.invariant-loop-task

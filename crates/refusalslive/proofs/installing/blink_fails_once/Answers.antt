@@ -1,4 +1,4 @@
-use Rattle.livesurvey.specs.Blinking.{IsSomeShown}
+use Rattle.commissioning.specs.Blinking.{IsSomeShown}
 use Rattle.refusalslive.proofs.Installed.{fails_once}
 use Rattle.refusalslive.proofs.installing.blink_fails_once.Goals as goal
 

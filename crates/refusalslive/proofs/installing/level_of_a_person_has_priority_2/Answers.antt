@@ -3,7 +3,7 @@ use Rattle.daliframe.specs.declared.addressing.Address.TheVariants.{Short}
 use Rattle.gearcmd.specs.declared.requests.Command.TheVariants.{GearLevel}
 use Rattle.gearcmd.specs.FrameLists.{FrameList}
 use Rattle.buslink.specs.Attempts.{ReportParts}
-use Rattle.livesurvey.specs.Asking.{transaction_of}
+use Rattle.commissioning.specs.Asking.{transaction_of}
 use Rattle.refusalslive.proofs.Installed.{answer_is}
 use Rattle.refusalslive.proofs.Results.{if_ok}
 use Rattle.refusalslive.proofs.installing.level_of_a_person_has_priority_2.Goals as goal

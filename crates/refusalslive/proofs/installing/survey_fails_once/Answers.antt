@@ -1,4 +1,4 @@
-use Rattle.livesurvey.specs.Surveys.{IsSurvey}
+use Rattle.commissioning.specs.Surveys.{IsSurvey}
 use Rattle.refusalslive.proofs.Installed.{fails_once}
 use Rattle.refusalslive.proofs.installing.survey_fails_once.Goals as goal
 

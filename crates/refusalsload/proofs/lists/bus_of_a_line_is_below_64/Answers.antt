@@ -4,7 +4,7 @@ use Rattle.clap.specs.Words.{found_of, rows_of}
 use Rattle.commandline.specs.Invocations.{IsOfCommand, line_words}
 use Rattle.commandline.specs.LineWords.{IsLineWord}
 use Rattle.commandline.specs.declared.invocations.Invocation.{Invocation}
-use Rattle.options.specs.declared.line_word.LineWord.{LineWord}
+use Rattle.commandoptions.specs.declared.line_word.LineWord.{LineWord}
 use Rattle.refusalsload.proofs.Listed.{bus_below, first_of_each}
 use Rattle.refusalsload.proofs.lists.bus_of_a_line_is_below_64.Goals as goal
 

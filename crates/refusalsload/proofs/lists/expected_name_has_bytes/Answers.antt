@@ -3,7 +3,7 @@ use Rattle.std.specs.Prelude.{List, slice_get}
 use Rattle.clap.specs.Words.{found_of, rows_of}
 use Rattle.commandline.specs.ExpectedWords.{IsExpectedWord}
 use Rattle.commandline.specs.Invocations.{IsOfCommand, expected_words}
-use Rattle.options.specs.declared.expected_word.ExpectedWord.{ExpectedWord}
+use Rattle.commandoptions.specs.declared.expected_word.ExpectedWord.{ExpectedWord}
 use Rattle.commandline.specs.declared.invocations.Invocation.{Invocation}
 use Rattle.refusalsload.proofs.Listed.{first_of_each}
 use Rattle.refusalsload.proofs.lists.expected_name_has_bytes.Goals as goal

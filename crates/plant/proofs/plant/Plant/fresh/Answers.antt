@@ -1,8 +1,8 @@
 use Rattle.std.proofs.Common.{arith, ◌≡◌, ◌≤◌, ℕ, List, [], length, replicate, false, sym, subst, ap, ◌∙◌, rules}
 use Rattle.ilplan.specs.Plans.{Planned, IsLawful}
 use Rattle.limits.specs.Limits.{most_buses, most_tasks}
-use Rattle.taskset.specs.declared.setup.TaskSetup.{TaskSetup}
-use Rattle.taskset.specs.TaskSets.{AreSetups}
+use Rattle.readytasks.specs.declared.setup.TaskSetup.{TaskSetup}
+use Rattle.readytasks.specs.TaskSets.{AreSetups}
 use Rattle.plantbuses.specs.KeptSteps.{AreFresh}
 use Rattle.plantbuses.specs.OutputSteps.{planned, OutputsFollow}
 use Rattle.plant.specs.IndexSteps.{InputsFollow}

@@ -1,6 +1,0 @@
-use Rattle.std.proofs.Common.{ℕ, ◌<◌}
-use Rattle.inquiries.specs.Answered.{IsCalled}
-use Rattle.inquiries.proofs.answers.task_number.Given as goal
-
-abbrev pub invariant-loop-task : goal.invariant-loop-task
-invariant-loop-task l = (k : ℕ) → k < l.task → ¬ IsCalled l.plan l.name k

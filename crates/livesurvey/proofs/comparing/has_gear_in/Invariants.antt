@@ -1,8 +1,0 @@
-use Rattle.std.proofs.Common.{◌≡◌, false}
-use Rattle.livesurvey.specs.Differences.{any_below, is_in_group}
-use Rattle.livesurvey.proofs.comparing.has_gear_in.Given as goal
-
--- none so far
-abbrev pub invariant-loop-number : goal.invariant-loop-number
-invariant-loop-number l =
-    any_below (is_in_group l.survey l.group) l.number ≡ false

@@ -1,8 +1,0 @@
-use Rattle.std.proofs.Common.{true}
-use Rattle.livesurvey.specs.Surveys.{AreParts, AsksMore, IsInstancePart}
-use Rattle.livesurvey.proofs.surveys.ask_device.Given as goal
-
-abbrev pub invariant-loop-number : goal.invariant-loop-number
-invariant-loop-number g l =
-    AsksMore (AreParts (IsInstancePart l.address true) l.number) l.initial.asked.items l.asked.items
-    (g.B.Bus.log l.initial.bus) (g.B.Bus.log l.bus)

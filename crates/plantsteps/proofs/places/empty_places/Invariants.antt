@@ -1,5 +1,0 @@
-use Rattle.plantsteps.specs.DeskSteps.{AreEmpty}
-use Rattle.plantsteps.proofs.places.empty_places.Given as goal
-
-abbrev pub invariant-loop : goal.invariant-loop
-invariant-loop g l = AreEmpty l.counter l.places.items
