@@ -1,1 +1,3 @@
+pub mod Planned
+pub mod ReadSteps
 pub mod Said

@@ -4,7 +4,7 @@ use Rattle.std.specs.Prelude.{◌≡◌, ◌⊎◌, ⊤, ℕ, [], List, Option, 
 use Rattle.ilsource.specs.Names.{SameName}
 use Rattle.ilsource.specs.declared.configuration.InstanceDeclaration.{InstanceDeclaration}
 use Rattle.ilsource.specs.declared.name.Name.{Name}
-use Rattle.ilfacts.specs.Planned.{IsRead, IsStored, StartsTask}
+use Rattle.ilnotes.specs.Planned.{IsRead, IsStored, StartsTask}
 use Rattle.ilplan.specs.declared.global.Location.{Location}
 use Rattle.ilplan.specs.declared.global.Location.TheVariants.{Level, Trigger}
 use Rattle.ilplan.specs.Plans.{Planned}

@@ -2,10 +2,10 @@
 //! or one thing once; timers that cannot do what they are for; settings that are made again and
 //! again.
 
+use crate::facts::TaskFacts;
 use crate::kinds::Kind;
 use crate::note::{Found, Note, note_on};
 use ilblocks::{BlockKind, MOST_PORTS};
-use ilfacts::TaskFacts;
 use ilplan::FunctionBlock;
 use ilsource::Name;
 

@@ -1,10 +1,11 @@
 //! Notes on what the calls of block instances ask and command: several questions of which the
 //! answers come to one variable, and gear that something else commands as well.
 
+use crate::facts::{BlockCall, House, TaskFacts};
 use crate::kinds::{Kind, Rule};
+use crate::levels::{BROADCAST, FIRST_GROUP, LevelTarget};
 use crate::note::{Found, Note, NotePlace, Notes, note_at, note_of};
 use ilblocks::BlockKind;
-use ilfacts::{BROADCAST, BlockCall, FIRST_GROUP, House, LevelTarget, TaskFacts};
 use ilplan::{Location, Plan};
 use ilsource::Name;
 use std::alloc::{AllocError, Global};

@@ -3,10 +3,10 @@
 ghost use Rattle.std.specs.Prelude.{◌≡◌, IsSomeAnd, Some, slice_get};
 ghost use Rattle.ilnotes.specs.Said.{IsOn};
 
+use crate::Driven;
 use crate::kinds::{Kind, Rule};
 use ilblocks::BlockKind;
 use ilcode::Word;
-use ilfacts::Driven;
 use ilsource::Name;
 use iltypes::Value;
 use ilverify::Known;

@@ -1,13 +1,15 @@
 //! Notes, printed as lines or as JSON.
 
+use crate::facts::{House, house_of};
 use crate::kinds::{RULES, Rule, text_of};
+use crate::levels::{BROADCAST, FIRST_GROUP, LevelTarget};
+use crate::load::add_tenths;
 use crate::note::{Found, Note, NotePlace, Notes};
 use crate::quoted::Quoted;
 use crate::rules::add_all_notes;
 use crate::scenario_notes::{Played, add_scenario_notes};
 use ilcode::Word;
 use ilcompile::Setup;
-use ilfacts::{BROADCAST, FIRST_GROUP, House, LevelTarget, add_tenths, house_of};
 use illisting::{ValuesText, WordText};
 use ilplan::DeclaredName;
 use ilsource::{LineColumn, Source};

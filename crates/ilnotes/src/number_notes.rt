@@ -1,11 +1,12 @@
 //! Notes on numbers that are likely not meant: a time of a timer that is written as a plain number,
 //! and limits the wrong way round.
 
+use crate::current::constant_of;
+use crate::facts::{House, TaskFacts};
 use crate::kinds::Kind;
 use crate::note::{Found, Note, NotePlace, note_at};
 use ilblocks::BlockKind;
 use ilcode::{Code, Target, Word, WordOperand};
-use ilfacts::{House, TaskFacts, constant_of};
 use illisting::line_at;
 use iltypes::Operator;
 

@@ -1,11 +1,11 @@
 //! Notes on stores that nothing comes of: each way from one stores the variable again before the
 //! scan ends, and nothing reads it in between.
 
+use crate::facts::{House, TaskFacts, place_of};
 use crate::kinds::{Kind, Rule};
 use crate::note::{Added, Found, Note, NotePlace, Notes, note_at, note_of};
 use ilblocks::MOST_PORTS;
 use ilcode::{Code, Word, WordOperand};
-use ilfacts::{House, TaskFacts, place_of};
 use illisting::{is_marked, line_at, read_by, written_by};
 use iltypes::Condition;
 use indexmap::IndexMap;

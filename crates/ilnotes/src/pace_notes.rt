@@ -1,10 +1,11 @@
 //! Notes on levels that change more often than is likely meant, at each scan of a fast task or at
 //! each event whatever it says, and on buses that are asked for more frames than they carry.
 
+use crate::facts::{GlobalSlot, TaskFacts};
 use crate::kinds::{Kind, Rule};
+use crate::load::{Counted, rate_of};
 use crate::note::{Added, Found, Note, NotePlace, Notes, note_at, note_of};
 use ilblocks::BlockKind;
-use ilfacts::{Counted, GlobalSlot, TaskFacts, rate_of};
 use ilplan::{Location, Plan};
 
 /// How many milliseconds a level takes on a bus, with the pause before it.

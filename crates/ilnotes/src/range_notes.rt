@@ -1,12 +1,14 @@
 //! Notes on what the pass of the verifier found: words that no scan reaches, operators whose result
 //! is the same whatever comes, and levels that no store turns off.
 
+use crate::current::constant_of;
+use crate::facts::{House, TaskFacts};
 use crate::kinds::Kind;
+use crate::levels::LevelTarget;
 use crate::note::{Found, Note, NotePlace, note_at, note_of, note_on};
 use crate::number_notes::is_swapped;
 use ilblocks::BlockKind;
 use ilcode::{Code, Target, Word, WordOperand};
-use ilfacts::{House, LevelTarget, TaskFacts, constant_of};
 use illisting::line_at;
 use ilplan::Location;
 use iltypes::{Operator, Range, Value};

@@ -3,6 +3,7 @@
 
 use crate::block_notes::note_on_block;
 use crate::call_notes::{Calls, add_covered_levels, note_on_command, note_on_mask};
+use crate::facts::{House, TaskFacts};
 use crate::kinds::{Kind, Rule};
 use crate::note::{Added, Found, NotePlace, Notes, note_at};
 use crate::number_notes::{note_on_limits, note_on_time};
@@ -15,7 +16,6 @@ use crate::range_notes::{
 use crate::text_notes::{add_comment_notes, add_idle_notes, add_program_notes, add_source_notes};
 use crate::variable_notes::{add_variable_notes, note_on_trigger};
 use ilcode::Word;
-use ilfacts::{House, TaskFacts};
 use ilverify::{Pass, Passed, most_requests};
 use std::alloc::AllocError;
 

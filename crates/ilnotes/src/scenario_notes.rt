@@ -1,10 +1,11 @@
 //! Notes on a scenario that is played with a text: what it says of buses that are not there, events
 //! that are of no source, and gear that it lacks.
 
+use crate::facts::House;
 use crate::kinds::{Kind, Rule};
+use crate::levels::{FIRST_GROUP, LevelTarget};
 use crate::note::{Added, Found, NotePlace, Notes, note_at};
 use daliframe::Frame24;
-use ilfacts::{FIRST_GROUP, House, LevelTarget};
 use ilplan::Plan;
 use indexmap::IndexMap;
 use std::alloc::Global;

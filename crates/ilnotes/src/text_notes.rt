@@ -1,15 +1,16 @@
 //! Notes on what no task has: programs, tasks without one, and sources of the binding.
 
 ghost use Rattle.std.specs.Prelude.{◌≡◌, ◌<◌, ℕ, MatchOption, Some, length, slice_get};
-ghost use Rattle.ilfacts.specs.Planned.{UsesSource};
+ghost use Rattle.ilnotes.specs.Planned.{UsesSource};
 ghost use Rattle.ilnotes.specs.Said.{HasInstance, IsIdle, IsInstanceAt, IsOn};
 ghost use Rattle.ilnotes.specs.declared.kinds.Kind.TheVariants.{UnusedProgram, UnusedSource};
 ghost use Rattle.ilnotes.specs.declared.kinds.Kind.TheVariants.{UnusedTask};
 ghost use Rattle.ilnotes.specs.declared.note.Found.TheVariants.{Source};
 
+use crate::facts::House;
 use crate::kinds::{Kind, Rule};
 use crate::note::{Found, Note, NotePlace, Notes, note_at, note_of, note_on};
-use ilfacts::{House, uses_source};
+use crate::planned::uses_source;
 use ilplan::Plan;
 use ilsource::{Declared, Element, InstanceDeclaration, Name, Program};
 use wordlines::BoundSource;

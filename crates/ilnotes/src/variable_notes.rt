@@ -3,13 +3,15 @@
 //! of a program are one.
 
 ghost use Rattle.std.specs.Prelude.{◌≡◌, ◌↔◌, ◌<◌, IfOk, IsSomeAnd, IsTrue, MatchOption, length, slice_get};
-ghost use Rattle.ilfacts.specs.Planned.{UsesFunction};
+ghost use Rattle.ilnotes.specs.Planned.{UsesFunction};
 ghost use Rattle.ilnotes.specs.Said.{IsOfLevel, IsOn, IsUsed, NotesUse, SaysUnused};
 ghost use Rattle.ilnotes.specs.declared.kinds.Kind.TheVariants.{UnusedFunction};
 
+use crate::facts::{GlobalSlot, House, TaskFacts, Usage};
 use crate::kinds::{Kind, Rule};
 use crate::note::{Added, Found, Note, NotePlace, Notes, note_at, note_of, note_on};
-use ilfacts::{GlobalSlot, House, Reads, TaskFacts, Usage, is_stored, starts_task, uses_function};
+use crate::planned::{is_stored, starts_task, uses_function};
+use crate::reads::Reads;
 use illisting::name_in;
 use ilplan::{Global, Location, Plan, SlotOwner, UserFunction};
 use ilsource::Name;

@@ -1,11 +1,11 @@
 //! What notes say of a plan.
 
 ghost use Rattle.std.specs.Prelude.{◌≡◌, ℕ, IfOk, IsSomeAnd, Some, false, slice_get, true};
-ghost use Rattle.ilfacts.specs.Planned.{IsAtSource, IsStartedBy, StoresTo, UsesFunctionIn};
-ghost use Rattle.ilfacts.specs.Planned.{Reads as ReadsVariable};
+ghost use Rattle.ilnotes.specs.Planned.{IsAtSource, IsStartedBy, StoresTo, UsesFunctionIn};
+ghost use Rattle.ilnotes.specs.Planned.{ReadsVariable};
 ghost use Rattle.ilplan.specs.declared.global.Location.TheVariants.{Count};
 
-use ilfacts::{Reads, is_stored, starts_task, uses_function, uses_source};
+use ilnotes::{Reads, is_stored, starts_task, uses_function, uses_source};
 use ilplan::Plan;
 use std::alloc::{AllocError, Global};
 

@@ -2,7 +2,7 @@ use Rattle.std.proofs.Common.{◌≡◌, Option, Some, None, IsSomeAnd, refl, sy
 use Rattle.ilplan.specs.declared.global.Global.{Global as GlobalVariable}
 use Rattle.ilplan.specs.declared.global.Location.{Location}
 use Rattle.ilplan.specs.declared.global.Location.TheVariants.{Count}
-use Rattle.ilfacts.specs.Planned.{IsOfSource}
+use Rattle.ilnotes.specs.Planned.{IsOfSource}
 use Rattle.refusalsexplain.proofs.notes.count_uses_its_source.Goals as goal
 
 -- a variable that is located at the count is one of the source

@@ -1,6 +1,0 @@
-use Rattle.std.proofs.Common.{ℕ, ◌<◌}
-use Rattle.ilfacts.specs.Planned.{IsStartedBy}
-use Rattle.ilfacts.proofs.planned.started_task.Given as goal
-
-abbrev pub invariant-loop-task : goal.invariant-loop-task
-invariant-loop-task l = (k : ℕ) → k < l.task → ¬ IsStartedBy l.plan l.number k

@@ -1,6 +1,0 @@
-use Rattle.std.proofs.Common.{ℕ, ◌<◌}
-use Rattle.ilfacts.specs.Planned.{StoresTo}
-use Rattle.ilfacts.proofs.planned.storing_task.Given as goal
-
-abbrev pub invariant-loop-task : goal.invariant-loop-task
-invariant-loop-task l = (k : ℕ) → k < l.task → ¬ StoresTo l.plan l.number k

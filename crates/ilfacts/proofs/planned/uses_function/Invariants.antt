@@ -1,6 +1,0 @@
-use Rattle.std.proofs.Common.{ℕ, ◌<◌}
-use Rattle.ilfacts.specs.Planned.{UsesFunctionIn}
-use Rattle.ilfacts.proofs.planned.uses_function.Given as goal
-
-abbrev pub invariant-loop-task : goal.invariant-loop-task
-invariant-loop-task l = (k : ℕ) → k < l.task → ¬ UsesFunctionIn l.plan l.number k

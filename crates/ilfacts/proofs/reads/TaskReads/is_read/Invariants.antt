@@ -1,6 +1,0 @@
-use Rattle.std.proofs.Common.{ℕ, ◌<◌}
-use Rattle.ilfacts.specs.Planned.{ReadsInSlot}
-use Rattle.ilfacts.proofs.reads.TaskReads.is_read.Given as goal
-
-abbrev pub invariant-loop-slot : goal.invariant-loop-slot
-invariant-loop-slot l = (k : ℕ) → k < l.slot → ¬ ReadsInSlot l.number l.self k

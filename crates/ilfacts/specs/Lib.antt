@@ -1,2 +1,0 @@
-pub mod Planned
-pub mod ReadSteps
