@@ -39,6 +39,21 @@ pub record BusLog : Type 0 where
   -- whether its interface answers again, and it was not taken up yet
   pub is_mended : Bool
 
+-- a bus of this number on which nothing was sent or heard, where this is known of what comes
+abbrev pub new_log : ℕ → Option Arrivals → BusLog
+new_log number arrivals = record {
+  number = number;
+  arrivals = arrivals;
+  sent = [];
+  heard = [];
+  spare = 0;
+  failures = 0;
+  hears = 0;
+  heard_none = false;
+  mends = 0;
+  is_mended = false;
+}
+
 -- one more, counted modulo 2^64
 abbrev pub one_more : ℕ → ℕ
 one_more count = (count + 1) % 2 ^ 64

@@ -1,6 +1,6 @@
 -- Controllers on buses of a program's own (profile): with what one begins, and why one does not start.
-use Rattle.std.specs.Prelude.{◌≡◌, ◌≢◌, ℕ, List, [], length, None, false}
-use Rattle.buslink.specs.BusLog.{BusLog}
+use Rattle.std.specs.Prelude.{◌≡◌, ◌≢◌, ℕ, List, length, None}
+use Rattle.buslink.specs.BusLog.{BusLog, new_log}
 use Rattle.ilcompile.specs.Loaded.{Loaded}
 use Rattle.plant.specs.Shown.{IsLimit, IsOpenFault, IsRoomy, opened}
 use Rattle.gushewa.specs.declared.controller.Controller.{Controller}
@@ -9,18 +9,7 @@ use Rattle.gushewa.specs.declared.not_opened.NotOpened.TheVariants.{Buses, Plant
 
 -- a bus of this number on which nothing was sent and heard, and of which it is not known what comes
 abbrev pub fresh_bus : ℕ → BusLog
-fresh_bus number = record {
-  number = number;
-  arrivals = None;
-  sent = [];
-  heard = [];
-  spare = 0;
-  failures = 0;
-  hears = 0;
-  heard_none = false;
-  mends = 0;
-  is_mended = false;
-}
+fresh_bus number = new_log number None
 
 -- the plant of this setup and limit with one scan worker, to which nothing has happened, on these buses, one for each
 -- bus of the plan

@@ -1,7 +1,7 @@
 -- A bus behind a line as its callers see it, and one request with its answer.
-use Rattle.std.specs.Prelude.{◌≡◌, ℕ, Bool, true, false, List, [], ◌++◌, Option, None, Some, Result, IsErr}
+use Rattle.std.specs.Prelude.{◌≡◌, ℕ, Bool, true, false, List, ◌++◌, Option, None, Some, Result, IsErr}
 use Rattle.std.specs.Io.KnownBytes.{Appends, Consumes}
-use Rattle.buslink.specs.BusLog.{BusLog}
+use Rattle.buslink.specs.BusLog.{BusLog, new_log}
 use Rattle.liveline.specs.Lines.{line_end}
 use Rattle.liveline.specs.Greetings.{Ends}
 
@@ -16,18 +16,7 @@ pub record LineState : Type 0 where
 
 -- a bus with this number, on which nothing was sent or heard; what comes on it is not known
 abbrev pub fresh_log : ℕ → BusLog
-fresh_log number = record {
-  number = number;
-  arrivals = None;
-  sent = [];
-  heard = [];
-  spare = 0;
-  failures = 0;
-  hears = 0;
-  heard_none = false;
-  mends = 0;
-  is_mended = false;
-}
+fresh_log number = new_log number None
 
 -- what the interface of a line is still to say, and what was said to it: of no line nothing is known
 abbrev pub unread_on : Option Ends → Option (List ℕ)

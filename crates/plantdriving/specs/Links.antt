@@ -1,8 +1,8 @@
 -- What went over a link goes with a history: each bus sent the attempts of its reports, and the history has what was
 -- heard there (IEC 62386-101, and profile).
-use Rattle.std.specs.Prelude.{◌≡◌, ◌⊎◌, ℕ, zero, suc, ◌-◌, ◌^◌, ◌<◌, ◌≤◌, min, List, [], ◌++◌, None, false}
+use Rattle.std.specs.Prelude.{◌≡◌, ◌⊎◌, ℕ, zero, suc, ◌-◌, ◌^◌, ◌<◌, ◌≤◌, min, List, ◌++◌, None}
 use Rattle.std.specs.Prelude.{slice_index_or}
-use Rattle.buslink.specs.BusLog.{BusLog, IsSameBus, one_more}
+use Rattle.buslink.specs.BusLog.{BusLog, IsSameBus, new_log, one_more}
 use Rattle.buslink.specs.Each.{Each}
 use Rattle.plantevents.specs.declared.event.Event.{Event}
 use Rattle.plantevents.specs.Histories.{sent_in, heard_in, downs_in, ups_in}
@@ -10,18 +10,7 @@ use Rattle.plantevents.specs.Histories.{sent_in, heard_in, downs_in, ups_in}
 -- ---- the logs of buses, by their numbers
 
 abbrev pub no_frame : BusLog
-no_frame = record {
-  number = 0;
-  arrivals = None;
-  sent = [];
-  heard = [];
-  spare = 0;
-  failures = 0;
-  hears = 0;
-  heard_none = false;
-  mends = 0;
-  is_mended = false;
-}
+no_frame = new_log 0 None
 
 -- the log of a bus among these
 abbrev pub log_of : List BusLog → ℕ → BusLog

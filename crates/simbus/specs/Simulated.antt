@@ -1,5 +1,5 @@
 -- A simulated bus as its callers see it.
-use Rattle.std.specs.Prelude.{◌≡◌, ℕ, ◌+◌, ◌==◌, false, Option, Some, None, option_map, Result, Ok, IsErr, List, [], ⊤}
+use Rattle.std.specs.Prelude.{◌≡◌, ℕ, ◌+◌, ◌==◌, Option, Some, None, option_map, Result, Ok, IsErr, List, [], ⊤}
 use Rattle.std.specs.Prelude.{◌∷◌, length, reverse, find, drop, ◌++◌}
 use Rattle.daliframe.specs.declared.forward.Frame.{Frame}
 use Rattle.buslink.specs.declared.marks.Mark.{Mark}
@@ -12,6 +12,7 @@ use Rattle.buslink.specs.declared.arrivals.Arrival.{Arrival}
 use Rattle.buslink.specs.declared.arrivals.Arrival.TheVariants as arrival
 use Rattle.buslink.specs.declared.faults.Fault.{Fault}
 use Rattle.buslink.specs.BusLog.{Arrivals, BusLog, after_arrival, after_all_arrivals, after_hear, frames_in}
+use Rattle.buslink.specs.BusLog.{new_log}
 use Rattle.wordlines.specs.declared.statements.FrameFate.{FrameFate}
 use Rattle.wordlines.specs.declared.statements.FrameFate.TheVariants as fate
 use Rattle.simbus.specs.declared.scripts.ScriptedReply.{ScriptedReply}
@@ -38,18 +39,7 @@ new_bus number setup script arrivals = record {
   setup = setup;
   script = script;
   waiting = [];
-  log = record {
-    number = number;
-    arrivals = Some (record { come = []; later = arrivals });
-    sent = [];
-    heard = [];
-    spare = 0;
-    failures = 0;
-    hears = 0;
-    heard_none = false;
-    mends = 0;
-    is_mended = false;
-  };
+  log = new_log number (Some (record { come = []; later = arrivals }));
 }
 
 -- what the script says of the frame at a place, from 1
