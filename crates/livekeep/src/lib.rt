@@ -41,5 +41,5 @@ pub use laws::{
     entries_come_back,
 };
 pub use left_out::{LeftOut, left_out_of};
-pub use printout::kept_file;
+pub use page::kept_file;
 pub use value::KeptValue;

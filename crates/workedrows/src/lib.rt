@@ -27,5 +27,5 @@ pub use command_line::CommandLine;
 pub use difference::{RowDifference, RowsStop};
 pub use judge::Judge;
 pub use machine::{Machine, Output, Printout, StoredFile, Terminal};
-pub use printout::{Fit, PageStep, ShownRun, page_steps};
+pub use page::{Fit, PageStep, ShownRun, page_steps};
 pub use table::{CHANGED, ChangedLine};
