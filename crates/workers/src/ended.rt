@@ -1,5 +1,6 @@
 //! The end of a run.
 
+use crate::bell::Bell;
 use plantturns::Halt;
 use std::sync::{OnceLock, OnceToken, Wait};
 
@@ -34,10 +35,12 @@ impl From<Halt> for Ended {
 /// Shows that the end was told, and why. Whoever has one came to it by the cell of the end.
 pub(crate) type ToldEnd<'e> = OnceToken<'e, Ended>;
 
-/// Whether the end was told, and why. All workers read it.
+/// Whether the end was told, and why, with the bell that wakes the workers: it rings where something
+/// happened, and at the end. All workers read it.
 #[derive(Drop)]
 pub(crate) struct End {
     pub told: OnceLock<Ended>,
+    pub bell: Bell,
 }
 
 impl End {
@@ -48,6 +51,7 @@ impl End {
     pub fn new() -> End {
         End {
             told: OnceLock::new(),
+            bell: Bell::new(),
         }
     }
 
@@ -55,9 +59,11 @@ impl End {
     pub fn tell<R: Wait>(&self, rt: &R, ended: Ended) -> ToldEnd<'_>
         ensures { result.of ≡ self.now.told.id }
     {
-        match self.told.try_insert(rt, ended) {
+        let told = match self.told.try_insert(rt, ended) {
             Ok(told) | Err((told, _)) => told,
-        }
+        };
+        self.bell.ring(rt);
+        told
     }
 
     /// Shows that the end was told, where it was.

@@ -15,6 +15,7 @@
 
 mod again;
 mod beginning;
+mod bell;
 mod bus_threads;
 mod closed;
 mod closed_plant;

@@ -74,8 +74,9 @@ fn serve_once<
     }
 }
 
-/// Serves a bus until the end is told, and shows that it is. While the bus is down, its worker
-/// rests between the questions whether its interface answers again.
+/// Serves a bus until the end is told, and shows that it is. What it sent and heard wakes the scan
+/// workers. While the bus is down, its worker sleeps between the questions whether its interface
+/// answers again, until something happens elsewhere, for a tenth of a second at most.
 pub(crate) fn serve_bus<
     'e,
     'a,
@@ -105,9 +106,14 @@ pub(crate) fn serve_bus<
         if let Some(told) = end.told() {
             return told;
         }
+        let rings = end.bell.rings(rt);
         match serve_once(rt, &mut passing, shared, end, bus, served) {
-            Ok(Turn::Busy) => pause.begin_anew(),
-            Ok(Turn::Idle | Turn::Down) => pause.wait(rt),
+            Ok(Turn::Busy) => {
+                end.bell.ring(rt);
+                pause.begin_anew();
+            }
+            Ok(Turn::Idle) => pause.wait(rt),
+            Ok(Turn::Down) => end.bell.wait_past(rt, rings),
             Err(told) => return told,
         }
     }
@@ -115,7 +121,8 @@ pub(crate) fn serve_bus<
 }
 
 /// Scans what is ready until the end is told, and shows that it is: a worker that is refused memory
-/// tells it.
+/// tells it. Where nothing is ready it sleeps until something happens, for a tenth of a second at
+/// most: only a tick, a frame that is heard, and a scan of its own make a task ready.
 pub(crate) fn serve_tasks<'e, 'a, J: LockStart, T: Tally, K: Tallies<T>, G: Gate, R: Wait + Timer>(
     rt: &R,
     alloc: Global,
@@ -130,11 +137,11 @@ pub(crate) fn serve_tasks<'e, 'a, J: LockStart, T: Tally, K: Tallies<T>, G: Gate
     ensures told { result.of ≡ end.now.told.id }
 {
     let mut passing = Passing { gate };
-    let mut pause = Pause::new();
     for _ in rt.forever() {
         if let Some(told) = end.told() {
             return told;
         }
+        let rings = end.bell.rings(rt);
         match scan_turn::<(), J, T, K, Passing<G>, R>(
             rt,
             alloc,
@@ -143,8 +150,8 @@ pub(crate) fn serve_tasks<'e, 'a, J: LockStart, T: Tally, K: Tallies<T>, G: Gate
             worker,
             share,
         ) {
-            Ok(Turn::Busy) => pause.begin_anew(),
-            Ok(_) => pause.wait(rt),
+            Ok(Turn::Busy) => {}
+            Ok(Turn::Idle | Turn::Down) => end.bell.wait_past(rt, rings),
             Err(halt) => return end.tell(rt, Ended::from(halt)),
         }
     }
@@ -153,7 +160,7 @@ pub(crate) fn serve_tasks<'e, 'a, J: LockStart, T: Tally, K: Tallies<T>, G: Gate
 
 /// Asks the clock once. Answers why it ended, where it gave no moment or no event more may be
 /// noted; then it tells the end. Where it answers `Asked`, the clock was asked here and came to its
-/// end. The gate is told of the moment.
+/// end. The gate is told of the moment, and who sleeps wakes for it.
 fn tick_turn<'a, C: Clock, J: LockStart + Links, T: Tally, K: Tallies<T>, G: Gate, R: Wait>(
     rt: &R,
     gate: &G,
@@ -167,7 +174,10 @@ fn tick_turn<'a, C: Clock, J: LockStart + Links, T: Tally, K: Tallies<T>, G: Gat
 {
     let mut passing = Passing { gate };
     match tick_once::<(), C, J, T, K, Passing<'_, G>, R>(rt, &mut passing, shared, timed) {
-        Ok(true) => None,
+        Ok(true) => {
+            end.bell.ring(rt);
+            None
+        }
         Ok(false) => {
             let _told = end.tell(rt, Ended::Asked);
             Some(Ended::Asked)
