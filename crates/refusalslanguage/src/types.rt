@@ -1,6 +1,6 @@
 //! Ranges and operators.
 
-ghost use Rattle.std.specs.Prelude.{◌≡◌, Some, false, pos, true};
+ghost use Rattle.std.specs.Prelude.{◌≡◌, Some, false, negsuc, pos, true};
 
 use iltypes::{Operator, Range, Value};
 
@@ -11,6 +11,13 @@ pub fn quotient_is_rounded_toward_0() -> Option<bool>
     let left = Range { lo: -7, hi: -7 };
     let quotients = left.div(Range { lo: 2, hi: 2 })?;
     Some(quotients.contains(-3))
+}
+
+/// `quotient_rounded_down`: what DIV gave of -7 and 2 was -4.
+pub fn div_rounds_toward_0() -> Value
+    ensures { result ≡ Value.Int (negsuc 2) }
+{
+    Operator::Div.apply(Value::Int(-7), Value::Int(2))
 }
 
 /// `corner_of_the_product_left_out`: the product of the greatest numbers was not in the range.
