@@ -1,3 +1,4 @@
+mod AllWords
 mod BlanksAgain
 pub mod Choices
 mod Comments

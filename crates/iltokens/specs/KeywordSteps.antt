@@ -3,17 +3,22 @@ use Rattle.std.specs.Prelude.{ℕ, ◌==◌, List, [], ◌∷◌, map, flat_map,
 use Rattle.std.specs.Borrow.{Bor}
 use Rattle.std.specs.Str.{str_eq_ignore_ascii_case}
 use Rattle.iltokens.specs.declared.keyword.Keyword.{Keyword}
+use Rattle.iltokens.specs.Keywords.{spelling_of}
 use Rattle.iltokens.specs.declared.keyword.TheConstants.{A_WORDS, B_WORDS, C_WORDS, D_WORDS, E_WORDS, F_WORDS, G_WORDS}
 use Rattle.iltokens.specs.declared.keyword.TheConstants.{I_WORDS, J_WORDS, L_WORDS, M_WORDS, N_WORDS, O_WORDS, P_WORDS}
 use Rattle.iltokens.specs.declared.keyword.TheConstants.{R_WORDS, S_WORDS, T_WORDS, U_WORDS, V_WORDS, W_WORDS, X_WORDS}
 
+-- a word after its spelling
+abbrev pub row_of : Keyword → List ℕ × Keyword
+row_of word = (spelling_of word, word)
+
 -- the words of a row, each after its spelling
-abbrev pub row_view : Bor (List (Bor (List ℕ) × Keyword)) → List (List ℕ × Keyword)
-row_view row = map (λ k. (k.0.now, k.1)) row.now
+abbrev pub row_view : Bor (List Keyword) → List (List ℕ × Keyword)
+row_view row = map row_of row.now
 
 -- the same of a constant
-abbrev pub words_of : record { now : List (record { now : List ℕ } × Keyword) } → List (List ℕ × Keyword)
-words_of row = map (λ k. (k.0.now, k.1)) row.now
+abbrev pub words_of : record { now : List Keyword } → List (List ℕ × Keyword)
+words_of row = map row_of row.now
 
 -- the code's reserved words: after each letter, in lower case, those that begin with it
 unfoldable pub word_rows : List (ℕ × List (List ℕ × Keyword))

@@ -1,5 +1,5 @@
 -- Reserved words, in any letter case (IEC 61131-3, 2.1.2 and 2.1.3; which there are is this project's profile).
-use Rattle.std.specs.Prelude.{◌≡◌, ℕ, List, map, codes}
+use Rattle.std.specs.Prelude.{◌≡◌, ℕ, List, [], ◌∷◌, map, codes}
 use Rattle.std.specs.Char.{to_ascii_lowercase}
 use Rattle.iltokens.specs.declared.keyword.Keyword.{Keyword}
 use Rattle.iltokens.specs.declared.keyword.Keyword.TheVariants as words
@@ -123,6 +123,29 @@ spelling_of words.Single = codes "SINGLE"
 spelling_of words.Interval = codes "INTERVAL"
 spelling_of words.Priority = codes "PRIORITY"
 spelling_of words.With = codes "WITH"
+
+-- all words, in that order
+unfoldable pub keywords : List Keyword
+keywords =
+    words.Ld ∷ words.Ldn ∷ words.St ∷ words.Stn ∷ words.S ∷ words.R ∷ words.And ∷ words.Andn ∷ words.Or ∷ words.Orn ∷
+    words.Xor ∷ words.Xorn ∷ words.Not ∷ words.Add ∷ words.Sub ∷ words.Mul ∷ words.Div ∷ words.Mod ∷ words.Gt ∷
+    words.Ge ∷ words.Eq ∷ words.Ne ∷ words.Le ∷ words.Lt ∷ words.Jmp ∷ words.Jmpc ∷ words.Jmpcn ∷ words.Cal ∷
+    words.Calc ∷ words.Calcn ∷ words.Ret ∷ words.Retc ∷ words.Retcn ∷
+    words.Min ∷ words.Max ∷ words.Limit ∷ words.Abs ∷
+    words.SintToInt ∷ words.SintToDint ∷ words.SintToUsint ∷ words.SintToUint ∷ words.SintToUdint ∷ words.IntToSint ∷
+    words.IntToDint ∷ words.IntToUsint ∷ words.IntToUint ∷ words.IntToUdint ∷ words.DintToSint ∷ words.DintToInt ∷
+    words.DintToUsint ∷ words.DintToUint ∷ words.DintToUdint ∷ words.UsintToSint ∷ words.UsintToInt ∷
+    words.UsintToDint ∷ words.UsintToUint ∷ words.UsintToUdint ∷ words.UintToSint ∷ words.UintToInt ∷
+    words.UintToDint ∷ words.UintToUsint ∷ words.UintToUdint ∷ words.UdintToSint ∷ words.UdintToInt ∷
+    words.UdintToDint ∷ words.UdintToUsint ∷ words.UdintToUint ∷
+    words.Bool ∷ words.Time ∷ words.Sint ∷ words.Int ∷ words.Dint ∷ words.Usint ∷ words.Uint ∷ words.Udint ∷
+    words.RTrig ∷ words.Ctu ∷ words.Ton ∷ words.GearLevel ∷ words.GearDo ∷ words.GearSet ∷ words.GearPair ∷
+    words.GearAsk ∷ words.GearRead ∷ words.DevDo ∷ words.DevScheme ∷ words.DevAsk ∷
+    words.True ∷ words.False ∷ words.Type ∷ words.EndType ∷ words.Function ∷ words.EndFunction ∷ words.Program ∷
+    words.EndProgram ∷ words.Var ∷ words.EndVar ∷ words.VarInput ∷ words.VarExternal ∷ words.VarGlobal ∷
+    words.Configuration ∷ words.EndConfiguration ∷ words.Resource ∷ words.EndResource ∷ words.On ∷ words.At ∷
+    words.Task ∷ words.Single ∷ words.Interval ∷ words.Priority ∷ words.With ∷
+    []
 
 -- the text is the word's spelling, in any letter case
 unfoldable pub IsSpelled : List ℕ → Keyword → Type 0

@@ -6,6 +6,7 @@ pub mod Digits
 pub mod Faults
 pub mod FrontSteps
 pub mod Items
+pub mod KeywordGroups
 pub mod KeywordSteps
 pub mod Keywords
 pub mod Letters

@@ -4,7 +4,7 @@ ghost use Rattle.std.specs.Prelude.{◌≡◌, MatchOption, map};
 ghost use Rattle.std.specs.Str.{str_eq_ignore_ascii_case};
 ghost use Rattle.iltokens.specs.declared.keyword.Keyword.{Keyword};
 ghost use Rattle.iltokens.specs.Keywords.{IsSpelled};
-ghost use Rattle.iltokens.specs.KeywordSteps.{lookup, keyword, row_view, words_by};
+ghost use Rattle.iltokens.specs.KeywordSteps.{lookup, keyword, row_of, row_view, words_by};
 
 /// A reserved word, in any letter case. None is a name.
 #[derive(Clone, Copy, PartialEq, Eq)]
@@ -128,171 +128,155 @@ pub enum Keyword {
     With,
 }
 
-/// Words, each with its spelling before it.
-type Words = &'static [(&'static [u8], Keyword)];
+/// Words, one after another.
+type Words = &'static [Keyword];
 
-// How the reserved words are spelled, by first letters.
+// The reserved words, by first letters.
 
 const A_WORDS: Words = &[
-    (b"AND", Keyword::And),
-    (b"ANDN", Keyword::Andn),
-    (b"ADD", Keyword::Add),
-    (b"ABS", Keyword::Abs),
-    (b"AT", Keyword::At),
+    Keyword::And,
+    Keyword::Andn,
+    Keyword::Add,
+    Keyword::Abs,
+    Keyword::At,
 ];
 
-const B_WORDS: Words = &[(b"BOOL", Keyword::Bool)];
+const B_WORDS: Words = &[Keyword::Bool];
 
 const C_WORDS: Words = &[
-    (b"CAL", Keyword::Cal),
-    (b"CALC", Keyword::Calc),
-    (b"CALCN", Keyword::Calcn),
-    (b"CTU", Keyword::Ctu),
-    (b"CONFIGURATION", Keyword::Configuration),
+    Keyword::Cal,
+    Keyword::Calc,
+    Keyword::Calcn,
+    Keyword::Ctu,
+    Keyword::Configuration,
 ];
 
 const D_WORDS: Words = &[
-    (b"DIV", Keyword::Div),
-    (b"DINT_TO_SINT", Keyword::DintToSint),
-    (b"DINT_TO_INT", Keyword::DintToInt),
-    (b"DINT_TO_USINT", Keyword::DintToUsint),
-    (b"DINT_TO_UINT", Keyword::DintToUint),
-    (b"DINT_TO_UDINT", Keyword::DintToUdint),
-    (b"DINT", Keyword::Dint),
-    (b"DEV_DO", Keyword::DevDo),
-    (b"DEV_SCHEME", Keyword::DevScheme),
-    (b"DEV_ASK", Keyword::DevAsk),
+    Keyword::Div,
+    Keyword::DintToSint,
+    Keyword::DintToInt,
+    Keyword::DintToUsint,
+    Keyword::DintToUint,
+    Keyword::DintToUdint,
+    Keyword::Dint,
+    Keyword::DevDo,
+    Keyword::DevScheme,
+    Keyword::DevAsk,
 ];
 
 const E_WORDS: Words = &[
-    (b"EQ", Keyword::Eq),
-    (b"END_TYPE", Keyword::EndType),
-    (b"END_FUNCTION", Keyword::EndFunction),
-    (b"END_PROGRAM", Keyword::EndProgram),
-    (b"END_VAR", Keyword::EndVar),
-    (b"END_CONFIGURATION", Keyword::EndConfiguration),
-    (b"END_RESOURCE", Keyword::EndResource),
+    Keyword::Eq,
+    Keyword::EndType,
+    Keyword::EndFunction,
+    Keyword::EndProgram,
+    Keyword::EndVar,
+    Keyword::EndConfiguration,
+    Keyword::EndResource,
 ];
 
-const F_WORDS: Words = &[(b"FALSE", Keyword::False), (b"FUNCTION", Keyword::Function)];
+const F_WORDS: Words = &[Keyword::False, Keyword::Function];
 
 const G_WORDS: Words = &[
-    (b"GT", Keyword::Gt),
-    (b"GE", Keyword::Ge),
-    (b"GEAR_LEVEL", Keyword::GearLevel),
-    (b"GEAR_DO", Keyword::GearDo),
-    (b"GEAR_SET", Keyword::GearSet),
-    (b"GEAR_PAIR", Keyword::GearPair),
-    (b"GEAR_ASK", Keyword::GearAsk),
-    (b"GEAR_READ", Keyword::GearRead),
+    Keyword::Gt,
+    Keyword::Ge,
+    Keyword::GearLevel,
+    Keyword::GearDo,
+    Keyword::GearSet,
+    Keyword::GearPair,
+    Keyword::GearAsk,
+    Keyword::GearRead,
 ];
 
 const I_WORDS: Words = &[
-    (b"INT_TO_SINT", Keyword::IntToSint),
-    (b"INT_TO_DINT", Keyword::IntToDint),
-    (b"INT_TO_USINT", Keyword::IntToUsint),
-    (b"INT_TO_UINT", Keyword::IntToUint),
-    (b"INT_TO_UDINT", Keyword::IntToUdint),
-    (b"INT", Keyword::Int),
-    (b"INTERVAL", Keyword::Interval),
+    Keyword::IntToSint,
+    Keyword::IntToDint,
+    Keyword::IntToUsint,
+    Keyword::IntToUint,
+    Keyword::IntToUdint,
+    Keyword::Int,
+    Keyword::Interval,
 ];
 
-const J_WORDS: Words = &[
-    (b"JMP", Keyword::Jmp),
-    (b"JMPC", Keyword::Jmpc),
-    (b"JMPCN", Keyword::Jmpcn),
-];
+const J_WORDS: Words = &[Keyword::Jmp, Keyword::Jmpc, Keyword::Jmpcn];
 
 const L_WORDS: Words = &[
-    (b"LD", Keyword::Ld),
-    (b"LDN", Keyword::Ldn),
-    (b"LE", Keyword::Le),
-    (b"LT", Keyword::Lt),
-    (b"LIMIT", Keyword::Limit),
+    Keyword::Ld,
+    Keyword::Ldn,
+    Keyword::Le,
+    Keyword::Lt,
+    Keyword::Limit,
 ];
 
-const M_WORDS: Words = &[
-    (b"MUL", Keyword::Mul),
-    (b"MOD", Keyword::Mod),
-    (b"MIN", Keyword::Min),
-    (b"MAX", Keyword::Max),
-];
+const M_WORDS: Words = &[Keyword::Mul, Keyword::Mod, Keyword::Min, Keyword::Max];
 
-const N_WORDS: Words = &[(b"NOT", Keyword::Not), (b"NE", Keyword::Ne)];
+const N_WORDS: Words = &[Keyword::Not, Keyword::Ne];
 
-const O_WORDS: Words = &[
-    (b"OR", Keyword::Or),
-    (b"ORN", Keyword::Orn),
-    (b"ON", Keyword::On),
-];
+const O_WORDS: Words = &[Keyword::Or, Keyword::Orn, Keyword::On];
 
-const P_WORDS: Words = &[
-    (b"PROGRAM", Keyword::Program),
-    (b"PRIORITY", Keyword::Priority),
-];
+const P_WORDS: Words = &[Keyword::Program, Keyword::Priority];
 
 const R_WORDS: Words = &[
-    (b"R", Keyword::R),
-    (b"RET", Keyword::Ret),
-    (b"RETC", Keyword::Retc),
-    (b"RETCN", Keyword::Retcn),
-    (b"R_TRIG", Keyword::RTrig),
-    (b"RESOURCE", Keyword::Resource),
+    Keyword::R,
+    Keyword::Ret,
+    Keyword::Retc,
+    Keyword::Retcn,
+    Keyword::RTrig,
+    Keyword::Resource,
 ];
 
 const S_WORDS: Words = &[
-    (b"ST", Keyword::St),
-    (b"STN", Keyword::Stn),
-    (b"S", Keyword::S),
-    (b"SUB", Keyword::Sub),
-    (b"SINT_TO_INT", Keyword::SintToInt),
-    (b"SINT_TO_DINT", Keyword::SintToDint),
-    (b"SINT_TO_USINT", Keyword::SintToUsint),
-    (b"SINT_TO_UINT", Keyword::SintToUint),
-    (b"SINT_TO_UDINT", Keyword::SintToUdint),
-    (b"SINT", Keyword::Sint),
-    (b"SINGLE", Keyword::Single),
+    Keyword::St,
+    Keyword::Stn,
+    Keyword::S,
+    Keyword::Sub,
+    Keyword::SintToInt,
+    Keyword::SintToDint,
+    Keyword::SintToUsint,
+    Keyword::SintToUint,
+    Keyword::SintToUdint,
+    Keyword::Sint,
+    Keyword::Single,
 ];
 
 const T_WORDS: Words = &[
-    (b"TIME", Keyword::Time),
-    (b"TON", Keyword::Ton),
-    (b"TRUE", Keyword::True),
-    (b"TYPE", Keyword::Type),
-    (b"TASK", Keyword::Task),
+    Keyword::Time,
+    Keyword::Ton,
+    Keyword::True,
+    Keyword::Type,
+    Keyword::Task,
 ];
 
 const U_WORDS: Words = &[
-    (b"USINT_TO_SINT", Keyword::UsintToSint),
-    (b"USINT_TO_INT", Keyword::UsintToInt),
-    (b"USINT_TO_DINT", Keyword::UsintToDint),
-    (b"USINT_TO_UINT", Keyword::UsintToUint),
-    (b"USINT_TO_UDINT", Keyword::UsintToUdint),
-    (b"UINT_TO_SINT", Keyword::UintToSint),
-    (b"UINT_TO_INT", Keyword::UintToInt),
-    (b"UINT_TO_DINT", Keyword::UintToDint),
-    (b"UINT_TO_USINT", Keyword::UintToUsint),
-    (b"UINT_TO_UDINT", Keyword::UintToUdint),
-    (b"UDINT_TO_SINT", Keyword::UdintToSint),
-    (b"UDINT_TO_INT", Keyword::UdintToInt),
-    (b"UDINT_TO_DINT", Keyword::UdintToDint),
-    (b"UDINT_TO_USINT", Keyword::UdintToUsint),
-    (b"UDINT_TO_UINT", Keyword::UdintToUint),
-    (b"USINT", Keyword::Usint),
-    (b"UINT", Keyword::Uint),
-    (b"UDINT", Keyword::Udint),
+    Keyword::UsintToSint,
+    Keyword::UsintToInt,
+    Keyword::UsintToDint,
+    Keyword::UsintToUint,
+    Keyword::UsintToUdint,
+    Keyword::UintToSint,
+    Keyword::UintToInt,
+    Keyword::UintToDint,
+    Keyword::UintToUsint,
+    Keyword::UintToUdint,
+    Keyword::UdintToSint,
+    Keyword::UdintToInt,
+    Keyword::UdintToDint,
+    Keyword::UdintToUsint,
+    Keyword::UdintToUint,
+    Keyword::Usint,
+    Keyword::Uint,
+    Keyword::Udint,
 ];
 
 const V_WORDS: Words = &[
-    (b"VAR", Keyword::Var),
-    (b"VAR_INPUT", Keyword::VarInput),
-    (b"VAR_EXTERNAL", Keyword::VarExternal),
-    (b"VAR_GLOBAL", Keyword::VarGlobal),
+    Keyword::Var,
+    Keyword::VarInput,
+    Keyword::VarExternal,
+    Keyword::VarGlobal,
 ];
 
-const W_WORDS: Words = &[(b"WITH", Keyword::With)];
+const W_WORDS: Words = &[Keyword::With];
 
-const X_WORDS: Words = &[(b"XOR", Keyword::Xor), (b"XORN", Keyword::Xorn)];
+const X_WORDS: Words = &[Keyword::Xor, Keyword::Xorn];
 
 /// The reserved words that begin with a letter, which is given in lower case.
 #[tactic(auto, unfolding(crate::specs::KeywordSteps::words_by, crate::specs::KeywordSteps::word_rows))]
@@ -333,12 +317,12 @@ fn is_alike(one: &[u8], other: &[u8]) -> bool
 }
 
 /// The word that the table has for `text`.
-fn lookup(mut table: &[(&[u8], Keyword)], text: &[u8]) -> Option<Keyword>
-    ensures { result ≡ lookup (map (λ k. (k.0.now, k.1)) table.entry.now) text.now }
+fn lookup(mut table: &[Keyword], text: &[u8]) -> Option<Keyword>
+    ensures { result ≡ lookup (map row_of table.entry.now) text.now }
 {
-    'table: while let [entry, rest @ ..] = table {
-        if is_alike(entry.0, text) {
-            return Some(entry.1);
+    'table: while let [word, rest @ ..] = table {
+        if is_alike(word.spelling().as_bytes(), text) {
+            return Some(*word);
         }
         table = rest;
     }

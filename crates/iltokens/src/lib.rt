@@ -24,14 +24,18 @@ mod blanks;
 mod digits;
 mod front;
 mod keyword;
+mod keyword_group;
 mod lexed;
 mod lexer;
 mod number;
 mod read_error;
+mod spelled_words;
 mod spelling;
 mod time;
 
 pub use keyword::{Keyword, keyword_of};
+pub use keyword_group::KeywordGroup;
 pub use lexed::{AddressKind, Delimiter, Lexed, LexicalCause, What};
 pub use lexer::token;
 pub use read_error::ReadError;
+pub use spelled_words::keywords;
