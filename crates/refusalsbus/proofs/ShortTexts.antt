@@ -1,13 +1,14 @@
 -- Texts that are too short for what a line is to say.
-use Rattle.std.proofs.Common.{◌≡◌, ◌∙◌, ◌<◌, ◌≤◌, ℕ, List, [], ◌++◌, length, codes, Option, Some, None, Result, Ok, Err}
-use Rattle.std.proofs.Common.{IfOk, false, inl, inr, refl, sym, ap, arith, length-append, is_ok}
-use Rattle.std.specs.Fmt.{decimal}
+use Rattle.std.proofs.Common.{◌≡◌, ◌∙◌, ◌<◌, ◌≤◌, ℕ, List, [], ◌∷◌, ◌++◌, length, codes, slice_index_or}
+use Rattle.std.proofs.Common.{Option, Some, None, Result, Ok, Err, IfOk, false, inl, inr, refl, sym, ap, arith}
+use Rattle.std.proofs.Common.{length-append, is_ok}
+use Rattle.std.specs.Fmt.{decimal, digits}
 use Rattle.std.specs.Io.KnownBytes.{Appends, Consumes}
 use Rattle.std.proofs.KnownBytes.{Appends-trans}
 use Rattle.buslink.specs.declared.marks.Reply.{Reply}
 use Rattle.buslink.specs.declared.marks.Reply.TheVariants.{Quiet, Answer, Damaged, Lost}
 use Rattle.liveline.specs.Exchanges.{IsExchange, LineState}
-use Rattle.liveline.specs.Greetings.{Ends, IsGreeted, ended, ends}
+use Rattle.liveline.specs.Greetings.{Ends, IsGreeted, ended}
 use Rattle.liveline.specs.Lines.{IsMessage, IsReply, fault_line, greeting, hear_line, line_end}
 use Rattle.liveline.specs.Lines.{numbered_answer, numbered_greeting}
 
@@ -94,6 +95,70 @@ pub no_greeting : {E : Type 0} (given : Result Ends E) (old : Ends) (text : List
     → length text < 16 → IfOk given (λ greeted. IsGreeted 7 old greeted) → is_ok given ≡ false
 no_greeting (Err fault) old text is short greeted = refl
 no_greeting (Ok new) old text is short greeted = absurd (too_short text old new is short greeted)
+
+-- ---- the answer to the greeting 9
+
+-- no refusal in it has room for a greeting behind
+no_refusal : (before rest : List ℕ) → codes "gushewa 2 hears 9\n" ≡ (before ++ (fault_line ++ line_end)) ++ rest
+    → length rest < 10
+no_refusal [] rest are =
+    let same : 103 ≡ 102 = ap (λ (bytes : List ℕ). slice_index_or bytes 0 0) are in absurd (omega (arith, same))
+no_refusal (a ∷ []) rest are =
+    let same : 117 ≡ 102 = ap (λ (bytes : List ℕ). slice_index_or bytes 1 0) are in absurd (omega (arith, same))
+no_refusal (a ∷ b ∷ []) rest are =
+    let same : 115 ≡ 102 = ap (λ (bytes : List ℕ). slice_index_or bytes 2 0) are in absurd (omega (arith, same))
+no_refusal (a ∷ b ∷ c ∷ more) rest are =
+    omega (
+      arith,
+      ap length are,
+      length-append (more ++ (fault_line ++ line_end)) rest,
+      length-append more (fault_line ++ line_end),
+    )
+
+two_digits : length (decimal 10) ≡ 2
+unfolding digits
+two_digits = refl
+
+-- it does not let the line be greeted by 10, to which the answer is longer
+too_late : (old new : Ends) → old.unread ≡ Some (codes "gushewa 2 hears 9\n") → ¬ IsGreeted 10 old new
+too_late old new is (inl greeted) =
+    let text = codes "gushewa 2 hears 9\n" in
+    let answer = greeted.answer in
+    let bytes = numbered_answer 10 ++ line_end in
+    let read = begin_by old.unread new.unread text (ended answer.passed ++ bytes) is answer.read in
+    omega (
+      arith,
+      ap length read.are,
+      length-append (ended answer.passed ++ bytes) read.rest,
+      length-append (ended answer.passed) bytes,
+      length-append (numbered_answer 10) line_end,
+      length-append (codes "gushewa 2 hears ") (decimal 10),
+      two_digits,
+    )
+too_late old new is (inr greeted) =
+    let text = codes "gushewa 2 hears 9\n" in
+    let refusal = greeted.refusal in
+    let bytes = ended refusal.passed ++ (fault_line ++ line_end) in
+    let first = begin_by old.unread greeted.refused text bytes is refusal.read in
+    let few = no_refusal (ended refusal.passed) first.rest first.are in
+    let away = begin_by greeted.refused greeted.silent first.rest greeted.read_away.0 first.is greeted.read_away.1 in
+    let last = begin_by greeted.silent new.unread away.rest (greeting ++ line_end) away.is greeted.plain_answer in
+    omega (
+      arith,
+      few,
+      ap length away.are,
+      length-append greeted.read_away.0 away.rest,
+      ap length last.are,
+      length-append (greeting ++ line_end) last.rest,
+    )
+
+pub no_late_greeting : {E : Type 0} (given : Result Ends E) (old : Ends)
+    → old.unread ≡ Some (codes "gushewa 2 hears 9\n") → IfOk given (λ greeted. IsGreeted 10 old greeted)
+    → is_ok given ≡ false
+no_late_greeting (Err fault) old is greeted = refl
+no_late_greeting (Ok new) old is greeted = absurd (too_late old new is greeted)
+
+-- ---- a greeting in version 1
 
 -- a text that is shorter than the answer to the greeting lets the line be greeted in version 1 alone
 pub said_plainly : (text : List ℕ) (old new : Ends) → old.unread ≡ Some text → length text < 17 → IsGreeted 7 old new

@@ -187,3 +187,11 @@ pub fn refused_greeting_is_said_plainly<R: Read + Drop, W: Write + Drop>(
 {
     Greeted::greet(from, to, 7)
 }
+
+/// `a_late_answer_is_the_greeting`: the answer to the greeting before was the answer to this one.
+pub fn late_answer_is_no_greeting<R: Read + Drop, W: Write + Drop>(from: R, to: W) -> bool
+    requires { R.remaining from ≡ Some (codes "gushewa 2 hears 9\n") }
+    ensures { result ≡ false }
+{
+    Greeted::greet(from, to, 10).is_ok()
+}
