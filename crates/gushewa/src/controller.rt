@@ -72,8 +72,9 @@ impl<B: Drop> Controller<B> {
 }
 
 impl<B: Bus> Controller<B> {
-    ghost use Rattle.std.specs.Prelude.{◌≡◌, map, IfErr, OnOk};
+    ghost use Rattle.std.specs.Prelude.{◌≡◌, IfErr, OnOk};
     ghost use Rattle.plantdriving.specs.Driven.{CannotGoOn, IsDriven, IsHeardFirst, IsInOrder};
+    ghost use Rattle.plantdriving.specs.Links.{logs};
     ghost use Rattle.plantdriving.specs.Quiet.{IsQuiet};
     ghost use Rattle.plantdriving.specs.Tellings.{TellsEach};
     ghost use Rattle.plantdriving.specs.Ticks.{TicksAt};
@@ -101,13 +102,13 @@ impl<B: Bus> Controller<B> {
     ///
     /// The history is full, the allocator is out of memory, or the observer failed.
     pub fn settle<O: Observer<B>>(&mut self, alloc: Global, observer: &mut O) -> Result<(), Halt>
-        ensures driven { IsDriven self.old.plant self.new.plant (map B.log self.old.buses.items)
-            (map B.log self.new.buses.items) }
+        ensures driven { IsDriven self.old.plant self.new.plant (logs B.log self.old.buses)
+            (logs B.log self.new.buses) }
         ensures order { IsInOrder self.old.plant self.new.plant }
         ensures heard { OnOk result (IsHeardFirst self.old.plant self.new.plant
-            (map B.log self.old.buses.items) (map B.log self.new.buses.items)) }
-        ensures quiet { OnOk result (IsQuiet self.new.plant (map B.log self.old.buses.items)
-            (map B.log self.new.buses.items)) }
+            (logs B.log self.old.buses) (logs B.log self.new.buses)) }
+        ensures quiet { OnOk result (IsQuiet self.new.plant (logs B.log self.old.buses)
+            (logs B.log self.new.buses)) }
         ensures stops { IfErr result (CannotGoOn self.new.plant) }
         ensures told { TellsEach self.old.plant self.new.plant (O.told observer.old)
             (O.told observer.new) result }

@@ -1,7 +1,7 @@
 -- What went over a link goes with a history: each bus sent the attempts of its reports, and the history has what was
 -- heard there (IEC 62386-101, and profile).
 use Rattle.std.specs.Prelude.{◌≡◌, ◌⊎◌, ℕ, zero, suc, ◌-◌, ◌^◌, ◌<◌, ◌≤◌, min, List, ◌++◌, None}
-use Rattle.std.specs.Prelude.{slice_index_or}
+use Rattle.std.specs.Prelude.{Vec, map, slice_index_or}
 use Rattle.buslink.specs.BusLog.{BusLog, IsSameBus, new_log, one_more}
 use Rattle.buslink.specs.Each.{Each}
 use Rattle.plantevents.specs.declared.event.Event.{Event}
@@ -15,6 +15,10 @@ no_frame = new_log 0 None
 -- the log of a bus among these
 abbrev pub log_of : List BusLog → ℕ → BusLog
 log_of logs bus = slice_index_or logs bus no_frame
+
+-- the logs of the buses that these lines lead to, by the log that a line has
+abbrev pub logs : {B Z : Type 0} → (B → BusLog) → Vec B Z → List BusLog
+logs log lines = map log lines.items
 
 -- a count after so many more, modulo 2^64
 abbrev pub so_many_more : ℕ → ℕ → ℕ

@@ -1,7 +1,8 @@
 //! A plant with nothing open.
 
-ghost use Rattle.std.specs.Prelude.{◌≡◌, ◌<◌, IfErr, OnOk, map, vec_len};
+ghost use Rattle.std.specs.Prelude.{◌≡◌, ◌<◌, IfErr, OnOk, vec_len};
 ghost use Rattle.plantdriving.specs.Driven.{CannotGoOn, IsDriven, IsHeardFirst, IsInOrder};
+ghost use Rattle.plantdriving.specs.Links.{logs};
 ghost use Rattle.plantdriving.specs.Open.{HasNothingOpen};
 ghost use Rattle.plantdriving.specs.Quiet.{IsQuiet};
 ghost use Rattle.plantdriving.specs.Tellings.{TellsEach};
@@ -83,13 +84,12 @@ impl IdlePlant {
     ) -> Result<(), Halt>
         requires workers { 0 < self.old.plant.workers }
         requires count { vec_len lines.old ≡ self.old.plant.plan.buses }
-        ensures driven { IsDriven self.old self.new (map B.log lines.old.items)
-            (map B.log lines.new.items) }
+        ensures driven { IsDriven self.old self.new (logs B.log lines.old) (logs B.log lines.new) }
         ensures order { IsInOrder self.old self.new }
-        ensures heard { OnOk result (IsHeardFirst self.old self.new (map B.log lines.old.items)
-            (map B.log lines.new.items)) }
+        ensures heard { OnOk result (IsHeardFirst self.old self.new (logs B.log lines.old)
+            (logs B.log lines.new)) }
         ensures quiet { OnOk result
-            (IsQuiet self.new (map B.log lines.old.items) (map B.log lines.new.items)) }
+            (IsQuiet self.new (logs B.log lines.old) (logs B.log lines.new)) }
         ensures stops { IfErr result (CannotGoOn self.new) }
         ensures told { TellsEach self.old self.new (O.told observer.old) (O.told observer.new)
             result }

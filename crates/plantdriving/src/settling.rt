@@ -1,8 +1,8 @@
 //! Turns until nothing is left to do.
 
-ghost use Rattle.std.specs.Prelude.{◌≡◌, ◌≢◌, ℕ, ◌+◌, ◌<◌, map, vec_len, IfErr, OnOk};
+ghost use Rattle.std.specs.Prelude.{◌≡◌, ◌≢◌, ℕ, ◌+◌, ◌<◌, vec_len, IfErr, OnOk};
 ghost use Rattle.plantdriving.specs.Driven.{CannotGoOn, IsDriven, IsHeard, IsHeardFirst, IsInOrder};
-ghost use Rattle.plantdriving.specs.Links.{log_of};
+ghost use Rattle.plantdriving.specs.Links.{log_of, logs};
 ghost use Rattle.plantdriving.specs.Open.{HasNothingOpen};
 ghost use Rattle.plantdriving.specs.Order.{scans_at, sends_at};
 ghost use Rattle.plantdriving.specs.Quiet.{HasNoFrame, HasNoHandout, IsQuiet};
@@ -25,13 +25,12 @@ fn hear_at<B: Bus, O: Observer<B>>(
 ) -> Result<(), Halt>
     requires known { bus < plant.old.plant.plan.buses }
     requires count { vec_len lines.old ≡ plant.old.plant.plan.buses }
-    ensures driven { IsDriven plant.old plant.new (map B.log lines.old.items)
-        (map B.log lines.new.items) }
+    ensures driven { IsDriven plant.old plant.new (logs B.log lines.old) (logs B.log lines.new) }
     ensures only { IsHearing bus plant.old plant.new }
-    ensures others { (b : ℕ) → b ≢ bus → log_of (map B.log lines.new.items) b
-        ≡ log_of (map B.log lines.old.items) b }
+    ensures others { (b : ℕ) → b ≢ bus → log_of (logs B.log lines.new) b
+        ≡ log_of (logs B.log lines.old) b }
     ensures silent { OnOk result (HasNoFrame plant.new bus
-        (log_of (map B.log lines.old.items) bus) (log_of (map B.log lines.new.items) bus)) }
+        (log_of (logs B.log lines.old) bus) (log_of (logs B.log lines.new) bus)) }
     ensures stops { IfErr result (CannotGoOn plant.new) }
     ensures told { TellsEach plant.old plant.new (O.told observer.old) (O.told observer.new)
         result }
@@ -46,10 +45,9 @@ fn hear_buses<B: Bus, O: Observer<B>>(
     observer: &mut O,
 ) -> Result<(), Halt>
     requires count { vec_len lines.old ≡ plant.old.plant.plan.buses }
-    ensures driven { IsDriven plant.old plant.new (map B.log lines.old.items)
-        (map B.log lines.new.items) }
-    ensures heard { OnOk result (IsHeard plant.old plant.new (map B.log lines.old.items)
-        (map B.log lines.new.items)) }
+    ensures driven { IsDriven plant.old plant.new (logs B.log lines.old) (logs B.log lines.new) }
+    ensures heard { OnOk result (IsHeard plant.old plant.new (logs B.log lines.old)
+        (logs B.log lines.new)) }
     ensures order { AreHeardInOrder plant.old plant.new }
     ensures stops { IfErr result (CannotGoOn plant.new) }
     ensures told { TellsEach plant.old plant.new (O.told observer.old) (O.told observer.new)
@@ -72,13 +70,12 @@ fn turn_at<B: Bus, O: Observer<B>>(
     requires known { bus < plant.old.plant.plan.buses }
     requires count { vec_len lines.old ≡ plant.old.plant.plan.buses }
     requires open { HasNothingOpen plant.old }
-    ensures driven { IsDriven plant.old plant.new (map B.log lines.old.items)
-        (map B.log lines.new.items) }
-    ensures others { (b : ℕ) → b ≢ bus → log_of (map B.log lines.new.items) b
-        ≡ log_of (map B.log lines.old.items) b }
+    ensures driven { IsDriven plant.old plant.new (logs B.log lines.old) (logs B.log lines.new) }
+    ensures others { (b : ℕ) → b ≢ bus → log_of (logs B.log lines.new) b
+        ≡ log_of (logs B.log lines.old) b }
     ensures turn { Tells plant.old plant.new (HasNoHandout plant.old bus
-        × HasNoFrame plant.old bus (log_of (map B.log lines.old.items) bus)
-        (log_of (map B.log lines.new.items) bus)) result }
+        × HasNoFrame plant.old bus (log_of (logs B.log lines.old) bus)
+        (log_of (logs B.log lines.new) bus)) result }
     ensures goes_on { GoesTo (sends_at bus) (sends_at (bus + 1)) plant.old plant.new result }
     ensures stops { IfErr result (CannotGoOn plant.new) }
     ensures told { TellsEach plant.old plant.new (O.told observer.old) (O.told observer.new)
@@ -95,10 +92,9 @@ fn turn_all<B: Bus, O: Observer<B>>(
 ) -> Result<bool, Halt>
     requires count { vec_len lines.old ≡ plant.old.plant.plan.buses }
     requires open { HasNothingOpen plant.old }
-    ensures driven { IsDriven plant.old plant.new (map B.log lines.old.items)
-        (map B.log lines.new.items) }
+    ensures driven { IsDriven plant.old plant.new (logs B.log lines.old) (logs B.log lines.new) }
     ensures turn { Tells plant.old plant.new
-        (AreQuiet plant.old (map B.log lines.old.items) (map B.log lines.new.items)
+        (AreQuiet plant.old (logs B.log lines.old) (logs B.log lines.new)
         plant.old.plant.plan.buses) result }
     ensures goes_on { GoesTo (sends_at 0) (sends_at plant.old.plant.plan.buses)
         plant.old plant.new result }
@@ -126,10 +122,9 @@ fn round<B: Bus, O: Observer<B>>(
     requires workers { 0 < plant.old.plant.workers }
     requires count { vec_len lines.old ≡ plant.old.plant.plan.buses }
     requires open { HasNothingOpen plant.old }
-    ensures driven { IsDriven plant.old plant.new (map B.log lines.old.items)
-        (map B.log lines.new.items) }
+    ensures driven { IsDriven plant.old plant.new (logs B.log lines.old) (logs B.log lines.new) }
     ensures turn { Tells plant.old plant.new
-        (IsQuiet plant.new (map B.log lines.old.items) (map B.log lines.new.items)) result }
+        (IsQuiet plant.new (logs B.log lines.old) (logs B.log lines.new)) result }
     ensures goes_on { GoesTo scans_at scans_at plant.old plant.new result }
     ensures stops { IfErr result (CannotGoOn plant.new) }
     ensures told { TellsEach plant.old plant.new (O.told observer.old) (O.told observer.new)
@@ -150,10 +145,8 @@ fn finish<B: Bus, O: Observer<B>>(
     requires workers { 0 < plant.old.plant.workers }
     requires count { vec_len lines.old ≡ plant.old.plant.plan.buses }
     requires open { HasNothingOpen plant.old }
-    ensures driven { IsDriven plant.old plant.new (map B.log lines.old.items)
-        (map B.log lines.new.items) }
-    ensures quiet { OnOk result
-        (IsQuiet plant.new (map B.log lines.old.items) (map B.log lines.new.items)) }
+    ensures driven { IsDriven plant.old plant.new (logs B.log lines.old) (logs B.log lines.new) }
+    ensures quiet { OnOk result (IsQuiet plant.new (logs B.log lines.old) (logs B.log lines.new)) }
     ensures goes_on { GoesTo scans_at scans_at plant.old plant.new result }
     ensures stops { IfErr result (CannotGoOn plant.new) }
     ensures told { TellsEach plant.old plant.new (O.told observer.old) (O.told observer.new)
@@ -188,13 +181,11 @@ pub fn settle<B: Bus, O: Observer<B>>(
     requires workers { 0 < plant.old.plant.workers }
     requires count { vec_len lines.old ≡ plant.old.plant.plan.buses }
     requires open { HasNothingOpen plant.old }
-    ensures driven { IsDriven plant.old plant.new (map B.log lines.old.items)
-        (map B.log lines.new.items) }
+    ensures driven { IsDriven plant.old plant.new (logs B.log lines.old) (logs B.log lines.new) }
     ensures order { IsInOrder plant.old plant.new }
-    ensures heard { OnOk result (IsHeardFirst plant.old plant.new (map B.log lines.old.items)
-        (map B.log lines.new.items)) }
-    ensures quiet { OnOk result
-        (IsQuiet plant.new (map B.log lines.old.items) (map B.log lines.new.items)) }
+    ensures heard { OnOk result (IsHeardFirst plant.old plant.new (logs B.log lines.old)
+        (logs B.log lines.new)) }
+    ensures quiet { OnOk result (IsQuiet plant.new (logs B.log lines.old) (logs B.log lines.new)) }
     ensures stops { IfErr result (CannotGoOn plant.new) }
     ensures told { TellsEach plant.old plant.new (O.told observer.old) (O.told observer.new)
         result }

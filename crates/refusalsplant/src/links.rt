@@ -1,9 +1,9 @@
 //! What is sent and heard on buses, and what the history says of that.
 
 ghost use Rattle.std.specs.Prelude.{◌≡◌, ℕ, ◌<◌, ◌++◌, [], ◌∷◌, Err, IfOk, List, OnOk, false, length};
-ghost use Rattle.std.specs.Prelude.{map, true, vec_len};
+ghost use Rattle.std.specs.Prelude.{true, vec_len};
 ghost use Rattle.buslink.specs.BusLog.{HasHeardAll, one_more};
-ghost use Rattle.plantdriving.specs.Links.{AreLinked, log_of};
+ghost use Rattle.plantdriving.specs.Links.{AreLinked, log_of, logs};
 ghost use Rattle.plantdriving.specs.Open.{HasNothingOpen};
 ghost use Rattle.plantdriving.specs.Order.{with_events};
 ghost use Rattle.plantdriving.specs.Quiet.{HasNoHandout, HasNoScan};
@@ -99,7 +99,7 @@ pub fn bus_is_heard_to_its_end<B: Bus, O: Observer<B>>(
     requires count { vec_len lines.old ≡ plant.old.plant.plan.buses }
     requires open { HasNothingOpen plant.old }
     ensures { IfOk result (λ down. down ≡ false
-        → (log_of (map B.log lines.new.items) 0).heard_none ≡ true) }
+        → (log_of (logs B.log lines.new) 0).heard_none ≡ true) }
 {
     settle(alloc, plant, lines, observer)?;
     Ok(plant.is_down(0))
@@ -118,10 +118,9 @@ pub fn heard_frames_are_in_the_history<B: Bus, O: Observer<B>>(
     requires workers { 0 < plant.old.plant.workers }
     requires count { vec_len lines.old ≡ plant.old.plant.plan.buses }
     requires open { HasNothingOpen plant.old }
-    requires linked { AreLinked (map B.log firsts.now.items) plant.old.history (map B.log lines.old.items) }
-    requires none { (log_of (map B.log firsts.now.items) 0).heard ≡ [] }
-    ensures { IfOk result (λ heards.
-        heards ≡ length (log_of (map B.log lines.new.items) 0).heard) }
+    requires linked { AreLinked (logs B.log firsts.now) plant.old.history (logs B.log lines.old) }
+    requires none { (log_of (logs B.log firsts.now) 0).heard ≡ [] }
+    ensures { IfOk result (λ heards. heards ≡ length (log_of (logs B.log lines.new) 0).heard) }
 {
     what_is_counted();
     settle(alloc, plant, lines, observer)?;
@@ -154,9 +153,9 @@ pub fn bus_0_is_heard_first<B: Bus, O: Observer<B>>(
     requires workers { 0 < plant.old.plant.workers }
     requires count { vec_len lines.old ≡ plant.old.plant.plan.buses }
     requires open { HasNothingOpen plant.old }
-    requires linked { AreLinked (map B.log firsts.now.items) plant.old.history (map B.log lines.old.items) }
+    requires linked { AreLinked (logs B.log firsts.now) plant.old.history (logs B.log lines.old) }
     requires up { is_down 0 plant.old.history ≡ false }
-    requires comes { ¬ HasHeardAll (log_of (map B.log lines.old.items) 0) }
+    requires comes { ¬ HasHeardAll (log_of (logs B.log lines.old) 0) }
     ensures { OnOk result ((e : Event) (later : List Event)
         → plant.new.history ≡ later ++ e ∷ plant.old.history → IsOfHearing 0 e) }
 {
