@@ -10,7 +10,7 @@ use crate::live_status::status_of_live_stop;
 use crate::lived::LiveLeft;
 use buslink::{Bus, Clock};
 use commandfiles::{
-    Beginning, Disk, ExitStatus, FileKind, KeptNote, ReadFiles, Stop, Unserved, beginning_of,
+    Beginning, Disk, ExitStatus, FileRole, KeptNote, ReadFiles, Stop, Unserved, beginning_of,
     bytes_at, hint_of, kept_at,
 };
 use commandoptions::{LineWord, LiveFiles, LiveOptions};
@@ -152,7 +152,7 @@ pub fn serve_live<
 /// Tells which file has a fault, where one has.
 fn hint<N: Notice>(alloc: Global, notice: &N, files: LiveFiles, pages: &LivePages, stop: &Stop) {
     let read = ReadFiles::of_building(files, &pages.binding, &pages.text);
-    let Some(place) = FileKind::of_stop(stop) else {
+    let Some(place) = FileRole::of_stop(stop) else {
         return;
     };
     if let Some(hint) = hint_of(alloc, read, place) {

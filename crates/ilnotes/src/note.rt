@@ -3,8 +3,8 @@
 ghost use Rattle.std.specs.Prelude.{◌≡◌, IsSomeAnd, Some, slice_get};
 ghost use Rattle.ilnotes.specs.Said.{IsOn};
 
-use crate::Driven;
 use crate::kinds::{Kind, Rule};
+use crate::levels::LevelTarget;
 use ilblocks::BlockKind;
 use ilcode::Word;
 use ilsource::Name;
@@ -27,7 +27,7 @@ pub(crate) enum Found {
     Value(Value),
     /// A number of frames in a second, in tenths.
     Tenths(i64),
-    LevelTarget(LevelTarget),
+    Driven(LevelTarget),
     /// The control device with this short address.
     Device(LevelTarget),
     Source { bus: u8, source: u8 },
