@@ -48,6 +48,21 @@ class Pty:
             self.unplug()
 
 
+class Cooked(Pty):
+    """A pseudo terminal that comes as a serial adapter does when it is plugged in: it changes bytes, and sends back what it
+    reads. What finds no room on the line is lost."""
+
+    def plug(self):
+        self.left = b""
+        self.ours, self.theirs = os.openpty()
+        os.set_blocking(self.ours, False)
+        os.symlink(os.ttyname(self.theirs), self.path)
+
+    def write(self, answer):
+        with contextlib.suppress(BlockingIOError):
+            os.write(self.ours, answer)
+
+
 class Fifos:
     """The interface's end of two FIFOs. Both are opened for reading and writing, which never waits."""
 

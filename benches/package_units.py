@@ -10,6 +10,7 @@ device that is there is not set.
 
 from __future__ import annotations
 
+import fnmatch
 import os
 import pathlib
 import pty
@@ -34,8 +35,9 @@ def settings_of(path: pathlib.Path) -> Dict[str, str]:
 class Unit:
     """A unit of systemd, whose folders are below a root of its own."""
 
-    def __init__(self, path: pathlib.Path, root: pathlib.Path) -> None:
+    def __init__(self, path: pathlib.Path, root: pathlib.Path, instance: str = "") -> None:
         text = path.read_text().replace("\\\n", " ")
+        self.instance = instance
         self.options = [line.split("=", 1) for line in text.splitlines() if re.match("[A-Z][A-Za-z]+=", line)]
         self.root = root
         for name in self.of("RuntimeDirectory"):
@@ -47,7 +49,8 @@ class Unit:
 
     def words(self, line: str, settings: Dict[str, str]) -> List[str]:
         """The words of a command line: specifiers first, then quotes, then variables."""
-        line = re.sub("%([tSE])", lambda it: str(self.root / FOLDERS[it[1]]), line).replace("%%", "%")
+        line = re.sub("%([tSE])", lambda it: str(self.root / FOLDERS[it[1]]), line)
+        line = line.replace("%I", self.instance.replace("-", "/")).replace("%%", "%")
         words: List[str] = []
         for word in shlex.split(line):
             whole = re.fullmatch(r"\$([A-Z_]+)", word)
@@ -59,12 +62,27 @@ class Unit:
 
     def starts(self, settings: Dict[str, str]) -> bool:
         """Whether systemd would come to ExecStart, once the lines ExecStartPre ran."""
-        for line in self.of("ExecStartPre"):
-            ran = subprocess.run(self.words(line.lstrip("-"), settings), env={**os.environ, **settings})
-            if ran.returncode and not line.startswith("-"):
-                print(f"status {ran.returncode}, and so no start: {line}")
-                return False
+        return all(self.runs(line, settings) for line in self.of("ExecStartPre"))
+
+    def runs(self, line: str, settings: Dict[str, str]) -> bool:
+        """Runs a command line. Whether it ends well, or may end otherwise, since it begins with `-`."""
+        ran = subprocess.run(self.words(line.lstrip("-"), settings), env={**os.environ, **settings})
+        if ran.returncode and not line.startswith("-"):
+            print(f"status {ran.returncode}, and so no start: {line}")
+            return False
         return True
+
+
+def wanted_of(rules: pathlib.Path, event: Dict[str, str]) -> List[str]:
+    """The units that the rules of a file for udev have started at an event, as where a device was plugged in."""
+    wanted: List[str] = []
+    for line in rules.read_text().replace("\\\n", " ").splitlines():
+        parts = re.findall(r'([A-Z_]+(?:\{\w+\})?)\s*(==|\+=|=)\s*"([^"]*)"', "" if line.startswith("#") else line)
+        asked = [(event.get(key, ""), value.split("|")) for key, mark, value in parts if mark == "=="]
+        if all(any(fnmatch.fnmatchcase(of_event, it) for it in values) for of_event, values in asked):
+            units = [value for key, mark, value in parts if mark != "==" and key == "ENV{SYSTEMD_WANTS}"]
+            wanted += [unit.replace("%k", event["KERNEL"]) for unit in units]
+    return wanted
 
 
 def is_set(device: int) -> bool:
