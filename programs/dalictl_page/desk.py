@@ -11,14 +11,14 @@ import socket
 import subprocess
 import sys
 import time
-from typing import Callable, Dict, List, NoReturn, Optional, Tuple, Union
+from typing import List, NoReturn, Optional, Tuple
 
 from gushewa_line.ends import end_in_order
 
 from .channel import Channel, Sight
-from .wires import READ, WRITE, Wire
+from .watched import Watched
+from .wires import READ, WRITE
 
-LOOK_SECONDS = 0.2
 RESTART_SECONDS = 5.0
 START_SECONDS = 120.0
 READY = "ready"
@@ -62,19 +62,12 @@ class Browser:
         self.channel, self.process = None, None
 
 
-class Desk:
+class Desk(Watched):
     """All lines, and the browser's process."""
 
     def __init__(self, lines: List[Tuple[str, str]], command: List[str]) -> None:
-        """`lines` has the path of each bus's interface, and the link for the controller."""
-        self.wires = [Wire(path, link, self.telling(bus)) for bus, (path, link) in enumerate(lines)]
         self.browser = Browser(command)
-        self.selector = selectors.DefaultSelector()
-        self.watched: Dict[Union[Wire, Browser], Dict[int, int]] = {}
-        self.looked, self.second = 0.0, 0
-
-    def telling(self, bus: int) -> Callable[[str, str], None]:
-        return lambda way, text: self.say(bus, way, text)
+        super().__init__(lines)
 
     def say(self, bus: int, way: str, text: str) -> None:
         if self.browser.channel:
@@ -95,37 +88,18 @@ class Desk:
             self.browser.drop()
 
     def turn(self) -> None:
-        for key, mask in self.selector.select(LOOK_SECONDS):
-            if isinstance(key.data, Wire):
-                key.data.serve(key.fd, mask)
-                self.watch(key.data, key.data.interests())
-            else:
-                self.hear_browser()
-        if time.monotonic() - self.looked >= LOOK_SECONDS:
-            self.look()
+        super().turn()
         self.flush()
 
-    def watch(self, whose: Union[Wire, Browser], wanted: Dict[int, int]) -> None:
-        """Watches these files, and no other ones, for somebody."""
-        before = self.watched.get(whose, {})
-        if before != wanted:
-            for file in before:  # some may be closed already
-                self.selector.unregister(file)
-            for file, mask in wanted.items():
-                self.selector.register(file, mask, whose)
-            self.watched[whose] = wanted
+    def meet(self, key: selectors.SelectorKey, mask: int) -> None:
+        if key.data is self.browser:
+            self.hear_browser()
+        else:
+            super().meet(key, mask)
 
     def look(self) -> None:
-        """What is done now and then: opens lines, says what they are like, starts the browser's process."""
-        self.looked = time.monotonic()
-        is_second = int(self.looked) != self.second
-        self.second = int(self.looked)
-        for bus, wire in enumerate(self.wires):
-            wire.try_to_open()
-            self.watch(wire, wire.interests())
-            if is_second:
-                requests, waits = wire.look()
-                self.say(bus, "~", f"{requests} {waits}")
+        """Looks at the lines, and starts the browser's process where it has ended."""
+        super().look()
         if self.browser.channel and self.browser.channel.dropped:
             print(
                 f"page.py: the page reads too slowly: {self.browser.channel.dropped} lines are not shown",
