@@ -2,6 +2,8 @@
 bench that runs the program, compares and counts what is otherwise."""
 import itertools, os, subprocess, time
 
+from waiting import wait_for
+
 HERE = os.path.dirname(os.path.dirname(os.path.abspath(__file__)))
 TEXT, BIND = f"{HERE}/examples/first-house/hall.il", f"{HERE}/examples/first-house/hall.bind"
 BUTTON = "048402"
@@ -34,16 +36,6 @@ class Interface:
 NUMBERS = itertools.count()
 
 
-def eventually(holds, seconds=600):
-    """Whether this holds before so many seconds are over; it is waited for no longer than needed."""
-    end = time.monotonic() + seconds
-    while not holds():
-        if time.monotonic() > end:
-            return False
-        time.sleep(0.02)
-    return True
-
-
 class Building:
     """A building that runs until it is asked to end, and what it has said so far."""
 
@@ -63,7 +55,7 @@ class Building:
 
     def reaches(self, holds):
         """Whether this comes to hold while it runs."""
-        return eventually(lambda: holds() or self.process.poll() is not None) and holds()
+        return wait_for(lambda: holds() or self.process.poll() is not None, 600) and holds()
 
     def kill(self):
         self.process.kill()

@@ -8,7 +8,8 @@ import subprocess
 from typing import Any, Dict, Optional
 
 from broker_parts import Broker, Home
-from programs_parts import HERE, PROGRAMS, Bench, wait_for
+from programs_parts import HERE, PROGRAMS, Bench
+from waiting import wait_for
 
 from gushewa_line.controller import Controller, LineFailed
 from gushewa_line.gateway import device_event

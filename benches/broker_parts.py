@@ -11,7 +11,8 @@ from typing import Any, DefaultDict, List, Optional
 
 import paho.mqtt.client as paho
 
-from programs_parts import Bench, wait_for
+from programs_parts import Bench
+from waiting import wait_for
 
 from dalictl_mqtt.broker import new_client
 

@@ -12,7 +12,8 @@ from typing import Any, Coroutine, Dict, Optional, TypeVar
 
 import aiohttp
 
-from programs_parts import Bench, wait_for
+from programs_parts import Bench
+from waiting import wait_for
 
 CHROMIUM = shutil.which("chromium")
 KEYS = {"Tab": 9, "Enter": 13, " ": 32, "ArrowDown": 40}

@@ -17,7 +17,8 @@ import sys
 import tempfile
 from typing import Callable, List
 
-from package_machine import Machine, machine, wait_for
+from package_machine import Machine, machine
+from waiting import wait_for
 
 HERE = pathlib.Path(__file__).resolve().parent.parent
 EXAMPLES, USER = "/usr/share/doc/dalictl/examples", "lights"

@@ -12,8 +12,9 @@ import pathlib
 import signal
 import subprocess
 import sys
-import time
-from typing import Callable, Iterator, Optional
+from typing import Iterator, Optional
+
+from waiting import wait_for
 
 # What stands before systemd, in name spaces of its own. $1 is a folder for the layer.
 FIRST = """
@@ -43,16 +44,6 @@ exec env -i container=bench PATH=/usr/sbin:/usr/bin:/sbin:/bin chroot . /lib/sys
     --show-status=0 systemd.unified_cgroup_hierarchy=1 systemd.unit=basic.target
 """
 SPACES = ("--mount", "--pid", "--uts", "--ipc", "--net", "--cgroup")
-
-
-def wait_for(holds: Callable[[], object], seconds: float) -> bool:
-    """Whether something comes to hold within a time."""
-    end = time.monotonic() + seconds
-    while not holds():
-        if time.monotonic() > end:
-            return False
-        time.sleep(0.05)
-    return True
 
 
 def control_groups() -> Optional[pathlib.Path]:

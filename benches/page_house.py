@@ -12,7 +12,8 @@ import urllib.request
 from typing import Any, Dict, List, Optional, Tuple
 
 from browser_parts import Chromium
-from programs_parts import PROGRAMS, Bench, path_of, wait_for
+from programs_parts import PROGRAMS, Bench, path_of
+from waiting import wait_for
 
 # A name that would be more than text, if it were put into the page as HTML.
 EVIL = "<img src=x onerror=document.title='stolen'> & \"hall\""

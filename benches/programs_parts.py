@@ -9,8 +9,9 @@ import signal
 import subprocess
 import sys
 import tempfile
-import time
-from typing import Any, Callable, Iterator, List, Optional
+from typing import Any, Iterator, List, Optional
+
+from waiting import wait_for
 
 HERE = pathlib.Path(__file__).resolve().parent.parent
 PROGRAMS, INTERFACES = HERE / "programs", HERE / "examples/interfaces"
@@ -97,16 +98,6 @@ def look_at_package(bench: Bench, package: str, *words: Any) -> None:
     done = bench.run("/usr/bin/python3", "-S", *words)
     bench.same(f"without {package}", [done.returncode, done.stderr.count("\n")], [1, 1])
     bench.hold(f"apt install {package}" in done.stderr, f"without {package}: it says {done.stderr!r}")
-
-
-def wait_for(holds: Callable[[], Any], seconds: float = 10.0) -> bool:
-    """Whether something comes to hold within a time."""
-    end = time.monotonic() + seconds
-    while not holds():
-        if time.monotonic() > end:
-            return False
-        time.sleep(0.02)
-    return True
 
 
 @contextlib.contextmanager
