@@ -112,9 +112,9 @@ def judge_restarts(bench, word, log, pause, kills):
     return found
 
 
-def serve_lines(folder, count, pipe):
+def serve_lines(folder, count, kind, pipe):
     """A process of its own: as many lines, each with a button that is pressed each 0.2 to 0.6 seconds."""
-    houses = [Pressed(0.2, 0.6) for _ in range(count)]
+    houses = [kind(0.2, 0.6) for _ in range(count)]
     ports = [(Pty, Fifos)[at % 2](folder, house) for at, house in enumerate(houses)]
     pipe.send([port.word() for port in ports])
     desk = Desk(ports)
@@ -126,23 +126,27 @@ def serve_lines(folder, count, pipe):
     pipe.send([(house.handed, house.greetings, len(house.sends), house.sends[-1:]) for house in houses])
 
 
-def judge_lines(bench, buses, processes):
-    """Many lines at once, each with a button and a lamp."""
+def judge_lines(bench, buses, processes, meanwhile=None, kind=Pressed, more=()):
+    """Many lines at once, each with a button and a lamp; `meanwhile` is what is done with the program."""
     found = Found()
     context = multiprocessing.get_context("fork")
     pipes = []
     for _ in range(processes):
         pipe, theirs = context.Pipe()
-        words = tempfile.mkdtemp(dir=bench.folder), buses // processes, theirs
+        words = tempfile.mkdtemp(dir=bench.folder), buses // processes, kind, theirs
         context.Process(target=serve_lines, args=words, daemon=True).start()
         pipes.append(pipe)
     lines = [word for pipe in pipes for word in pipe.recv()]
-    with bench.live(town(buses), binding(buses), lines) as live:
-        time.sleep(bench.seconds)
+    with bench.live(town(buses), binding(buses), lines, *more) as live:
+        if meanwhile:
+            meanwhile(live)
+        else:
+            time.sleep(bench.seconds)
         for pipe in pipes:
             pipe.send("no more presses")
         time.sleep(1)
         said = found.ended(live, live.end(), 0)
+    found.same("buses that were down", [text for text in live.err() if " down: " in text], [])
     for pipe in pipes:
         pipe.send("the end")
     houses = [house for pipe in pipes for house in pipe.recv()]

@@ -58,6 +58,14 @@ class Pressed(House):
         return PRESS
 
 
+class Unhurried(Pressed):
+    """The same on a bus that takes some milliseconds for each answer."""
+
+    def answer(self, request):
+        time.sleep(0.005)
+        return super().answer(request)
+
+
 class Storm(House):
     """So many events, each as soon as it is asked for, numbered by their information."""
 

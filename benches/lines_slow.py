@@ -1,0 +1,82 @@
+"""Check of benches/lines: a bus that answers just within its patience, beside one that is well."""
+
+import os
+import time
+
+from gushewa_line import line
+from lines_back import judge_presses
+from lines_houses import House
+from lines_live import Found
+from lines_neighbour import BIND, PATIENCE, Presser, TWO
+from lines_ports import Attended, NUMBERS, Pty
+
+# Seconds: what bus 1 takes for an answer; between two ticks; and from a press to its frame.
+LATE, GAP, LIT = 0.9 * PATIENCE / 1000, 1.5, 1.0
+
+
+class Late(House):
+    """A bus on which each answer takes its time, but those of greetings."""
+
+    def answer(self, request):
+        if not request.startswith("gushewa"):
+            time.sleep(LATE)
+        return super().answer(request)
+
+
+class Losing(House):
+    """A bus on which each frame is lost after a long time."""
+
+    def send(self, bits, frame, priority):
+        super().send(bits, frame, priority)
+        time.sleep(LATE)
+        return line.LOST
+
+
+def judge_slow(bench):
+    """Runs follow one another in ticks that come in time, and each press on bus 0 lights its lamp in time."""
+    found = Found()
+    for name, kind in (("answers late", Late), ("loses each frame late", Losing)):
+        found.extend(f"bus 1 {name}: {one}" for one in judge_beside(bench, name, kind))
+    return found
+
+
+def judge_beside(bench, name, kind):
+    found, presser, house = Found(), Presser((0.02, 0.06)), kind()
+    port, other = Pty(bench.folder, presser), Pty(bench.folder, house)
+    log = f"{bench.folder}/log{next(NUMBERS)}"
+    words = ["--patience", str(PATIENCE), "--limit", "200", "--log", log]
+    with Attended(port), Attended(other), bench.live(TWO, BIND, [port.word(), other.word()], *words) as live:
+        found.hold(bench.eventually(lambda: len(presser.from_event) >= 10), "no presses")
+        gap = longest_pause(log, 10 if bench.is_quick else 30)
+        presser.is_on = False
+        time.sleep(2 * LIT)
+        status = live.end()
+        said = found.ended(live, status, 0 if status == 0 else 3)
+        slow = [text for text in live.err() if text.startswith("bus 1 slow")]
+    judge_presses(found, said, presser)
+    found.hold(gap < GAP, f"{gap:.1f} s between two ticks")
+    worst = max(presser.from_press, default=0)
+    found.hold(worst < LIT, f"a press took {worst:.1f} s")
+    found.hold(slow, "it is not said that bus 1 is slow")
+    if kind is Late:
+        found.same("how often it is said", len(slow), 1)
+    presses = f"bus 1 {name}: bus 0, {len(presser.from_press)} presses"
+    bench.row(presses, f"worst {worst:.2f} s", f"under {LIT:g} s")
+    bench.row(f"bus 1 {name}: between two ticks", f"worst {gap:.2f} s", f"under {GAP:g} s")
+    for it in (port, other):
+        it.close()
+    return found
+
+
+def longest_pause(log, seconds):
+    """The longest time in which a log did not grow, of so many seconds. Each tick of the house adds a line to it."""
+    end, size, grew, longest = time.monotonic() + seconds, 0, time.monotonic(), 0.0
+    while (now := time.monotonic()) < end:
+        longest = max(longest, now - grew)
+        known, size = size, os.path.getsize(log)
+        grew = now if size > known else grew
+        time.sleep(0.01)
+    return longest
+
+
+CHECKS = [("slow: a bus that answers just within its patience", judge_slow)]

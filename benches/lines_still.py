@@ -1,0 +1,30 @@
+"""Check of benches/lines: a machine that stands still for a while, as one that was suspended or has too much to do."""
+
+import random
+import signal
+import time
+
+from lines_ends import judge_lines
+from lines_houses import Unhurried
+from lines_neighbour import PATIENCE
+
+LINES = 6
+
+
+def judge_still(bench):
+    """Six lines, and standstills that are longer than the patience: no bus goes down, and no press is lost."""
+    count, most = (4, 4.0) if bench.is_quick else (20, 12.0)
+
+    def stand_still(live):
+        for turn in range(count):
+            time.sleep(random.uniform(0.5, 1.5))
+            live.process.send_signal(signal.SIGSTOP)
+            time.sleep(random.uniform(1.5, most) if turn else most)
+            live.process.send_signal(signal.SIGCONT)
+        time.sleep(1)
+        bench.told("standstills", count)
+
+    return judge_lines(bench, LINES, LINES, stand_still, Unhurried, ("--patience", str(PATIENCE)))
+
+
+CHECKS = [("still: standstills of 1.5 to 12 seconds", judge_still)]

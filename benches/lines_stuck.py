@@ -1,0 +1,135 @@
+"""Check of benches/lines: a line that takes no bytes, beside one that is well."""
+
+import os
+import re
+import termios
+import threading
+import time
+
+from lines_back import judge_presses
+from lines_houses import House
+from lines_live import Found
+from lines_neighbour import BACK, BIND, PATIENCE, Presser, TWO
+from lines_ports import Attended, Fifos, Pty
+
+# Seconds: until the bus is down; in which a press lights its lamp, also where a run ends just then; and in which the
+# building ends.
+DOWN, LIT, END = 2 * PATIENCE / 1000 + 1, PATIENCE / 1000 + 0.5, PATIENCE / 1000 + 2
+XOFF, XON = b"\x13", b"\x11"
+
+
+class Paused(Pty):
+    """A pseudo terminal whose output the interface stops by a control byte."""
+
+    def plug(self):
+        super().plug()
+        attributes = termios.tcgetattr(self.theirs)
+        attributes[0] |= termios.IXON
+        termios.tcsetattr(self.theirs, termios.TCSANOW, attributes)
+
+    def hold(self):
+        self.write(XOFF)
+
+    def free(self):
+        self.write(XON)
+
+
+class Stopped(Pty):
+    """A pseudo terminal whose output is stopped, as by a driver that takes nothing."""
+
+    def hold(self):
+        termios.tcflow(self.theirs, termios.TCOOFF)
+
+    def free(self):
+        termios.tcflow(self.theirs, termios.TCOON)
+
+
+class Full(Fifos):
+    """Two FIFOs of which nothing is read while it is held, and the one that is written has no room."""
+
+    def plug(self):
+        super().plug()
+        self.goes_on = threading.Event()
+        self.goes_on.set()
+        self.bus.goes_on = self.goes_on
+
+    def hold(self):
+        self.goes_on.clear()
+        filling = os.open(self.sink, os.O_WRONLY | os.O_NONBLOCK)
+        try:
+            while True:
+                os.write(filling, b"x")
+        except BlockingIOError:
+            os.close(filling)
+
+    def free(self):
+        self.goes_on.set()
+
+
+class Holding(House):
+    """A bus that answers nothing while it is held."""
+
+    goes_on = None
+
+    def answer(self, request):
+        if self.goes_on:
+            self.goes_on.wait()
+        return super().answer(request)
+
+
+def judge_stuck(bench):
+    """Bus 1 takes nothing, is well again, and takes nothing at the end; each press on bus 0 lights its lamp in time."""
+    found = Found()
+    for name, kind in (("XOFF", Paused), ("stopped output", Stopped), ("a FIFO without room", Full)):
+        found.extend(f"{name}: {one}" for one in judge_way(bench, name, kind))
+    return found
+
+
+def judge_way(bench, name, kind):
+    found, presser, house = Found(), Presser((0.02, 0.06)), Holding()
+    port, line = Pty(bench.folder, presser), kind(bench.folder, house)
+    words = ["--patience", str(PATIENCE), "--limit", "300"]
+    with Attended(port), Attended(line), bench.live(TWO, BIND, [port.word(), line.word()], *words) as live:
+        try:
+            judge_hold(bench, found, live, presser, house, line)
+            line.hold()
+            time.sleep(0.3)
+            asked = time.monotonic()
+            said = found.ended(live, live.end(), 3)
+            took = time.monotonic() - asked
+        finally:
+            line.free()
+    found.hold(took < END, f"it ended after {took:.1f} s")
+    judge_presses(found, said, presser)
+    worst = max(presser.from_press, default=END)
+    found.hold(worst < LIT, f"a press took {worst:.1f} s")
+    bench.row(
+        f"bus 1 with {name}: bus 0, {len(presser.from_press)} presses", f"worst {worst:.2f} s", f"under {LIT:g} s"
+    )
+    bench.row(f"bus 1 with {name}: the end", f"after {took:.1f} s", f"under {END:g} s")
+    for it in (port, line):
+        it.close()
+    return found
+
+
+def judge_hold(bench, found, live, presser, house, line):
+    """Bus 1 takes nothing for some seconds, which is said, and then is well again; at last no button is pressed any more."""
+    found.hold(bench.eventually(lambda: len(presser.from_event) >= 10), "no presses before")
+    line.hold()
+    is_down = re.compile(f"bus 1 down: {re.escape(line.word())}: silent for {PATIENCE // 1000} s")
+    found.hold(
+        bench.eventually(lambda: any(map(is_down.fullmatch, live.err())), DOWN), "it is not said that bus 1 is silent"
+    )
+    before = len(presser.from_event)
+    time.sleep(3)
+    lit = len(presser.from_event) - before
+    found.hold(lit > 20, f"{lit} presses on bus 0 in three seconds")
+    greetings = house.greetings
+    line.free()
+    found.hold(bench.eventually(lambda: house.greetings > greetings, BACK), "bus 1 does not come back")
+    time.sleep(0.5)
+    presser.is_on = False
+    time.sleep(LIT)
+
+
+CHECKS = [("stuck: a line that takes no bytes", judge_stuck)]
