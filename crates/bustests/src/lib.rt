@@ -2,8 +2,9 @@
 //!
 //! Nothing crosses the boundary. The tests stand on public items of the crates alone: worked frames
 //! of the standard (`frames`), transactions on a fake bus and in a box (`links`), simulated gear
-//! that no scenario shows (`gear`), buses behind a line over memory (`lines`), and the clock of a
-//! building over a fake timer (`timers`). `rt test` runs them.
+//! that no scenario shows (`gear`), buses behind a line over memory (`lines`), writers that take
+//! their time (`writers`), and the clock of a building over a fake timer (`timers`). `rt test` runs
+//! them.
 #![tactic(auto)]
 
 #[cfg(test)]
@@ -16,3 +17,5 @@ mod lines;
 mod links;
 #[cfg(test)]
 mod timers;
+#[cfg(test)]
+mod writers;

@@ -1,9 +1,11 @@
 //! The two ends of a line: what goes out, and what comes in.
 
-ghost use Rattle.std.specs.Prelude.{◌≡◌, ◌∷◌, [], ◌++◌, OnOk, IfOk};
+ghost use Rattle.std.specs.Prelude.{◌≡◌, ◌≢◌, ◌∷◌, [], ◌++◌, OnOk, IfOk};
 ghost use Rattle.std.specs.Io.KnownBytes.{Appends, Consumes};
+ghost use Rattle.std.specs.declared.io.ErrorKind.TheVariants.{TimedOut};
 ghost use Rattle.liveline.specs.Exchanges.{IsAtMost, IsWrittenBut};
 ghost use Rattle.liveline.specs.Lines.{hear_line, line_end, send_line};
+ghost use Rattle.liveline.specs.declared.troubles.Trouble.TheVariants.{Closed, Silent};
 
 use crate::troubles::{LineBytes, MOST_LINE, Trouble};
 use daliframe::Frame;
@@ -41,17 +43,29 @@ pub(crate) fn ask_to_hear<W: Write>(to: &mut W) -> Result<(), Trouble>
     say(to, b"hear\n")
 }
 
-/// Writes a line, and flushes the writer. Where that fails, a first part of the line was written at
-/// most.
-#[tactic(auto, using(crate::proofs::Writing::all_written, crate::proofs::Writing::at_most))]
+/// Says a line. Where that fails, a first part of it was written at most.
 pub(crate) fn say<W: Write>(to: &mut W, line: &[u8]) -> Result<(), Trouble>
     ensures whole { OnOk result (Appends (W.contents to.old) (W.contents to.new) line.now) }
     ensures at_most { IsAtMost line.now (W.contents to.old) (W.contents to.new) }
 {
-    let rest = write_front(to, line);
+    match put(to, line) {
+        Ok(()) => Ok(()),
+        Err(kind) => Err(trouble_of(kind)),
+    }
+}
+
+/// Writes bytes, and flushes the writer. Where that fails, a first part of them was written at
+/// most. A writer that takes bytes in time says by its flush that it did not.
+#[tactic(auto, using(crate::proofs::Writing::all_written, crate::proofs::Writing::at_most))]
+pub(crate) fn put<W: Write>(to: &mut W, bytes: &[u8]) -> Result<(), ErrorKind>
+    ensures whole { OnOk result (Appends (W.contents to.old) (W.contents to.new) bytes.now) }
+    ensures at_most { IsAtMost bytes.now (W.contents to.old) (W.contents to.new) }
+{
+    let rest = write_front(to, bytes);
     match to.flush() {
         Ok(()) if rest.is_empty() => Ok(()),
-        Ok(()) | Err(_) => Err(Trouble::Closed),
+        Ok(()) => Err(ErrorKind::WriteZero),
+        Err(error) => Err(error.kind()),
     }
 }
 
@@ -83,8 +97,11 @@ fn write_some<'a, W: Write>(to: &mut W, line: &'a [u8]) -> (&'a [u8], bool)
     }
 }
 
-/// Why a read failed, by the kind of its error.
-pub(crate) fn trouble_of(kind: ErrorKind) -> Trouble {
+/// Why a read or a write failed, by the kind of its error.
+pub(crate) fn trouble_of(kind: ErrorKind) -> Trouble
+    ensures late { kind ≡ TimedOut → result ≡ Silent }
+    ensures other { kind ≢ TimedOut → result ≡ Closed }
+{
     match kind {
         ErrorKind::TimedOut => Trouble::Silent,
         _ => Trouble::Closed,

@@ -11,6 +11,7 @@ use crate::reasons::Reason;
 use crate::starter::{LineStarter, Order};
 use crate::thread::{Job, Outcome, Tries};
 use crate::troubles::Trouble;
+use crate::writer::TimedWriter;
 use buslink::{Bus, Fault, Reply};
 use crossbeam_channel::{Receiver, Sender, bounded};
 use daliframe::{BusNumber, Frame, Frame24};
@@ -47,7 +48,7 @@ pub trait Teller: Drop {
 #[derive(Drop)]
 pub struct MendedLine<R: Wait + Clock + Drop, W: Write + Drop, T: Teller, O> {
     rt: R,
-    bus: LineBus<TimedReader<R>, W>,
+    bus: LineBus<TimedReader<R>, TimedWriter<R, W>>,
     /// What the thread is to try.
     jobs: Sender<Job<R, W>>,
     /// What became of it.

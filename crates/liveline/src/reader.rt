@@ -1,5 +1,6 @@
 //! The reader and its thread.
 
+use crate::waits::Deadline;
 use arrayvec::ArrayVec;
 use crossbeam_channel::{Receiver, RecvTimeoutError, Sender, bounded};
 use std::alloc::Global;
@@ -11,7 +12,7 @@ use std::time::{Clock, Duration, Instant};
 use std::{io, thread};
 
 /// The most bytes that are handed on at once.
-const MOST_BYTES: usize = 32;
+pub(crate) const MOST_BYTES: usize = 32;
 
 /// The most pieces that wait to be taken. Whoever says more waits.
 const MOST_PIECES: usize = 64;
@@ -21,8 +22,8 @@ const MOST_PIECES: usize = 64;
 /// end.
 const LEAST_WAIT: u64 = 50;
 
-/// Some bytes that were read.
-type Piece = ArrayVec<u8, MOST_BYTES>;
+/// Some bytes that were read, or are to be written.
+pub(crate) type Piece = ArrayVec<u8, MOST_BYTES>;
 
 /// What a thread of its own reads, taken in time.
 #[derive(Drop)]
@@ -31,7 +32,7 @@ pub struct TimedReader<R: Wait + Clock + Drop> {
     /// The milliseconds that a line may take, from the first read of it to its end.
     patience: AtomicU64,
     /// When the line that is read is to have ended, where it has begun.
-    deadline: Option<Instant>,
+    deadline: Option<Deadline>,
     pieces: Receiver<Piece>,
     /// What came and was not taken yet, first to last.
     came: Piece,
@@ -142,19 +143,18 @@ impl<R: Wait + Clock + Drop> TimedReader<R> {
         self.patience.store(patience, Ordering::SeqCst);
     }
 
-    /// How long the line that is read may still take. With its first read its time begins.
+    /// When the line that is read is to have ended. With its first read its time begins.
     ///
     /// # Errors
     ///
     /// The clock cannot be read.
-    fn time_left(&mut self) -> io::Result<Duration> {
-        let now = Instant::now(&self.rt)?;
+    fn line_deadline(&mut self) -> io::Result<Deadline> {
         if let Some(deadline) = self.deadline {
-            return Ok(deadline.duration_since(now));
+            return Ok(deadline);
         }
-        let time = Duration::from_millis(self.patience.load(Ordering::SeqCst));
-        self.deadline = now.checked_add(time);
-        Ok(time)
+        let deadline = Deadline::after(&self.rt, self.patience.load(Ordering::SeqCst))?;
+        self.deadline = Some(deadline);
+        Ok(deadline)
     }
 
     /// The next byte. There is none where the thread ended.
@@ -166,8 +166,8 @@ impl<R: Wait + Clock + Drop> TimedReader<R> {
         if let Some(byte) = self.came.pop_at(0) {
             return Ok(Some(byte));
         }
-        let left = self.time_left()?;
-        match self.pieces.recv_timeout(&self.rt, left) {
+        let deadline = self.line_deadline()?;
+        match deadline.receive(&self.rt, &self.pieces) {
             Ok(piece) => {
                 self.came = piece;
                 Ok(self.came.pop_at(0))

@@ -4,6 +4,7 @@ use crate::greetings::{Greeted, Ungreeted};
 use crate::reader::TimedReader;
 use crate::reasons::Reason;
 use crate::troubles::Trouble;
+use crate::writer::TimedWriter;
 use crossbeam_channel::{Receiver, Sender};
 use std::alloc::Global;
 use std::io::{Read, Write};
@@ -13,7 +14,7 @@ use std::thread::Threads;
 use std::time::{Clock, Duration, Instant};
 
 /// The milliseconds from the beginning of a try to that of the next at the soonest.
-const PAUSE: u64 = 2000;
+pub(crate) const PAUSE: u64 = 2000;
 
 /// The milliseconds in which an interface answers the greeting, since no bus has a part in it.
 const GREETING: u64 = 500;
@@ -31,14 +32,14 @@ pub trait Opener<W>: Drop {
     fn open(&mut self) -> Result<(Self::From, W), Reason>;
 }
 
-/// The ends of a line, of which a thread reads the first.
-pub(crate) type Ends<R, W> = (TimedReader<R>, W);
+/// The ends of a line. A thread reads the first, and another one writes to the second.
+pub(crate) type Ends<R, W> = (TimedReader<R>, TimedWriter<R, W>);
 
 /// What the thread is asked: to open and greet the line, over these ends where there are any.
 pub(crate) type Job<R, W> = Option<Ends<R, W>>;
 
 /// What a try came to.
-pub(crate) type Outcome<R, W> = Result<Greeted<TimedReader<R>, W>, Reason>;
+pub(crate) type Outcome<R, W> = Result<Greeted<TimedReader<R>, TimedWriter<R, W>>, Reason>;
 
 /// Who tries to open a line and to greet it.
 #[derive(Drop)]
@@ -58,7 +59,7 @@ pub(crate) struct Tries<R: Wait + Clock + Drop, W: Drop, O> {
 
 impl<
     R: Threads + Wait + Clock + Clone + Send + Drop + 'static,
-    W: Write + Drop,
+    W: Write + Send + Drop + 'static,
     O: Opener<W>,
 > Tries<R, W, O>
 where
@@ -105,31 +106,52 @@ where
                 greeted.reader().set_patience(self.patience);
                 Ok(greeted)
             }
-            Err(Ungreeted { from, to, why }) => {
+            Err(Ungreeted { from, mut to, why }) => {
+                let is_stuck = to.is_stuck();
                 self.ends = Some((from, to));
-                Err(why_ungreeted(&why))
+                Err(self.why_ungreeted(&why, is_stuck))
             }
         }
     }
 
-    /// The ends that there are, while they are read, else new ones.
+    /// The ends that there are, while they are read, else new ones. While the thread that writes is
+    /// stuck there are none: so no line has two such threads.
+    ///
+    /// # Errors
+    ///
+    /// The thread that writes is stuck, or the line cannot be opened.
     fn ends_to_greet(&mut self) -> Result<Ends<R, W>, Reason> {
-        if let Some((from, to)) = self.ends.take() {
+        if let Some((from, mut to)) = self.ends.take() {
+            if to.is_stuck() {
+                self.ends = Some((from, to));
+                return Err(Reason::Silent(self.patience));
+            }
             if !from.has_ended() {
                 return Ok((from, to));
             }
         }
-        let (file, to) = self.opener.open()?;
-        match self.read_by_thread(file) {
-            Ok(from) => Ok((from, to)),
+        let (from, to) = self.opener.open()?;
+        match self.start_threads(from, to) {
+            Ok(ends) => Ok(ends),
             Err(error) => Err(Reason::Unopened(error.kind())),
         }
     }
 
-    /// Starts the thread that reads a file.
-    fn read_by_thread(&self, file: O::From) -> std::io::Result<TimedReader<R>> {
-        let rt = self.rt.clone()?;
-        TimedReader::over(self.alloc, rt, file, self.patience)
+    /// Starts the two threads of the ends. The one that writes comes first, since it ends by itself
+    /// where the other one cannot be made.
+    fn start_threads(&self, from: O::From, to: W) -> std::io::Result<Ends<R, W>> {
+        let writer = TimedWriter::over(self.alloc, self.rt.clone()?, to, self.patience)?;
+        let reader = TimedReader::over(self.alloc, self.rt.clone()?, from, self.patience)?;
+        Ok((reader, writer))
+    }
+
+    /// Why the interface did not greet. Where the thread that writes is stuck, that is why.
+    fn why_ungreeted(&self, why: &Trouble, is_stuck: bool) -> Reason {
+        match why {
+            _ if is_stuck => Reason::Silent(self.patience),
+            Trouble::Closed => Reason::Closed,
+            _ => Reason::Ungreeted,
+        }
     }
 
     /// A number that no greeting had: the milliseconds since 1970, or one more than the last.
@@ -140,13 +162,5 @@ where
         };
         self.number = now.max(self.number.saturating_add(1));
         self.number
-    }
-}
-
-/// Why an interface did not greet.
-fn why_ungreeted(why: &Trouble) -> Reason {
-    match why {
-        Trouble::Closed => Reason::Closed,
-        _ => Reason::Ungreeted,
     }
 }

@@ -23,3 +23,4 @@ pub mod simulated;
 pub mod traces;
 pub mod transactions;
 pub mod words;
+pub mod writing;
