@@ -59,10 +59,10 @@ class Pressed(House):
 
 
 class Unhurried(Pressed):
-    """The same on a bus that takes some milliseconds for each answer."""
+    """The same on a bus that takes the time of a frame for each answer, so that a line is mostly asked something."""
 
     def answer(self, request):
-        time.sleep(0.005)
+        time.sleep(0.02)
         return super().answer(request)
 
 

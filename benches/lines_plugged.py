@@ -74,4 +74,4 @@ def device_of(found, port):
     found.hold(is_set(port.theirs), "the device is not set")
 
 
-CHECKS = [("plugged: a device that comes back cooked", judge_plugged)]
+CHECKS = [("cooked: an adapter that is plugged in again", judge_plugged)]

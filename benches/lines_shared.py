@@ -148,7 +148,7 @@ def judge_reasons(bench):
         judge_reason(bench, found, live, status, f"bus 0 down: {port.path}: is a regular file")
         os.unlink(port.path)
         os.mkdir(port.path)
-        judge_reason(bench, found, live, status, f"bus 0 down: {port.path}: cannot be opened")
+        judge_reason(bench, found, live, status, f"bus 0 down: {port.path}: is a directory")
         os.rmdir(port.path)
         port.plug()
         with Attended(port):

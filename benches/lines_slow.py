@@ -11,7 +11,7 @@ from lines_neighbour import BIND, PATIENCE, Presser, TWO
 from lines_ports import Attended, NUMBERS, Pty
 
 # Seconds: what bus 1 takes for an answer; between two ticks; and from a press to its frame.
-LATE, GAP, LIT = 0.9 * PATIENCE / 1000, 1.5, 1.0
+LATE, GAP, LIT = 0.8 * PATIENCE / 1000, 1.5, 1.0
 
 
 class Late(House):

@@ -13,9 +13,10 @@ LINES = 6
 
 def judge_still(bench):
     """Six lines, and standstills that are longer than the patience: no bus goes down, and no press is lost."""
-    count, most = (4, 4.0) if bench.is_quick else (20, 12.0)
+    count, most = (8, 4.0) if bench.is_quick else (20, 12.0)
 
     def stand_still(live):
+        time.sleep(2)
         for turn in range(count):
             time.sleep(random.uniform(0.5, 1.5))
             live.process.send_signal(signal.SIGSTOP)
