@@ -280,8 +280,8 @@ def try_buses(bench: Bench) -> None:
     bench.same("open", bus(1, "=", "open"), ("down", "no controller has greeted yet", 1))
     bench.same("greeted", bus(2, "=", "greeted"), ("up", "the interface greeted", 2))
     bench.same("waits", bus(3, "~", "10 900"), ("up", "the interface greeted", 2))
-    bench.same("silent", bus(9, "~", "0 5100"), ("down", "silent for 5 s", 9))
-    bench.same("silent still", bus(10, "~", "1 100"), ("down", "silent for 5 s", 9))
+    bench.same("silent", bus(9, "~", "0 1100"), ("down", "silent for 1 s", 9))
+    bench.same("silent still", bus(10, "~", "1 100"), ("down", "silent for 1 s", 9))
     bench.same("again", bus(11, "=", "greeted"), ("up", "the interface greeted", 11))
     for at in range(12, 16):
         bench.same("asked by nobody", bus(at, "~", "0 0")[0], "up")

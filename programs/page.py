@@ -7,7 +7,7 @@
   --line 0=PATH         the interface of bus 0: a device, a pseudo terminal, or two FIFOs (FROM,TO); each
                         bus from 0 on needs its own
   --folder FOLDER       where the lines for the controller are: `dalictl live .. --line 0=FOLDER/dali0`
-  --patience MS         that of the controller, for which a line may be silent (5000 if none is given)
+  --patience MS         that of the controller, for which a line may be silent (1000 if none is given)
 
 What the page reads, as far as it is given:
 
@@ -145,7 +145,7 @@ def read_words() -> argparse.Namespace:
     parser = argparse.ArgumentParser(usage=__doc__)
     parser.add_argument("--line", action="append", default=[])
     parser.add_argument("--folder", default="")
-    parser.add_argument("--patience", type=int, default=5000)
+    parser.add_argument("--patience", type=int, default=1000)
     for option in ("text", "bind", "names", "status", "log", "keep", "record", "passwords", "token", "hash"):
         parser.add_argument(f"--{option}", default="")
     parser.add_argument("--program", default="dalictl")

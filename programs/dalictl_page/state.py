@@ -108,7 +108,7 @@ class Note(NamedTuple):
 class Building:
     """All buses, lamps and sources, and the page's own log."""
 
-    def __init__(self, names: Names, buses: int, patience: float = 5.0) -> None:
+    def __init__(self, names: Names, buses: int, patience: float = 1.0) -> None:
         self.names, self.patience = names, patience
         self.buses = [Bus() for _ in range(buses)]
         self.lamps: Dict[Place, Lamp] = {place: Lamp() for place in names.lamps if place[0] < buses}

@@ -160,13 +160,13 @@ pub record IsBeside (found : List Row) (beside : Beside) : Type 0 where
   pub is_json : IsFlag (one_of (codes "json") found) beside.is_json
   pub keep : IsGivenPath (first_of (codes "keep") found) beside.keep
 
--- the milliseconds that a line may be silent, and 5,000 where nothing else is said
+-- the milliseconds that all answers of a transaction may take, and 1,000 where nothing else is said
 abbrev pub IsPatience : List Row → ℕ → Type 0
-IsPatience found patience = IsNumber 5000 (one_of (codes "patience") found) patience
+IsPatience found patience = IsNumber 1000 (one_of (codes "patience") found) patience
 
 -- how a building is run: the period, the seconds and the path of the file that ends it, where they are given; how large
--- a run may become; whether it ends where a bus has gone down; how long a line may be silent; and what is written beside
--- it
+-- a run may become; whether it ends where a bus has gone down; how long the answers of a transaction may take; and what is
+-- written beside it
 pub record AreLiveOptions (found : List Row) (options : LiveOptions) : Type 0 where
   pub period : IsGivenNumber (one_of (codes "period") found) options.period
   pub seconds : IsGivenNumber (one_of (codes "for") found) options.seconds

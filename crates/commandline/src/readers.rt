@@ -171,11 +171,11 @@ fn live_options_in<'a>(found: &ArgMatches<'a>) -> LiveOptions<'a>
     }
 }
 
-/// The milliseconds that a line may be silent, or without that option 5,000.
+/// The milliseconds that all answers of a transaction may take, or without that option 1,000.
 pub(crate) fn patience_in(found: &ArgMatches) -> u32
     ensures { IsPatience (rows_of (found_of found.now)) result }
 {
-    number_in(found, "patience", 5_000)
+    number_in(found, "patience", 1_000)
 }
 
 /// What is written beside a building.

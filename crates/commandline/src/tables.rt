@@ -126,7 +126,7 @@ const PATIENCE: Word = Word::Number(
     "MS",
     100,
     60_000,
-    "Milliseconds that a line may be silent before its bus goes down, 100..60000 [default: 5000]",
+    "Milliseconds that all answers of a transaction may take, 100..60000 [default: 1000]",
 );
 
 const LOG_SIZE: Word = Word::Number(

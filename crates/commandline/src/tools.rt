@@ -2,8 +2,8 @@
 
 use commandoptions::{LineWord, LiveFiles};
 
-/// What is done at one line, which may be silent for the milliseconds of its patience, 100 to
-/// 60,000.
+/// What is done at one line. All answers of a transaction may take the milliseconds of its patience,
+/// 100 to 60,000.
 #[derive(Clone, Copy)]
 pub enum Tool<'a> {
     /// `probe --line PATH [--patience MS] [TEXT BIND] [--bus B] [--record FILE] [--json]`

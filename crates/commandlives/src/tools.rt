@@ -54,7 +54,7 @@ pub type ToolEnd<'a> = Result<Served, ToolStop<'a>>;
 pub struct ToolLine<'a> {
     /// Its bus, and the paths of its interface.
     pub line: LineWord<'a>,
-    /// The milliseconds that its interface may be silent.
+    /// The milliseconds that all answers of a transaction may take.
     pub patience: u32,
 }
 
@@ -62,7 +62,7 @@ pub struct ToolLine<'a> {
 ///
 /// # Errors
 ///
-/// It cannot be opened, its interface does not greet, or the allocator is out of memory. Nothing
+/// It cannot be opened, another program has it, its interface does not greet, or the allocator is out of memory. Nothing
 /// was sent.
 pub fn opened<'a, S: Site>(
     alloc: Global,
@@ -76,6 +76,7 @@ pub fn opened<'a, S: Site>(
     match site.open(alloc, line, number, patience) {
         Ok(bus) => Ok(bus),
         Err(SiteFault::Memory) => Err(LiveStop::Start(StartFault::Memory)),
+        Err(SiteFault::Busy) => Err(LiveStop::Busy(line)),
         Err(SiteFault::Failed | SiteFault::Ended) => Err(LiveStop::NotOpened(line)),
     }
 }

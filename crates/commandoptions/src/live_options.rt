@@ -24,7 +24,8 @@ pub struct LiveOptions<'a> {
     pub size: RunSize,
     /// Whether it ends where a bus has gone down.
     pub ends_on_down: bool,
-    /// The milliseconds that a line may be silent before its bus goes down, 100 to 60,000.
+    /// The milliseconds that all answers of a transaction may take before its bus goes down, 100 to
+    /// 60,000.
     pub patience: u32,
     /// What is written beside it.
     pub beside: Beside<'a>,

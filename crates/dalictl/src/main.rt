@@ -6,8 +6,9 @@
 #![tactic(auto)]
 
 use commands::ExitStatus;
-use livehouse::{HostDevices, HostSite, LineStarter, hold_standard_files};
+use livehouse::{DownReasons, HostDevices, HostSite, LineStarter, hold_standard_files};
 use std::process::ExitCode;
+use std::sync::Arc;
 
 fn main(rt: HostRuntime) -> ExitCode {
     let _held = hold_standard_files(&rt);
@@ -15,10 +16,14 @@ fn main(rt: HostRuntime) -> ExitCode {
     let Ok(starter) = LineStarter::start(rt.alloc(), rt) else {
         return ExitCode::from(ExitStatus::Failed.number());
     };
+    let Ok(reasons) = Arc::new(rt.alloc(), DownReasons::new(rt.alloc())) else {
+        return ExitCode::from(ExitStatus::Failed.number());
+    };
     let site = HostSite {
         rt: &rt,
         devices: &devices,
         starter: &starter,
+        reasons: &reasons,
     };
     ExitCode::from(commands::run(&rt, &rt, &site).number())
 }

@@ -126,7 +126,7 @@ fn clock_of<S: Site>(
     match site.clock(alloc, period, begins, end) {
         Ok(clock) => Ok(clock),
         Err(SiteFault::Memory) => Err(LiveStop::Start(StartFault::Memory)),
-        Err(SiteFault::Failed) => Err(LiveStop::NoClock),
+        Err(SiteFault::Failed | SiteFault::Busy) => Err(LiveStop::NoClock),
         Err(SiteFault::Ended) => Err(LiveStop::Ended),
     }
 }

@@ -3,7 +3,8 @@
 ghost use Rattle.std.specs.Prelude.{◌≡◌, ⊤, IfOk, option_map, string_bytes};
 ghost use Rattle.livehouse.specs.Sites.{ArePathsOf};
 
-use crate::host_lines::{Devices, HostOpener, HostTeller, owned, paths_of};
+use crate::host_lines::{Devices, HostOpener, HostTeller, Opened, owned, paths_of};
+use crate::reasons::DownReasons;
 use crate::site::{Site, SiteFault};
 use crate::watch::{DownWatch, End, StopAt, is_there};
 use commandoptions::LineWord;
@@ -30,6 +31,8 @@ pub struct HostSite<'h, R: Files + Wait + Timer + Drop, D: Drop> {
     pub rt: &'h R,
     pub devices: &'h D,
     pub starter: &'h LineStarter<R, R::File, HostOpener<D>>,
+    /// Why lines are down, for the status.
+    pub reasons: &'h Arc<DownReasons>,
 }
 
 /// The bus behind a line of the machine.
@@ -65,7 +68,7 @@ where
         watch: &Arc<DownWatch>,
     ) -> Result<Self::Line, AllocError> {
         let opener = opener_of(alloc, self.devices, line)?;
-        let teller = teller_of(self.rt, alloc, line, Some(watch.clone()?))?;
+        let teller = teller_of(self.rt, alloc, line, self.reasons, Some(watch.clone()?))?;
         let rt = self.rt.clone()?;
         MendedLine::start(
             alloc,
@@ -95,7 +98,7 @@ where
         patience: u32,
     ) -> Result<Self::Line, SiteFault> {
         let opener = opener_of(alloc, self.devices, line)?;
-        let teller = teller_of(self.rt, alloc, line, None)?;
+        let teller = teller_of(self.rt, alloc, line, self.reasons, None)?;
         let rt = self.rt.clone()?;
         let mut bus = MendedLine::start(
             alloc,
@@ -115,6 +118,8 @@ where
         bus.begin();
         if bus.is_in_step() {
             Ok(bus)
+        } else if bus.why().is_busy() {
+            Err(SiteFault::Busy)
         } else {
             Err(SiteFault::Failed)
         }
@@ -163,6 +168,10 @@ fn opener_of<D: Clone + Drop>(
         devices: devices.clone()?,
         from: String::from_str(alloc, line.from)?,
         to: owned(alloc, line.to)?,
+        opened: Opened {
+            from: None,
+            to: None,
+        },
     })
 }
 
@@ -176,12 +185,14 @@ fn teller_of<R: Clone + Drop>(
     rt: &R,
     alloc: Global,
     line: LineWord,
+    reasons: &Arc<DownReasons>,
     watch: Option<Arc<DownWatch>>,
 ) -> Result<HostTeller<R>, AllocError> {
     Ok(HostTeller {
         rt: rt.clone()?,
         bus: line.bus,
         paths: paths_of(alloc, line)?,
+        reasons: reasons.clone()?,
         watch,
     })
 }

@@ -1,27 +1,37 @@
 //! The lines of the machine: who opens them, and who tells what becomes of them. A line's thread
 //! opens by [`Devices`], since what is sent to a thread may not rest on the bound `Files` itself.
 
-ghost use Rattle.std.specs.Prelude.{◌≡◌, IfOk, IsSome, option_map, string_bytes, true};
+ghost use Rattle.std.specs.Prelude.{◌≡◌, ◌≢◌, ◌↔◌, IfOk, IsSome, IsTrue, Some, option_map};
+ghost use Rattle.std.specs.Prelude.{string_bytes, true};
 
+use crate::host_files::{Exclusive, FileId, both_ways, checked, hold, two_files};
+use crate::reasons::DownReasons;
 use crate::watch::DownWatch;
 use commandoptions::LineWord;
 use liveline::{Opener, Reason, Teller};
 use std::alloc::{AllocError, Global};
-use std::fs::{File, OpenFile, OpenOptions};
-use std::io;
+use std::fs::{OpenFile, OpenOptions};
 use std::io::{Read, Write};
 use std::rt::Files;
-use std::sync::Arc;
+use std::sync::{Arc, Wait};
+use std::time::Clock as Timer;
 
 /// Whoever opens devices, also in the thread of a line.
 pub trait Devices<F>: Drop {
     /// The reader and the writer of a line: of a device at one path, or of two files, of which the
-    /// first is read and the second is written. It may wait for ever.
+    /// first is read and the second is written. No other opening has them. It may wait for ever.
     ///
     /// # Errors
     ///
-    /// It cannot be opened, or a regular file is there. Nothing was written.
+    /// It cannot be opened, a regular file is there, or another opening has it. Nothing was
+    /// written.
     fn open(&self, from: &str, to: Option<&str>) -> Result<(F, F), Reason>;
+
+    /// Which file is open here, where that can be told.
+    fn opened_file(&self, file: &F) -> Option<FileId>;
+
+    /// Which file is at this path now, where one is.
+    fn file_at(&self, path: &str) -> Option<FileId>;
 }
 
 /// The devices of the machine.
@@ -30,16 +40,32 @@ pub struct HostDevices<R> {
     pub rt: R,
 }
 
-impl<R: Files + Drop> Devices<R::File> for HostDevices<R> {
+impl<R: Files + Timer + Drop> Devices<R::File> for HostDevices<R>
+where
+    R::File: Exclusive,
+{
     fn open(&self, from: &str, to: Option<&str>) -> Result<(R::File, R::File), Reason> {
         let opened = match to {
             Some(to) => two_files(&self.rt, from, to),
             None => both_ways(&self.rt, from),
         };
-        match opened {
-            Ok((from, to)) => checked(from, to),
-            Err(error) => Err(Reason::Unopened(error.kind())),
-        }
+        let (from, to) = match opened {
+            Ok(opened) => opened,
+            Err(error) => return Err(Reason::Unopened(error.kind())),
+        };
+        checked(&from)?;
+        checked(&to)?;
+        hold(&self.rt, &from)?;
+        hold(&self.rt, &to)?;
+        Ok((from, to))
+    }
+
+    fn opened_file(&self, file: &R::File) -> Option<FileId> {
+        Some(FileId::of(&file.metadata().ok()?))
+    }
+
+    fn file_at(&self, path: &str) -> Option<FileId> {
+        Some(FileId::of(&self.rt.metadata(path).ok()?))
     }
 }
 
@@ -51,56 +77,51 @@ pub struct HostOpener<D: Drop> {
     pub from: String,
     /// The path of the one that is written, where that is another one.
     pub to: Option<String>,
+    /// Which files were opened last, where that can be told.
+    pub(crate) opened: Opened,
+}
+
+/// Which files were opened: the one that is read, and the one that is written.
+#[derive(Clone, Copy)]
+pub(crate) struct Opened {
+    pub(crate) from: Option<FileId>,
+    pub(crate) to: Option<FileId>,
 }
 
 impl<F: Read + Write + Drop, D: Devices<F>> Opener<F> for HostOpener<D> {
     type From = F;
 
     fn open(&mut self) -> Result<(F, F), Reason> {
+        let (from, to) = match &self.to {
+            Some(to) => self.devices.open(self.from.as_str(), Some(to.as_str()))?,
+            None => self.devices.open(self.from.as_str(), None)?,
+        };
+        self.opened = Opened {
+            from: self.devices.opened_file(&from),
+            to: self.devices.opened_file(&to),
+        };
+        Ok((from, to))
+    }
+
+    fn has_moved(&self) -> bool {
+        let is_read_moved = is_another(self.opened.from, self.devices.file_at(self.from.as_str()));
         match &self.to {
-            Some(to) => self.devices.open(self.from.as_str(), Some(to.as_str())),
-            None => self.devices.open(self.from.as_str(), None),
+            Some(to) => {
+                is_read_moved || is_another(self.opened.to, self.devices.file_at(to.as_str()))
+            }
+            None => is_read_moved,
         }
     }
 }
 
-/// The two ends, unless one is a regular file.
-///
-/// # Errors
-///
-/// One is a regular file, or what it is cannot be read.
-fn checked<F: OpenFile + Drop>(from: F, to: F) -> Result<(F, F), Reason> {
-    if is_regular(&from)? || is_regular(&to)? {
-        return Err(Reason::RegularFile);
+/// Whether there is a file at the path, and another one than was opened.
+fn is_another(opened: Option<FileId>, there: Option<FileId>) -> bool
+    ensures { IsTrue result ↔ (IsSome opened × IsSome there × (opened ≢ there)) }
+{
+    match (opened, there) {
+        (Some(opened), Some(there)) => opened != there,
+        _ => false,
     }
-    Ok((from, to))
-}
-
-/// Whether the file is a regular one.
-///
-/// # Errors
-///
-/// What it is cannot be read.
-fn is_regular<F: OpenFile>(file: &F) -> Result<bool, Reason> {
-    match file.metadata() {
-        Ok(metadata) => Ok(metadata.is_file()),
-        Err(error) => Err(Reason::Unopened(error.kind())),
-    }
-}
-
-/// A device that is read and written.
-fn both_ways<R: Files>(rt: &R, path: &str) -> io::Result<(R::File, R::File)> {
-    let from = OpenOptions::new().read(true).write(true).open(rt, path)?;
-    let to = from.try_clone()?;
-    Ok((from, to))
-}
-
-/// A file that is read and one that is written, as the two of a pair of FIFOs. The one that is read
-/// is opened first.
-fn two_files<R: Files>(rt: &R, from: &str, to: &str) -> io::Result<(R::File, R::File)> {
-    let from = File::open(rt, from)?;
-    let to = OpenOptions::new().write(true).open(rt, to)?;
-    Ok((from, to))
 }
 
 /// Who tells what becomes of a line of the machine, a line on standard error each time.
@@ -110,12 +131,17 @@ pub struct HostTeller<R: Drop> {
     pub(crate) bus: u8,
     /// The path of the line, or both, with a comma between.
     pub(crate) paths: String,
+    pub(crate) reasons: Arc<DownReasons>,
     /// The watch of the building that the line is of. A line of none is not told of.
     pub(crate) watch: Option<Arc<DownWatch>>,
 }
 
-impl<R: Eprint + Drop> Teller for HostTeller<R> {
+impl<R: Eprint + Wait + Drop> Teller for HostTeller<R> {
     ghost answers = { λ teller answer. answer ≡ true → IsSome teller.watch };
+
+    fn note_reason(&self, reason: &Reason) {
+        self.reasons.note(&self.rt, self.bus, reason);
+    }
 
     fn tell_down(&self, reason: &Reason) {
         if self.watch.is_some() {
@@ -126,6 +152,12 @@ impl<R: Eprint + Drop> Teller for HostTeller<R> {
     fn tell_up(&self) {
         if self.watch.is_some() {
             let _ = eprintln!(self.rt; "bus {} up: {}", self.bus, self.paths);
+        }
+    }
+
+    fn tell_slow(&self) {
+        if self.watch.is_some() {
+            let _ = eprintln!(self.rt; "bus {} slow: {}", self.bus, self.paths);
         }
     }
 

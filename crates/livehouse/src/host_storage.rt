@@ -155,6 +155,10 @@ impl<R: Files + Wait + Timer + Eprint + Drop, D: Drop> Storage for HostSite<'_, 
     fn memory(&self) -> Option<u64> {
         HostStorage { rt: self.rt }.memory()
     }
+
+    fn why_down(&self, alloc: Global, bus: u8) -> Option<String> {
+        self.reasons.of(self.rt, alloc, bus)
+    }
 }
 
 /// Writes a file beside the one at a path, and gives it that one's path.

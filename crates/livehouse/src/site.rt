@@ -15,6 +15,8 @@ pub enum SiteFault {
     Memory,
     /// It cannot be opened, or its interface does not greet.
     Failed,
+    /// Another program, or another bus, has the line.
+    Busy,
     /// The end of the clock has come already.
     Ended,
 }

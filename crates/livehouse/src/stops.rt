@@ -13,6 +13,8 @@ pub enum LiveStop<'a> {
     Lineup(LineupFault),
     /// This line is not opened, or its interface does not greet.
     NotOpened(LineWord<'a>),
+    /// Another program has this line.
+    Busy(LineWord<'a>),
     /// The machine's clock cannot be read.
     NoClock,
     /// There is a file at the path that ends the building, before its first moment.
@@ -25,18 +27,23 @@ impl fmt::Display for LiveStop<'_> {
     fn fmt<W: fmt::Write>(&self, f: &mut fmt::Formatter<W>) -> fmt::Result {
         match self {
             LiveStop::Lineup(fault) => write!(f, "error: {fault}"),
-            LiveStop::NotOpened(LineWord { from, to: None, .. }) => write!(f, "cannot open {from}"),
-            LiveStop::NotOpened(
-                LineWord {
-                    from,
-                    to: Some(to),
-                    ..
-                },
-            ) => write!(f, "cannot open {from},{to}"),
+            LiveStop::NotOpened(line) => write_unopened(f, line),
+            LiveStop::Busy(line) => {
+                write_unopened(f, line)?;
+                f.write_str(": busy")
+            }
             LiveStop::NoClock => write!(f, "cannot read the clock"),
             LiveStop::Ended => write!(f, "the file of --stop is there: nothing begins"),
             LiveStop::Start(fault) => write!(f, "{fault}"),
         }
+    }
+}
+
+/// Says of a line that it is not opened.
+fn write_unopened<W: fmt::Write>(f: &mut fmt::Formatter<W>, line: &LineWord) -> fmt::Result {
+    match line.to {
+        Some(to) => write!(f, "cannot open {},{to}", line.from),
+        None => write!(f, "cannot open {}", line.from),
     }
 }
 

@@ -195,12 +195,15 @@ fn status_bytes<S: Storage>(
     history: &History,
     is_json: bool,
 ) -> io::Result<Vec<u8>> {
+    let plant = history.follower.plant();
+    let reasons = reasons_of(alloc, storage, plant.setup().plan().buses())?;
     let status = Status {
-        plant: history.follower.plant(),
+        plant,
         levels: &history.levels,
         moment: history.moment,
         date: date_at(storage.seconds()),
         memory: storage.memory(),
+        reasons: reasons.as_slice(),
     };
     let mut bytes = Vec::new(alloc);
     if is_json {
@@ -209,6 +212,23 @@ fn status_bytes<S: Storage>(
         write_lines(&mut bytes, &status)?;
     }
     Ok(bytes)
+}
+
+/// Why the lines of the given number of buses are down, where that is known.
+///
+/// # Errors
+///
+/// The allocator is out of memory.
+fn reasons_of<S: Storage>(
+    alloc: Global,
+    storage: &S,
+    buses: u8,
+) -> Result<Vec<Option<String>>, AllocError> {
+    let mut reasons = Vec::new(alloc);
+    for bus in 0..buses {
+        reasons.push(storage.why_down(alloc, bus))?;
+    }
+    Ok(reasons)
 }
 
 /// The bytes of a record, once what is done before it is done.

@@ -29,6 +29,20 @@ pub(crate) struct Status<'s> {
     pub(crate) date: Timestamp,
     /// The memory that the program holds, in KiB, where it is known.
     pub(crate) memory: Option<u64>,
+    /// Why the lines of buses are down, by their numbers, where that is known.
+    pub(crate) reasons: &'s [Option<String>],
+}
+
+impl Status<'_> {
+    /// Why a bus is down, where it is down and that is known.
+    fn reason(&self, bus: u8) -> Option<&str>
+        requires { bus < self.now.plant.now.plant.plan.buses }
+    {
+        if !self.plant.is_down(bus) {
+            return None;
+        }
+        self.reasons.get(usize::from(bus))?.as_deref()
+    }
 }
 
 /// Writes a status as lines.
@@ -46,7 +60,7 @@ pub(crate) fn write_lines<W: Write>(out: &mut W, status: &Status) -> io::Result<
         writeln!(out, "memory {memory} KiB")?;
     }
     for bus in 0..plan.buses() {
-        write_bus(out, plant, bus)?;
+        write_bus(out, status, bus)?;
     }
     for global in 0..plan.globals() {
         write_level(out, plan, status.levels, global)?;
@@ -67,15 +81,20 @@ pub(crate) fn write_lines<W: Write>(out: &mut W, status: &Status) -> io::Result<
 }
 
 /// The line of a bus.
-fn write_bus<W: Write>(out: &mut W, plant: &Plant, bus: u8) -> io::Result<()>
-    requires { bus < plant.now.plant.plan.buses }
+fn write_bus<W: Write>(out: &mut W, status: &Status, bus: u8) -> io::Result<()>
+    requires { bus < status.now.plant.now.plant.plan.buses }
 {
+    let plant = status.plant;
     let (sent, heard) = (plant.frames(bus), plant.heards(bus));
     let (waiting, dropped) = (waiting_at(plant, bus), dropped_at(plant, bus));
     let state = up_or_down(plant.is_down(bus));
+    write!(out, "bus {bus} {state} ")?;
+    if let Some(reason) = status.reason(bus) {
+        write!(out, "({reason}) ")?;
+    }
     writeln!(
         out,
-        "bus {bus} {state} sent {sent} heard {heard} waiting {waiting} dropped {dropped}"
+        "sent {sent} heard {heard} waiting {waiting} dropped {dropped}"
     )
 }
 
@@ -113,7 +132,7 @@ pub(crate) fn write_json<W: Write>(out: &mut W, status: &Status) -> io::Result<(
     if let Some(memory) = status.memory {
         write!(out, ",\"memory_kib\":{memory}")?;
     }
-    write_json_buses(out, plant)?;
+    write_json_buses(out, status)?;
     write_json_levels(out, plant.setup().plan(), status.levels)?;
     write_json_tasks(out, plant)?;
     write_json_variables(out, plant)?;
@@ -121,21 +140,35 @@ pub(crate) fn write_json<W: Write>(out: &mut W, status: &Status) -> io::Result<(
 }
 
 /// The buses, as JSON.
-fn write_json_buses<W: Write>(out: &mut W, plant: &Plant) -> io::Result<()> {
+fn write_json_buses<W: Write>(out: &mut W, status: &Status) -> io::Result<()> {
+    let plant = status.plant;
     write!(out, ",\"buses\":[")?;
     let mut before = "";
     for bus in 0..plant.setup().plan().buses() {
         let (sent, heard) = (plant.frames(bus), plant.heards(bus));
         let (waiting, dropped) = (waiting_at(plant, bus), dropped_at(plant, bus));
         let state = up_or_down(plant.is_down(bus));
-        write!(
-            out,
-            "{before}{{\"bus\":{bus},\"state\":\"{state}\",\"sent\":{sent},\"heard\":{heard}"
-        )?;
+        write!(out, "{before}{{\"bus\":{bus},\"state\":\"{state}\"")?;
+        if let Some(reason) = status.reason(bus) {
+            write_json_reason(out, reason)?;
+        }
+        write!(out, ",\"sent\":{sent},\"heard\":{heard}")?;
         write!(out, ",\"waiting\":{waiting},\"dropped\":{dropped}}}")?;
         before = ",";
     }
     write!(out, "]")
+}
+
+/// Why a bus is down, as a member of JSON.
+fn write_json_reason<W: Write>(out: &mut W, reason: &str) -> io::Result<()> {
+    write!(out, ",\"reason\":\"")?;
+    for character in reason.chars() {
+        match character {
+            '"' | '\\' => write!(out, "\\{character}")?,
+            _ => write!(out, "{character}")?,
+        }
+    }
+    write!(out, "\"")
 }
 
 /// The levels that were handed out last, as JSON. An address is 0 to 63 for a short one, 64 to 79

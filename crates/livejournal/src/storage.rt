@@ -94,4 +94,9 @@ pub trait Storage {
 
     /// The memory that the program holds, in KiB, where it is known.
     fn memory(&self) -> Option<u64>;
+
+    /// Why the line of this bus is down, as it was found last, where that is known.
+    fn why_down(&self, _alloc: Global, _bus: u8) -> Option<String> {
+        None
+    }
 }

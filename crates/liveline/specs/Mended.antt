@@ -12,7 +12,7 @@ pub record Setting (O T : Type 0) : Type 0 where
   pub opener : O
   -- who tells what becomes of it
   pub teller : T
-  -- the milliseconds that its interface has for an answer
+  -- the milliseconds that its interface has for all answers of one transaction together
   pub patience : ℕ
 
 pub record MendedState (O T : Type 0) : Type 0 where
@@ -22,6 +22,8 @@ pub record MendedState (O T : Type 0) : Type 0 where
   pub is_in_step : Bool
   -- how many frames were heard since the building's end was asked for
   pub heard_last : ℕ
+  -- when the first frame of the transaction was asked for, where one was, in nanoseconds of the machine's timer
+  pub began : Option ℕ
   pub set : Setting O T
 
 -- a frame counts exactly where the teller, asked whether the end was asked for, answered that it was

@@ -101,6 +101,7 @@ impl<R: Read + Drop, W: Write + Drop> LineBus<R, W> {
     {
         self.line = Some(greeted);
         self.is_in_step = true;
+        self.trouble = Trouble::Absent;
     }
 
     /// Gives the bus another line, whose interface greeted, so that it may be taken up again. What
@@ -136,6 +137,37 @@ impl<R: Read + Drop, W: Write + Drop> LineBus<R, W> {
     /// Why the last request on the line came to nothing, where one did.
     pub fn trouble(&self) -> &Trouble {
         &self.trouble
+    }
+
+    /// The reader of the line, where there is one, to look at it.
+    pub fn reader(&self) -> Option<&R>
+        ensures { IfSome result (λ from. R.remaining from.now ≡ self.now.unread) }
+    {
+        match &self.line {
+            Some(line) => Some(line.reader()),
+            None => None,
+        }
+    }
+
+    /// The writer of the line, where there is one, to look at it.
+    pub fn writer(&self) -> Option<&W>
+        ensures { IfSome result (λ to. W.contents to.now ≡ self.now.written) }
+    {
+        match &self.line {
+            Some(line) => Some(line.writer()),
+            None => None,
+        }
+    }
+
+    /// The interface has no time left for what is to be asked: from now on each call fails, and says
+    /// and reads nothing. The line stays, so that it can be let go of.
+    pub fn fall_silent(&mut self)
+        ensures { self.new ≡ record self.old { is_in_step = false } }
+    {
+        if self.is_in_step {
+            self.is_in_step = false;
+            self.trouble = Trouble::Silent;
+        }
     }
 
     /// Notes why a request came to nothing: the first that did tells why those after it fail.

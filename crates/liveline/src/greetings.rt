@@ -62,8 +62,17 @@ impl<R: Read + Drop, W: Write + Drop> Greeted<R, W> {
     }
 
     /// The reader, to look at it.
-    pub fn reader(&self) -> &R {
+    pub fn reader(&self) -> &R
+        ensures { R.remaining result.now ≡ self.now.unread }
+    {
         &self.from
+    }
+
+    /// The writer, to look at it.
+    pub fn writer(&self) -> &W
+        ensures { W.contents result.now ≡ self.now.written }
+    {
+        &self.to
     }
 
     /// The two ends.

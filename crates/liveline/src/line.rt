@@ -1,15 +1,18 @@
 //! The line, as whoever has its bus sees it.
 
-ghost use Rattle.std.specs.Prelude.{◌≡◌, ◌<◌, ◌+◌, ◌⊎◌, IfOk, IsErr, false, true};
-ghost use Rattle.buslink.specs.BusLog.{TellsAll, after_hear, after_mend};
+ghost use Rattle.std.specs.Prelude.{◌≡◌, ◌<◌, ◌≤◌, ◌+◌, ◌⊎◌, IfOk, IfSome, IsErr, IsOk, IsSome};
+ghost use Rattle.std.specs.Prelude.{None, OnOk, Some, false, true};
+ghost use Rattle.buslink.specs.BusLog.{TellsAll, after_hear, after_mend, after_send, with_spare};
 ghost use Rattle.liveline.specs.Exchanges.{fresh_log};
 ghost use Rattle.liveline.specs.Mended.{IsCounted, IsLastCounted, most_kept};
 
+use crate::budget::Budget;
 use crate::buses::LineBus;
 use crate::reader::TimedReader;
 use crate::reasons::Reason;
 use crate::starter::{LineStarter, Order};
 use crate::thread::{Job, Outcome, Tries};
+use crate::told::Told;
 use crate::troubles::Trouble;
 use crate::writer::TimedWriter;
 use buslink::{Bus, Fault, Reply};
@@ -20,7 +23,7 @@ use std::alloc::{AllocError, Global};
 use std::io::Write;
 use std::marker::Model;
 use std::sync::Wait;
-use std::time::Clock;
+use std::time::{Clock, Instant};
 
 /// The most frames that are heard once the building's end was asked for: as many as an interface
 /// keeps.
@@ -33,11 +36,17 @@ pub trait Teller: Drop {
     // Asked whether the building's end was asked for, it may answer this.
     ghost answers: { Self → Bool → Type 0 };
 
+    /// Why the line is down. Each try that fails says it, whether it is told or not.
+    fn note_reason(&self, reason: &Reason);
+
     /// The line is down.
     fn tell_down(&self, reason: &Reason);
 
     /// It is up again.
     fn tell_up(&self);
+
+    /// It is slow: more than half of its time was used.
+    fn tell_slow(&self);
 
     /// Whether the building's end was asked for.
     fn is_at_end(&self) -> bool
@@ -57,10 +66,11 @@ pub struct MendedLine<R: Wait + Clock + Drop, W: Write + Drop, T: Teller, O> {
     is_tried: bool,
     /// Why the last try failed.
     why: Reason,
-    /// The milliseconds that the interface has for an answer.
-    patience: u64,
-    /// Whether it was told that the line is down.
+    /// The time that the interface has for the answers of one transaction, and for what has come.
+    budget: Budget,
+    /// Whether a call failed since the bus was taken up.
     is_down: bool,
+    told: Told,
     /// How many frames were heard since the building's end was asked for.
     heard_last: u32,
     teller: T,
@@ -69,7 +79,8 @@ pub struct MendedLine<R: Wait + Clock + Drop, W: Write + Drop, T: Teller, O> {
 }
 
 impl<R: Wait + Clock + Drop, W: Write + Drop, T: Teller, O> Model for MendedLine<R, W, T, O> {
-    ghost use Rattle.std.specs.Prelude.{◌≤◌};
+    ghost use Rattle.std.specs.Prelude.{◌≤◌, option_map};
+    ghost use Rattle.std.specs.Time.{instant_nanos};
     ghost use Rattle.liveline.specs.Mended.{MendedState, most_kept};
 
     ghost Value = { MendedState O T };
@@ -78,7 +89,12 @@ impl<R: Wait + Clock + Drop, W: Write + Drop, T: Teller, O> Model for MendedLine
       log = m.bus.log;
       is_in_step = m.bus.is_in_step;
       heard_last = m.heard_last;
-      set = record { opener = m.opener.value; teller = m.teller; patience = m.patience };
+      began = option_map instant_nanos m.budget.began;
+      set = record {
+        opener = m.opener.value;
+        teller = m.teller;
+        patience = m.budget.patience;
+      };
     } };
 
     ghost invariant = { λ m. m.heard_last ≤ most_kept };
@@ -87,7 +103,7 @@ impl<R: Wait + Clock + Drop, W: Write + Drop, T: Teller, O> Model for MendedLine
 impl<R: Wait + Clock + Drop, W: Write + Drop, T: Teller, O: Drop> MendedLine<R, W, T, O> {
     /// A bus whose line is not open yet: a thread of its own, which the starter starts, begins to
     /// open it. Each call fails, and says nothing, until the line has greeted. The interface has so
-    /// many milliseconds for an answer.
+    /// many milliseconds for all answers of one transaction together, and as many for what has come.
     ///
     /// # Errors
     ///
@@ -105,6 +121,7 @@ impl<R: Wait + Clock + Drop, W: Write + Drop, T: Teller, O: Drop> MendedLine<R, 
         R: Clone,
         ensures log { IfOk result (λ line. line.log ≡ fresh_log number) }
         ensures step { IfOk result (λ line. line.is_in_step ≡ false) }
+        ensures began { IfOk result (λ line. line.began ≡ None) }
         ensures set { IfOk result (λ line. line.set ≡ record {
           opener = opener;
           teller = teller;
@@ -138,8 +155,9 @@ impl<R: Wait + Clock + Drop, W: Write + Drop, T: Teller, O: Drop> MendedLine<R, 
             outcomes,
             is_tried: false,
             why: Reason::NotYet,
-            patience,
+            budget: Budget::new(patience),
             is_down: false,
+            told: Told::nothing(),
             heard_last: 0,
             teller,
             opener: noted,
@@ -164,6 +182,7 @@ impl<R: Wait + Clock + Drop, W: Write + Drop, T: Teller, O: Drop> MendedLine<R, 
     pub fn begin(&mut self)
         ensures log { self.new.log ≡ self.old.log }
         ensures heard { self.new.heard_last ≡ self.old.heard_last }
+        ensures began { self.new.began ≡ self.old.began }
         ensures set { self.new.set ≡ self.old.set }
     {
         if self.is_down || self.bus.is_in_step() {
@@ -194,6 +213,7 @@ impl<R: Wait + Clock + Drop, W: Write + Drop, T: Teller, O: Drop> MendedLine<R, 
     fn look(&mut self)
         ensures log { after_mend false self.new.log ≡ after_mend false self.old.log }
         ensures heard { self.new.heard_last ≡ self.old.heard_last }
+        ensures began { self.new.began ≡ self.old.began }
         ensures set { self.new.set ≡ self.old.set }
     {
         if !self.is_tried {
@@ -208,6 +228,7 @@ impl<R: Wait + Clock + Drop, W: Write + Drop, T: Teller, O: Drop> MendedLine<R, 
             }
             Ok(Err(why)) => {
                 self.why = why;
+                self.tell_why();
                 self.ask(None);
             }
             Err(_) => {}
@@ -220,6 +241,7 @@ impl<R: Wait + Clock + Drop, W: Write + Drop, T: Teller, O: Drop> MendedLine<R, 
     fn end_where_heard(&mut self)
         ensures log { self.new.log ≡ self.old.log }
         ensures heard { self.new.heard_last ≡ self.old.heard_last }
+        ensures began { self.new.began ≡ self.old.began }
         ensures set { self.new.set ≡ self.old.set }
         ensures ends { self.old.heard_last ≡ most_kept → self.new.is_in_step ≡ false }
         ensures left { (self.old.heard_last < most_kept) ⊎ (self.new.is_in_step ≡ false) }
@@ -234,6 +256,7 @@ impl<R: Wait + Clock + Drop, W: Write + Drop, T: Teller, O: Drop> MendedLine<R, 
     fn count_last(&mut self)
         requires few { self.old.heard_last < most_kept }
         ensures same { (self.new.log ≡ self.old.log) × (self.new.is_in_step ≡ self.old.is_in_step) }
+        ensures began { self.new.began ≡ self.old.began }
         ensures set { self.new.set ≡ self.old.set }
         ensures counted { IsLastCounted (T.answers self.old.set.teller)
             self.old.heard_last self.new.heard_last }
@@ -243,7 +266,45 @@ impl<R: Wait + Clock + Drop, W: Write + Drop, T: Teller, O: Drop> MendedLine<R, 
         }
     }
 
-    /// Tells that the line is down, if that was not told yet.
+    /// Why the last try to open and greet the line failed, where one did.
+    pub fn why(&self) -> &Reason {
+        &self.why
+    }
+
+    /// Gives the interface what is left of its time for the next answer. Where nothing is left, it
+    /// falls silent.
+    fn spend(&mut self)
+        ensures log { self.new.log ≡ self.old.log }
+        ensures heard { self.new.heard_last ≡ self.old.heard_last }
+        ensures set { self.new.set ≡ self.old.set }
+        ensures silent { self.old.is_in_step ≡ false → self.new.is_in_step ≡ false }
+        ensures begun { self.new.is_in_step ≡ true → IsSome self.new.began }
+        ensures kept { IfSome self.old.began (λ began. self.new.began ≡ Some began) }
+    {
+        let left = match Instant::now(&self.rt) {
+            Ok(now) => self.budget.left_at(now),
+            Err(_) => 0,
+        };
+        if left == 0 {
+            self.bus.fall_silent();
+        } else if let (Some(from), Some(to)) = (self.bus.reader(), self.bus.writer()) {
+            from.set_patience(left);
+            to.set_patience(left);
+        }
+    }
+
+    /// Tells that the line is slow, where that is new.
+    fn note_slow(&mut self)
+        ensures { self.new ≡ self.old }
+    {
+        if let Ok(now) = Instant::now(&self.rt) {
+            if self.budget.turns_slow(now) {
+                self.teller.tell_slow();
+            }
+        }
+    }
+
+    /// Notes that a call failed, and tells that the line is down.
     fn note_down(&mut self)
         ensures { self.new ≡ self.old }
     {
@@ -252,8 +313,24 @@ impl<R: Wait + Clock + Drop, W: Write + Drop, T: Teller, O: Drop> MendedLine<R, 
         }
         self.is_down = true;
         match self.bus.trouble() {
-            Trouble::Absent => self.teller.tell_down(&self.why),
-            trouble => self.teller.tell_down(&Reason::of(trouble, self.patience)),
+            Trouble::Absent => {}
+            trouble => self.why = Reason::of(trouble, self.budget.patience),
+        }
+        self.tell_why();
+    }
+
+    /// Tells why the line is down, where a call failed and that is to be told.
+    fn tell_why(&mut self)
+        ensures { self.new ≡ self.old }
+    {
+        if !self.is_down {
+            return;
+        }
+        self.teller.note_reason(&self.why);
+        if let Ok(now) = Instant::now(&self.rt) {
+            if self.told.takes_down(self.why.kind(), now) {
+                self.teller.tell_down(&self.why);
+            }
         }
     }
 }
@@ -261,15 +338,31 @@ impl<R: Wait + Clock + Drop, W: Write + Drop, T: Teller, O: Drop> MendedLine<R, 
 impl<R: Wait + Clock + Drop, W: Write + Drop, T: Teller, O: Drop> Bus for MendedLine<R, W, T, O> {
     ghost log = { λ m. m.log };
 
-    fn room(&mut self, frames: usize) -> Result<(), AllocError> {
+    /// A transaction begins with this call, and its time with its first frame.
+    fn room(&mut self, frames: usize) -> Result<(), AllocError>
+        ensures made { OnOk result (frames ≤ self.new.log.spare) }
+        ensures already { frames ≤ self.old.log.spare → IsOk result }
+        ensures keeps { self.old.log.spare ≤ self.new.log.spare }
+        ensures same { self.new.log ≡ with_spare self.new.log.spare self.old.log }
+        ensures anew { self.new.began ≡ None }
+    {
+        self.budget.begin_anew();
         self.bus.room(frames)
     }
 
-    fn send(&mut self, frame: Frame, priority: u8) -> Result<Reply, Fault> {
+    fn send(&mut self, frame: Frame, priority: u8) -> Result<Reply, Fault>
+        requires { 0 < self.old.log.spare }
+        ensures logged { self.new.log ≡ after_send frame priority result self.old.log }
+        ensures begun { IsOk result → IsSome self.new.began }
+        ensures kept { IfSome self.old.began (λ began. self.new.began ≡ Some began) }
+        ensures set { self.new.set ≡ self.old.set }
+    {
         self.begin();
+        self.spend();
         let reply = self.bus.send(frame, priority);
-        if reply.is_err() {
-            self.note_down();
+        match reply {
+            Ok(_) => self.note_slow(),
+            Err(Fault) => self.note_down(),
         }
         reply
     }
@@ -281,16 +374,23 @@ impl<R: Wait + Clock + Drop, W: Write + Drop, T: Teller, O: Drop> Bus for Mended
         ensures few { self.old.heard_last ≡ most_kept → IsErr result }
         ensures counted { IsCounted (T.answers self.old.set.teller) result
             self.old.heard_last self.new.heard_last }
+        ensures begun { IsOk result → IsSome self.new.began }
         ensures set { self.new.set ≡ self.old.set }
     {
         self.begin();
         self.end_where_heard();
+        self.budget.begin_anew();
+        self.spend();
         match self.bus.hear() {
             Ok(Some(frame)) => {
+                self.note_slow();
                 self.count_last();
                 Ok(Some(frame))
             }
-            Ok(None) => Ok(None),
+            Ok(None) => {
+                self.note_slow();
+                Ok(None)
+            }
             Err(Fault) => {
                 self.note_down();
                 Err(Fault)
@@ -312,6 +412,9 @@ impl<R: Wait + Clock + Drop, W: Write + Drop, T: Teller, O: Drop> Bus for Mended
     fn resume(&mut self) {
         self.bus.resume();
         self.is_down = false;
-        self.teller.tell_up();
+        if self.told.takes_up() {
+            self.budget.forgive();
+            self.teller.tell_up();
+        }
     }
 }

@@ -118,6 +118,7 @@ impl<R: Wait + Clock + Drop> TimedReader<R> {
         let mut from = from;
         let started = thread::spawn(&rt, move || {
             read_all(&theirs, &mut from, &to);
+            drop(from);
             ends.store(true, Ordering::SeqCst);
         });
         if started.is_err() {

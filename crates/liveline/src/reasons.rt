@@ -1,5 +1,9 @@
 //! Why a line is down.
 
+ghost use Rattle.std.specs.Prelude.{◌≡◌, ◌↔◌, IsTrue};
+ghost use Rattle.std.specs.declared.io.ErrorKind.TheVariants.{ResourceBusy};
+ghost use Rattle.liveline.specs.declared.reasons.Reason.TheVariants.{Unopened};
+
 use crate::troubles::{LineBytes, Trouble};
 use std::fmt;
 use std::io::ErrorKind;
@@ -15,7 +19,7 @@ pub enum Reason {
     RegularFile,
     /// Its interface does not answer the greeting.
     Ungreeted,
-    /// The interface said nothing for this number of milliseconds.
+    /// The answers of one transaction took longer than this number of milliseconds.
     Silent(u64),
     /// The building's end was asked for, and it still has events, more than it is to keep.
     SpeaksOn,
@@ -27,7 +31,51 @@ pub enum Reason {
     Answered(LineBytes),
 }
 
+/// What kind of reason it is: two of one kind differ in a number or in an answer at most.
+#[derive(Clone, Copy, PartialEq, Eq)]
+pub(crate) enum ReasonKind {
+    NotYet,
+    NoFile,
+    Denied,
+    Memory,
+    Busy,
+    Directory,
+    Unopened,
+    RegularFile,
+    Ungreeted,
+    Silent,
+    SpeaksOn,
+    Closed,
+    Fault,
+    Answered,
+}
+
 impl Reason {
+    /// What kind of reason it is.
+    pub(crate) fn kind(&self) -> ReasonKind {
+        match self {
+            Reason::NotYet => ReasonKind::NotYet,
+            Reason::Unopened(kind) => unopened_kind(*kind),
+            Reason::RegularFile => ReasonKind::RegularFile,
+            Reason::Ungreeted => ReasonKind::Ungreeted,
+            Reason::Silent(_) => ReasonKind::Silent,
+            Reason::SpeaksOn => ReasonKind::SpeaksOn,
+            Reason::Closed => ReasonKind::Closed,
+            Reason::Fault => ReasonKind::Fault,
+            Reason::Answered(_) => ReasonKind::Answered,
+        }
+    }
+
+    /// Whether another program or another bus has the line.
+    pub fn is_busy(&self) -> bool
+        ensures { IsTrue result ↔ (self.now ≡ Unopened ResourceBusy) }
+    {
+        match self {
+            Reason::Unopened(kind) => matches!(kind, ErrorKind::ResourceBusy),
+            _ => false,
+        }
+    }
+
     /// Why a line is down on which the last request came to nothing, with this patience in
     /// milliseconds.
     pub(crate) fn of(trouble: &Trouble, patience: u64) -> Reason {
@@ -71,13 +119,26 @@ impl fmt::Display for Reason {
     }
 }
 
+/// What kind of reason it is where a line cannot be opened.
+fn unopened_kind(kind: ErrorKind) -> ReasonKind {
+    match kind {
+        ErrorKind::NotFound => ReasonKind::NoFile,
+        ErrorKind::PermissionDenied => ReasonKind::Denied,
+        ErrorKind::OutOfMemory => ReasonKind::Memory,
+        ErrorKind::ResourceBusy => ReasonKind::Busy,
+        ErrorKind::IsADirectory => ReasonKind::Directory,
+        _ => ReasonKind::Unopened,
+    }
+}
+
 /// Why a line cannot be opened.
 fn why_unopened(kind: ErrorKind) -> &'static str {
-    match kind {
-        ErrorKind::NotFound => "no such file",
-        ErrorKind::PermissionDenied => "permission denied",
-        ErrorKind::OutOfMemory => "out of memory",
-        ErrorKind::ResourceBusy => "busy",
+    match unopened_kind(kind) {
+        ReasonKind::NoFile => "no such file",
+        ReasonKind::Denied => "permission denied",
+        ReasonKind::Memory => "out of memory",
+        ReasonKind::Busy => "busy",
+        ReasonKind::Directory => "is a directory",
         _ => "cannot be opened",
     }
 }

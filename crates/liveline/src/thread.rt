@@ -30,6 +30,10 @@ pub trait Opener<W>: Drop {
     ///
     /// The line cannot be opened. Nothing was written.
     fn open(&mut self) -> Result<(Self::From, W), Reason>;
+
+    /// Whether another line is there now than the one that was opened last, as where an interface
+    /// that hangs was replaced.
+    fn has_moved(&self) -> bool;
 }
 
 /// The ends of a line. A thread reads the first, and another one writes to the second.
@@ -93,7 +97,8 @@ where
         self.began = Instant::now(&self.rt).ok();
     }
 
-    /// Greets the line over the ends that there are, while they are read, else over new ones.
+    /// Greets the line over the ends that there are, while they are read, else over new ones. Ends
+    /// that do not greet are given up where another line is there by then.
     ///
     /// # Errors
     ///
@@ -101,6 +106,7 @@ where
     fn attempt(&mut self) -> Outcome<R, W> {
         let (from, to) = self.ends_to_greet()?;
         from.set_patience(self.patience.min(GREETING));
+        to.set_patience(self.patience.min(GREETING));
         match Greeted::greet(from, to, self.next_number()) {
             Ok(greeted) => {
                 greeted.reader().set_patience(self.patience);
@@ -108,25 +114,28 @@ where
             }
             Err(Ungreeted { from, mut to, why }) => {
                 let is_stuck = to.is_stuck();
-                self.ends = Some((from, to));
+                if !self.opener.has_moved() {
+                    self.ends = Some((from, to));
+                }
                 Err(self.why_ungreeted(&why, is_stuck))
             }
         }
     }
 
     /// The ends that there are, while they are read, else new ones. While the thread that writes is
-    /// stuck there are none: so no line has two such threads.
+    /// stuck, and no other line is there, there are none: so no file has two such threads.
     ///
     /// # Errors
     ///
     /// The thread that writes is stuck, or the line cannot be opened.
     fn ends_to_greet(&mut self) -> Result<Ends<R, W>, Reason> {
         if let Some((from, mut to)) = self.ends.take() {
-            if to.is_stuck() {
+            let is_stuck = to.is_stuck();
+            if is_stuck && !self.opener.has_moved() {
                 self.ends = Some((from, to));
                 return Err(Reason::Silent(self.patience));
             }
-            if !from.has_ended() {
+            if !is_stuck && !from.has_ended() {
                 return Ok((from, to));
             }
         }

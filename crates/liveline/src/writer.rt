@@ -16,6 +16,7 @@ use std::alloc::Global;
 use std::io::{ErrorKind, Write};
 use std::marker::Model;
 use std::sync::Wait;
+use std::sync::atomic::{AtomicU64, Ordering};
 use std::thread::Threads;
 use std::time::Clock;
 use std::{io, thread};
@@ -41,7 +42,7 @@ struct Returned<W: Drop> {
 pub struct TimedWriter<R: Wait + Clock + Drop, W: Drop> {
     rt: R,
     /// The milliseconds in which a piece is to be written.
-    patience: u64,
+    patience: AtomicU64,
     /// The writer, unless it is lent.
     to: Option<W>,
     /// When it is to be back, where it is lent.
@@ -116,12 +117,17 @@ impl<R: Wait + Clock + Drop, W: Drop> TimedWriter<R, W> {
         }
         Ok(TimedWriter {
             rt,
-            patience,
+            patience: AtomicU64::new(patience),
             to: Some(to),
             deadline,
             lent,
             returned,
         })
+    }
+
+    /// From the next piece on, a piece is to be written in the given number of milliseconds.
+    pub fn set_patience(&self, patience: u64) {
+        self.patience.store(patience, Ordering::SeqCst);
     }
 
     /// Whether the thread still writes what was handed on last: nothing can be written, and the
@@ -171,7 +177,7 @@ impl<R: Wait + Clock + Drop, W: Drop> TimedWriter<R, W> {
         ensures lent { OnOk result (self.new ≡ true) }
         ensures kept { OnErr result (self.new ≡ self.old) }
     {
-        let deadline = Deadline::after(&self.rt, self.patience)?;
+        let deadline = Deadline::after(&self.rt, self.patience.load(Ordering::SeqCst))?;
         let Some(to) = self.to.take() else {
             return Err(io::Error::from(ErrorKind::TimedOut));
         };

@@ -1,9 +1,9 @@
 //! Buses behind a line that is opened anew.
 
-ghost use Rattle.std.specs.Prelude.{◌≡◌, ◌+◌, ◌<◌, IfOk, IfSome, false, true};
+ghost use Rattle.std.specs.Prelude.{◌≡◌, ◌≢◌, ◌+◌, ◌<◌, IfOk, IfSome, None, OnOk, Some, false, true};
 
-use buslink::{Bus, Fault};
-use daliframe::{BusNumber, Frame24};
+use buslink::{Bus, Fault, Reply};
+use daliframe::{BusNumber, Frame, Frame24};
 use liveline::{LineStarter, MendedLine, Teller};
 use std::alloc::{AllocError, Global};
 use std::io::Write;
@@ -54,4 +54,38 @@ pub fn patience_is_the_given_one<
     ensures { IfOk result (λ line. line.set.patience ≡ 300) }
 {
     MendedLine::start(alloc, rt, opener, teller, number, 300, starter)
+}
+
+/// `each_frame_has_the_whole_time`: the time of a transaction began anew with a later frame.
+pub fn time_goes_on_with_a_later_frame<R: Wait + Clock + Drop, W: Write + Drop, T: Teller, O: Drop>(
+    line: &mut MendedLine<R, W, T, O>,
+    frame: Frame,
+) -> Result<Reply, Fault>
+    requires spare { 0 < line.old.log.spare }
+    requires begun { line.old.began ≡ Some 7 }
+    ensures { line.new.began ≡ Some 7 }
+{
+    line.send(frame, 1)
+}
+
+/// `the_time_never_begins`: a frame was asked for and answered, and no time had begun.
+pub fn time_begins_with_the_first_frame<
+    R: Wait + Clock + Drop,
+    W: Write + Drop,
+    T: Teller,
+    O: Drop,
+>(line: &mut MendedLine<R, W, T, O>, frame: Frame) -> Result<Reply, Fault>
+    requires { 0 < line.old.log.spare }
+    ensures { OnOk result (line.new.began ≢ None) }
+{
+    line.send(frame, 1)
+}
+
+/// `a_transaction_has_the_time_of_the_one_before`: the time went on over two transactions.
+pub fn transaction_has_its_own_time<R: Wait + Clock + Drop, W: Write + Drop, T: Teller, O: Drop>(
+    line: &mut MendedLine<R, W, T, O>,
+) -> Result<(), AllocError>
+    ensures { line.new.began ≡ None }
+{
+    line.room(1)
 }

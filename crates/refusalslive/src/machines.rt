@@ -35,7 +35,7 @@ where
     ensures to { IfOk result
         (λ bus. option_map string_bytes bus.set.opener.to ≡ Some (codes "out")) }
 {
-    site.line(alloc, line, number, 5000, watch)
+    site.line(alloc, line, number, 1000, watch)
 }
 
 /// `the_machine_has_a_third_of_the_ticks`, `the_machine_looks_for_no_file`: the machine's clock had

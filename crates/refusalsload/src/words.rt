@@ -25,7 +25,7 @@ pub fn building_has_its_defaults<'a>(found: &ArgMatches<'a>) -> Option<LiveOptio
     ensures seconds { IfSome result (λ options. options.seconds ≡ None) }
     ensures log { IfSome result (λ options. options.beside.log ≡ None) }
     ensures end { IfSome result (λ options. options.ends_on_down ≡ false) }
-    ensures patience { IfSome result (λ options. options.patience ≡ 5000) }
+    ensures patience { IfSome result (λ options. options.patience ≡ 1000) }
 {
     match invocation_of("live", found) {
         Ok(Invocation::Live { options, .. }) => Some(options),

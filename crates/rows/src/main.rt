@@ -17,12 +17,12 @@ mod running;
 mod simulated;
 mod wrong;
 
-use livehouse::{HostDevices, HostSite, LineStarter, Site};
+use livehouse::{DownReasons, HostDevices, HostSite, LineStarter, Site};
 use pages::judge_page;
 use running::judge_lines;
 use std::process::ExitCode;
 use std::rt::{Env, Files};
-use std::sync::Wait;
+use std::sync::{Arc, Wait};
 use std::thread::Threads;
 use std::time::Clock as Timer;
 use std::{env, fs, io};
@@ -35,6 +35,7 @@ fn main(rt: HostRuntime) -> io::Result<ExitCode> {
         rt: &rt,
         devices: &devices,
         starter: &LineStarter::start(rt.alloc(), rt)?,
+        reasons: &Arc::new(rt.alloc(), DownReasons::new(rt.alloc()))?,
     };
     match judge_files(&rt, &site) {
         Ok((rows, wrong)) => {
