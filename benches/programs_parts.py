@@ -56,11 +56,12 @@ class Bench:
         self.hold(wait_for(link.exists, 60), f"{words[0]} makes no line")
         return process
 
-    def run(self, *words: Any, seconds: float = 60) -> subprocess.CompletedProcess[str]:
-        """A process that ends by itself, with what it printed; what takes longer than this time ends with TOO_LATE."""
+    def run(self, *words: Any, seconds: float = 60, types: str = "") -> subprocess.CompletedProcess[str]:
+        """A process that ends by itself, with what it printed; what takes longer than this time ends with TOO_LATE. What is
+        typed is its input."""
         command = [str(word) for word in words]
         try:
-            return subprocess.run(command, capture_output=True, text=True, timeout=seconds)
+            return subprocess.run(command, capture_output=True, text=True, timeout=seconds, input=types)
         except subprocess.TimeoutExpired:
             return subprocess.CompletedProcess(command, TOO_LATE, "", "")
 

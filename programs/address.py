@@ -5,7 +5,8 @@ IT IS NOT PROVED, and was tried on simulated gear and devices alone.
 
   address.py PATH list               shows which short addresses are taken
   address.py PATH find [--first N]   gives each gear without a short address one that is free, from
-                                     N on (0 if nothing is said)
+                                     N on (0 if nothing is said). With --blink each blinks then,
+                                     one after another, so that you see which lamp it is
   address.py PATH give OLD NEW       gear OLD gets the short address NEW, which must be free
   address.py PATH swap A B           gear A and gear B exchange their short addresses
   address.py PATH take A             takes short address A away, also from several that have it
@@ -28,8 +29,8 @@ and goes on where it was. Where the program itself was ended, start it again: ge
 address keeps it.
 
 `find` changes nothing of gear that has an address. Gear finds its place in the search by a random
-number. Where two took the same one, both wait for the next round. `dalictl blink` shows which lamp
-got which address, and `dalictl listen` which button.
+number. Where two took the same one, both wait for the next round. --blink, and later `dalictl blink`,
+show which lamp got which address, and `dalictl listen` which button.
 
 The picture has a cell for each short address from 0 to 63: `.` free, `o` taken, `#` given now, `?`
 more than one gear.
@@ -47,6 +48,7 @@ from typing import Any, Callable, Dict, List, Optional
 
 from dalictl_house.device_wire import DeviceWire
 from dalictl_house.instances import Instance, instances_of
+from dalictl_house.lamps import Lamp
 from dalictl_house.settings import bring, parse_settings
 from gushewa_line.controller import Controller, LineFailed
 from searching import ADDRESSES, Gone, Refused, Search, Wire
@@ -91,6 +93,7 @@ class Commissioning:
 
     def __init__(self, wire: Wire, picture: Picture) -> None:
         self.wire, self.picture = wire, picture
+        self.found: List[int] = []
 
     def survey(self) -> None:
         """Asks each short address whether somebody is there."""
@@ -110,9 +113,25 @@ class Commissioning:
             print(f"more than one {self.wire.noun} has short address {address}: take it away, and find")
         return not twice
 
-    def find(self, first: int) -> bool:
+    def find(self, first: int, blink: bool) -> bool:
+        if blink and type(self.wire) is not Wire:
+            raise Refused("control devices do not blink: dalictl listen shows which button has which address")
         self.survey()
-        return self.find_free(self.free(first))
+        is_done = self.find_free(self.free(first))
+        if blink:
+            self.blink_found()
+        return is_done
+
+    def blink_found(self) -> None:
+        """Blinks what was given an address, one after another, for as long as somebody answers."""
+        for address in self.found:
+            is_again = True
+            while is_again:
+                Lamp(self.wire, address).blink()
+                try:
+                    is_again = input(f"gear {address} blinked. Enter: the next one; a: again > ").strip() == "a"
+                except EOFError:
+                    return
 
     def find_free(self, free: List[int]) -> bool:
         """Gives these short addresses. Returns whether none is left without one."""
@@ -127,6 +146,7 @@ class Commissioning:
 
     def given(self, short: int, random: int) -> None:
         self.picture.cells[short] = "#"
+        self.found.append(short)
         self.picture.say(f"short address {short} given to the {self.wire.noun} with random address {random:06X}")
 
     def equal(self, random: int) -> None:
@@ -227,7 +247,9 @@ def read_words() -> argparse.Namespace:
     parser.add_argument("--devices", action="store_true")
     commands = parser.add_subparsers(dest="command", required=True)
     commands.add_parser("list")
-    commands.add_parser("find").add_argument("--first", type=short_address, default=0)
+    find = commands.add_parser("find")
+    find.add_argument("--first", type=short_address, default=0)
+    find.add_argument("--blink", action="store_true")
     for name, words in (
         ("give", ("old", "new")),
         ("swap", ("one", "other")),

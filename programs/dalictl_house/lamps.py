@@ -2,6 +2,7 @@
 
 from __future__ import annotations
 
+import time
 from typing import Dict, Optional
 
 from dalictl_house.values import Bits, Choice, Number, Value
@@ -22,6 +23,8 @@ CODES = {
     **{f"scene-{scene}": (0x40 + scene, 0xB0 + scene) for scene in range(SCENES)},
 }
 ADD_TO_GROUP, REMOVE_FROM_GROUP, QUERY_GROUPS = 0x60, 0x70, 0xC0
+RECALL_MAX_LEVEL, OFF, QUERY_ACTUAL_LEVEL = 0x05, 0x00, 0xA0
+BLINKS, HALF_SECONDS = 3, 0.5
 VALUES: Dict[str, Value] = {
     "min": Number(1, 254),
     "max": Number(1, 254),
@@ -50,6 +53,15 @@ class Lamp:
 
     def frame(self, opcode: int) -> int:
         return (self.address << 1 | 1) << 8 | opcode
+
+    def blink(self) -> None:
+        """Lets it go on and off, and sets it back."""
+        level = self.wire.number(self.frame(QUERY_ACTUAL_LEVEL))
+        for opcode in (RECALL_MAX_LEVEL, OFF) * BLINKS:
+            self.wire.transaction(self.frame(opcode))
+            time.sleep(HALF_SECONDS)
+        if level is not None:
+            self.wire.transaction(self.address << 9 | level)
 
     def read(self, word: str) -> Optional[int]:
         if word == GROUPS:

@@ -15,8 +15,6 @@ from dalictl_house.lamps import Lamp
 from dalictl_house.table import INPUTS, LAMP, Row
 from searching import ADDRESSES, Wire
 
-RECALL_MAX_LEVEL, OFF, QUERY_ACTUAL_LEVEL = 0x05, 0x00, 0xA0
-BLINKS, HALF_SECONDS = 3, 0.5
 HEAR_SECONDS = 0.05
 
 
@@ -53,7 +51,7 @@ class Placing:
     def place_lamp(self, row: Row) -> None:
         """Blinks what stands at a lamp's address, until it is this lamp."""
         while self.gear.is_one(row.address):
-            self.blink(row.address)
+            Lamp(self.gear, row.address).blink()
             seen = self.lamp_seen(row)
             if seen is row or seen is None:
                 return
@@ -71,19 +69,9 @@ class Placing:
             if words in ("", "n") or words in lines:
                 return row if not words else lines.get(words)
             if words == "a":
-                self.blink(row.address)
+                Lamp(self.gear, row.address).blink()
             else:
                 self.person.say(f"lamps stand in the lines {', '.join(lines)}")
-
-    def blink(self, address: int) -> None:
-        """Lets a lamp go on and off, and sets it back."""
-        lamp = Lamp(self.gear, address)
-        level = self.gear.number(lamp.frame(QUERY_ACTUAL_LEVEL))
-        for opcode in (RECALL_MAX_LEVEL, OFF) * BLINKS:
-            self.gear.transaction(lamp.frame(opcode))
-            time.sleep(HALF_SECONDS)
-        if level is not None:
-            self.gear.transaction(address << 9 | level)
 
     # Control devices.
 
