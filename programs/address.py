@@ -51,7 +51,8 @@ from dalictl_house.instances import Instance, instances_of
 from dalictl_house.lamps import Lamp
 from dalictl_house.settings import bring, parse_settings
 from gushewa_line.controller import Controller, LineFailed
-from searching import ADDRESSES, Gone, Refused, Search, Wire
+from gushewa_line.numbers import ADDRESSES, INSTANCES
+from searching import Gone, Refused, Search, Wire
 
 NOT_PROVED = "address.py is not proved, and was tried on a simulated bus alone: look at what it did"
 BITS = 24
@@ -237,7 +238,7 @@ def below(limit: int, what: str) -> Callable[[str], int]:
     return read
 
 
-short_address, instance_number = below(ADDRESSES, "a short address"), below(32, "the number of an instance")
+short_address, instance_number = below(ADDRESSES, "a short address"), below(INSTANCES, "the number of an instance")
 
 
 def read_words() -> argparse.Namespace:

@@ -13,6 +13,14 @@ import time
 from typing import Callable, List, NoReturn, Optional, Sequence
 
 from gushewa_line.controller import Controller, LineFailed
+from gushewa_line.line import DAMAGED, LOST, QUIET, answer, byte_of
+from gushewa_line.numbers import (
+    ADDRESSES,
+    MASK,
+    QUERY_CONTROL_GEAR_PRESENT,
+    QUERY_MISSING_SHORT_ADDRESS,
+    SET_SHORT_ADDRESS,
+)
 
 TERMINATE, INITIALISE, RANDOMISE, COMPARE, WITHDRAW = "TERMINATE", "INITIALISE", "RANDOMISE", "COMPARE", "WITHDRAW"
 PROGRAM, VERIFY = "PROGRAM SHORT ADDRESS", "VERIFY SHORT ADDRESS"
@@ -24,13 +32,10 @@ OF_GEAR = {
     **dict(zip(SEARCH, (0xB1, 0xB3, 0xB5))),
     **dict(zip(DTRS, (0xA3, 0xC3, 0xC5))),
 }
-SET_SHORT_ADDRESS, QUERY_PRESENT, QUERY_MISSING_SHORT_ADDRESS = 0x80, 0x91, 0x96
-MASK = 0xFF
 ALL_GEAR = 0xFF
-YES, QUIET, LOST, DAMAGED = "answer 255", "quiet", "lost", "damaged"
+YES = answer(255)
 
 GREATEST_RANDOM = 0xFFFFFF
-ADDRESSES = 64
 ATTEMPTS = 20  # of a transaction that is lost, or at which the interface fails
 RANDOMISE_SECONDS = 0.15  # gear has 100 ms to find a random address
 PAUSE_SECONDS = 0.5  # between two tries to open the line
@@ -101,8 +106,7 @@ class Wire:
 
     def number(self, *frames: int) -> Optional[int]:
         """The byte that answers the last of these frames, or None."""
-        came = self.transaction(*frames)
-        return int(came.split()[1]) if came.startswith("answer") else None
+        return byte_of(self.transaction(*frames))
 
     # How gear is spoken to.
 
@@ -118,7 +122,7 @@ class Wire:
 
     def presence(self, address: int) -> str:
         """What comes where those who have a short address are asked whether they are there."""
-        return self.transaction((address << 1 | 1) << 8 | QUERY_PRESENT)
+        return self.transaction((address << 1 | 1) << 8 | QUERY_CONTROL_GEAR_PRESENT)
 
     def is_of_one(self, came: str) -> bool:
         """Whether an answer to that is one of one alone, as far as it can be heard."""

@@ -14,8 +14,9 @@ from dalictl_house.device_wire import DeviceWire
 from dalictl_house.instances import Instance
 from dalictl_house.lamps import Lamp
 from dalictl_house.settings import bring, show
-from dalictl_house.table import INPUTS, INSTANCES, LAMP, Row
-from searching import ADDRESSES, Search, Wire
+from dalictl_house.table import INPUTS, LAMP, Row
+from gushewa_line.numbers import ADDRESSES, INSTANCES
+from searching import Search, Wire
 
 PASSES = 2  # in which what differs is set
 GENERIC = 0  # a type that has no settings of its own

@@ -5,7 +5,9 @@ from __future__ import annotations
 from typing import Optional
 
 from dalictl_house.device_codes import ALL_DEVICES, DEVICE, SPECIAL, code
-from searching import MASK, QUIET, Wire
+from gushewa_line.line import QUIET, byte_of
+from gushewa_line.numbers import MASK
+from searching import Wire
 
 
 class DeviceWire(Wire):
@@ -28,7 +30,7 @@ class DeviceWire(Wire):
         return self.transaction(self.frame(address, DEVICE, code("QUERY DEVICE STATUS")))
 
     def is_of_one(self, came: str) -> bool:
-        return came.startswith("answer")
+        return byte_of(came) is not None
 
     def is_missing(self) -> bool:
         frame = ALL_DEVICES << 16 | DEVICE << 8 | code("QUERY MISSING SHORT ADDRESS")

@@ -5,9 +5,9 @@ from __future__ import annotations
 from typing import Dict, Iterator, List, Tuple
 
 from dalictl_house.table import GROUP, LAMP, Row, source_of
+from gushewa_line.numbers import FIRST_COUNT, FIRST_GROUP, FIRST_INFORMATION
 
 LEVEL, INFORMATION, COUNT = "USINT (0..254)", "UINT (0..1023)", "UINT"
-FIRST_GROUP, FIRST_INFORMATION, FIRST_COUNT = 64, 128, 192
 
 
 def inputs_of(rows: List[Row]) -> Iterator[Tuple[Row, int]]:

@@ -8,7 +8,8 @@ from dalictl_house.device_codes import DEVICE, SCHEMES, TYPES, InstanceType, Own
 from dalictl_house.device_wire import DeviceWire
 from dalictl_house.settings import show
 from dalictl_house.values import Bits, Choice, Value
-from searching import DTRS, QUIET, Refused
+from gushewa_line.line import QUIET
+from searching import DTRS, Refused
 
 FILTERS = ("QUERY EVENT FILTER 0 TO 7", "QUERY EVENT FILTER 8 TO 15", "QUERY EVENT FILTER 16 TO 23")
 

@@ -6,6 +6,7 @@ import time
 from typing import Dict, Optional
 
 from dalictl_house.values import Bits, Choice, Number, Value
+from gushewa_line.numbers import OFF, QUERY_ACTUAL_LEVEL, RECALL_MAX_LEVEL
 from searching import Wire
 
 FADE_SECONDS = "0.7 1 1.4 2 2.8 4 5.7 8 11.3 16 22.6 32 45.3 64 90.5".split()
@@ -23,7 +24,6 @@ CODES = {
     **{f"scene-{scene}": (0x40 + scene, 0xB0 + scene) for scene in range(SCENES)},
 }
 ADD_TO_GROUP, REMOVE_FROM_GROUP, QUERY_GROUPS = 0x60, 0x70, 0xC0
-RECALL_MAX_LEVEL, OFF, QUERY_ACTUAL_LEVEL = 0x05, 0x00, 0xA0
 BLINKS, HALF_SECONDS = 3, 0.5
 VALUES: Dict[str, Value] = {
     "min": Number(1, 254),

@@ -13,7 +13,9 @@ from dalictl_house.device_codes import code
 from dalictl_house.device_wire import DeviceWire
 from dalictl_house.lamps import Lamp
 from dalictl_house.table import INPUTS, LAMP, Row
-from searching import ADDRESSES, Wire
+from gushewa_line.gateway import event_source
+from gushewa_line.numbers import ADDRESSES
+from searching import Wire
 
 HEAR_SECONDS = 0.05
 
@@ -96,7 +98,7 @@ class Placing:
             pass  # what was pressed before
         while not self.person.leaves():
             frame = self.devices.line.hear()
-            source = source_of(frame) if frame is not None else None
+            source = event_source(frame) if frame is not None else None
             if source is None:
                 time.sleep(HEAR_SECONDS)
             elif source[0] in placed:
@@ -123,9 +125,3 @@ class Placing:
         for old, new in moves:
             wire.set_address(old, new)
         self.person.say(f"{wire.noun} {one} and {other} have changed their addresses")
-
-
-def source_of(frame: int) -> Optional[Tuple[int, int]]:
-    """The device and the instance of an event of the scheme 'device and instance'."""
-    is_one = frame >> 16 & 0x81 == 0 and frame >> 15 & 1 == 1
-    return (frame >> 17, frame >> 10 & 0x1F) if is_one else None

@@ -18,6 +18,7 @@ from dalictl_house.lamps import GROUPS, VALUES
 from dalictl_house.names import identifier, is_reserved
 from dalictl_house.settings import parse_settings
 from dalictl_house.values import Value
+from gushewa_line import numbers
 
 COLUMNS = ("room", "name", "bus", "kind", "address", "group", "device", "instance", "settings")
 LAMP, GROUP = "lamp", "group"
@@ -29,7 +30,7 @@ INPUTS: Dict[str, Optional[InstanceType]] = {
     "input": None,
 }
 KINDS = (LAMP, GROUP, *INPUTS)
-BUSES, ADDRESSES, INSTANCES, GEAR_GROUPS, PLACES = 64, 64, 32, 16, 64
+BUSES = 64
 # A source of events in the binding names what these schemes say. The others need groups of devices.
 SCHEMES = {0: "instance", 1: "device", 2: "device-instance"}
 AT_FIRST = {"scheme": 2, "enabled": 1}  # of an input, where its settings say nothing else
@@ -76,7 +77,7 @@ class Row:
 
     @property
     def groups(self) -> List[int]:
-        return [group for group in range(GEAR_GROUPS) if self.settings.get(GROUPS, 0) >> group & 1]
+        return [group for group in range(numbers.GROUPS) if self.settings.get(GROUPS, 0) >> group & 1]
 
     @property
     def place(self) -> Tuple[int, str, int, int]:
@@ -166,11 +167,11 @@ class Cells:
         """The address, the instance and the settings of a line."""
         if kind == LAMP:
             self.need_empty(kind, "device", "instance")
-            settings = {**self.settings(VALUES), GROUPS: self.bits("group", GEAR_GROUPS)}
-            return self.number("address", ADDRESSES), 0, settings
+            settings = {**self.settings(VALUES), GROUPS: self.bits("group", numbers.GROUPS)}
+            return self.number("address", numbers.ADDRESSES), 0, settings
         if kind == GROUP:
             self.need_empty(kind, "address", "device", "instance", "settings")
-            return self.number("group", GEAR_GROUPS), 0, {}
+            return self.number("group", numbers.GROUPS), 0, {}
         self.need_empty(kind, "address", "group")
         settings = {**AT_FIRST, **self.settings(values_of(INPUTS[kind]))}
         if settings["scheme"] not in SCHEMES:
@@ -179,7 +180,7 @@ class Cells:
             )
         elif INPUTS[kind] is None and SCHEMES[settings["scheme"]] != "device-instance":
             self.fault("settings: the scheme of an input is device-instance, since its type is not known")
-        return self.number("device", ADDRESSES), self.number("instance", INSTANCES), settings
+        return self.number("device", numbers.ADDRESSES), self.number("instance", numbers.INSTANCES), settings
 
 
 def read_table(path: pathlib.Path) -> List[Row]:
@@ -280,8 +281,13 @@ def too_many_inputs(rows: List[Row]) -> Found:
     found = []
     for row in rows:
         count[row.bus] = count.get(row.bus, 0) + row.is_bound
-        if row.is_bound and count[row.bus] == PLACES + 1:
-            found.append((row.line, f"bus {row.bus} has more than {PLACES} inputs, and a binding has {PLACES} places"))
+        if row.is_bound and count[row.bus] == numbers.SOURCES + 1:
+            found.append(
+                (
+                    row.line,
+                    f"bus {row.bus} has more than {numbers.SOURCES} inputs, and a binding has {numbers.SOURCES} places",
+                )
+            )
     return found
 
 

@@ -21,7 +21,8 @@ from __future__ import annotations
 import re
 from typing import Dict, NamedTuple, Tuple
 
-from gushewa_line.gateway import ALL, FIRST_GROUP, name_of
+from gushewa_line.gateway import name_of
+from gushewa_line.numbers import ALL, FIRST_COUNT, FIRST_GROUP, FIRST_INFORMATION, SOURCES
 
 from .words import BUTTON, LIGHT, OTHER, PRESENCE, SCHEMES, Source
 
@@ -33,7 +34,6 @@ ROW = re.compile(
     r"(lamp|group|button|presence|light|other) ([0-9]{1,2})\.([0-9]{1,2}) (\S.*)|(all|bus) ([0-9]{1,2}) (\S.*)"
 )
 KINDS = (BUTTON, PRESENCE, LIGHT, OTHER)
-FIRST_INFORMATION, FIRST_COUNT, PLACES = 128, 192, 64
 MOST_LETTERS = 60
 
 
@@ -71,7 +71,7 @@ class Names:
         ]
         for what, first in (("IW", FIRST_COUNT), ("IW", FIRST_INFORMATION), ("IX", 0)):
             for name, of, (bus, number) in found:
-                if of == what and first <= number < first + PLACES:
+                if of == what and first <= number < first + SOURCES:
                     self.name_source((bus, number - first), name)
         self.lamps.update({place: name for name, what, place in found if what == "QB" and place[1] <= ALL})
 

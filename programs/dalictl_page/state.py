@@ -10,12 +10,14 @@ import collections
 import re
 from typing import Deque, Dict, List, NamedTuple, Optional, Tuple
 
-from gushewa_line.gateway import ALL, FIRST_GROUP, QUERY_ACTUAL_LEVEL, address_of
+from gushewa_line.gateway import address_of
+from gushewa_line.line import LOST, byte_of
+from gushewa_line.numbers import ALL, FIRST_GROUP, MASK, QUERY_ACTUAL_LEVEL
 
 from .channel import Sight
 from .names import Names, Place
 from .relay import GREETED, OPEN
-from .words import MASK, Sent, Source, sent_by, source_of
+from .words import Sent, Source, sent_by, source_of
 
 UP, DOWN = "up", "down"
 FRAME = re.compile(r"send [1-5] ([0-9A-F]{4}|[0-9A-F]{6})")
@@ -85,7 +87,7 @@ class Lamp:
 
     def level(self) -> Optional[int]:
         """The level that was answered last."""
-        return int(self.answer[7:]) if self.answer.startswith("answer ") else None
+        return byte_of(self.answer)
 
     def differs(self) -> bool:
         """Whether it was asked since a level was sent, and answered another one, or not at all."""
@@ -171,7 +173,7 @@ class Building:
             self.note_event(sight, int(event[1], 16), False)
         elif bus.frame:
             bus.sent += 1
-            if sight.text == "lost":
+            if sight.text == LOST:
                 bus.lost.add(sight.at)
             elif len(bus.frame) == 4:
                 self.note_frame(sight, int(bus.frame, 16))

@@ -8,12 +8,13 @@ from __future__ import annotations
 
 from typing import Any, Dict, List, Optional
 
-from gushewa_line.gateway import ALL, FIRST_GROUP
+from gushewa_line.line import QUIET
+from gushewa_line.numbers import ALL, FIRST_GROUP, MASK
 
 from .beside import Beside
 from .names import Place, address_words
 from .state import DOWN, UP, Building, Lamp
-from .words import MASK, Source, choices, said
+from .words import Source, choices, said
 
 # A status is written each second, or at each tick where ticks are rarer.
 OLD_SECONDS = 90.0
@@ -85,7 +86,7 @@ def answer_words(lamp: Lamp) -> str:
     level = lamp.level()
     if level is not None:
         return str(level) if level != MASK else "no level: it starts, or its lamp failed"
-    return {"": "", "quiet": "nothing"}.get(lamp.answer, lamp.answer)
+    return {"": "", QUIET: "nothing"}.get(lamp.answer, lamp.answer)
 
 
 def show_source(building: Building, source: Source) -> Shown:

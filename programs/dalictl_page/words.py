@@ -4,6 +4,8 @@ from __future__ import annotations
 
 from typing import Dict, List, NamedTuple, Optional, Tuple
 
+from gushewa_line.numbers import GO_TO_SCENE, MASK, OFF
+
 # What each event scheme adds to a frame, and the limit of its first part (docs/BINDINGS.md).
 SCHEMES = {
     "instance": (1 << 23 | 1 << 15, 32),
@@ -116,7 +118,6 @@ RELATIVE: Dict[int, str] = {
     0x08: "ON AND STEP UP",
     0x0A: "GO TO LAST ACTIVE LEVEL",
 }
-OFF, MASK, GO_TO_SCENE = 0x00, 0xFF, 0x10
 
 
 class Sent(NamedTuple):

@@ -12,16 +12,26 @@ RECALL MIN LEVEL. All other frames do nothing.
 from __future__ import annotations
 
 import threading
-from typing import Callable, Dict, Optional
+from typing import Callable, Dict, Optional, Tuple
 
 from gushewa_line.line import QUIET, Events, answer
+from gushewa_line.numbers import (
+    ADDRESSES,
+    ALL,
+    FIRST_GROUP,
+    INFORMATIONS,
+    INSTANCES,
+    MASK,
+    OFF,
+    QUERY_ACTUAL_LEVEL,
+    QUERY_CONTROL_GEAR_PRESENT,
+    QUERY_STATUS,
+    RECALL_MAX_LEVEL,
+    RECALL_MIN_LEVEL,
+)
 
-OFF, RECALL_MAX_LEVEL, RECALL_MIN_LEVEL = 0x00, 0x05, 0x06
-QUERY_STATUS, QUERY_CONTROL_GEAR_PRESENT, QUERY_ACTUAL_LEVEL = 0x90, 0x91, 0xA0
 LEVELS = {OFF: 0, RECALL_MAX_LEVEL: 254, RECALL_MIN_LEVEL: 1}
-LAMP_ON, MASK = 0x04, 255
-FIRST_GROUP, ALL = 64, 80
-GREATEST_ADDRESS, GREATEST_INSTANCE, GREATEST_INFORMATION = 63, 31, 1023
+LAMP_ON = 0x04
 
 
 def device_event(address: int, instance: int, information: int) -> int:
@@ -29,13 +39,19 @@ def device_event(address: int, instance: int, information: int) -> int:
 
     The binding has it as `source B.K device-instance ADDRESS INSTANCE`. Raises ValueError.
     """
-    if not 0 <= address <= GREATEST_ADDRESS:
+    if not 0 <= address < ADDRESSES:
         raise ValueError(f"{address} is no short address")
-    if not 0 <= instance <= GREATEST_INSTANCE:
+    if not 0 <= instance < INSTANCES:
         raise ValueError(f"{instance} is no instance number")
-    if not 0 <= information <= GREATEST_INFORMATION:
+    if not 0 <= information < INFORMATIONS:
         raise ValueError(f"{information} is no information of an event")
     return address << 17 | 1 << 15 | instance << 10 | information
+
+
+def event_source(frame: int) -> Optional[Tuple[int, int]]:
+    """The device and the instance of an event in this scheme; None of any other 24-bit frame."""
+    is_one = frame >> 16 & 0x81 == 0 and frame >> 15 & 1 == 1
+    return (frame >> 17, frame >> 10 & 0x1F) if is_one else None
 
 
 def address_of(byte: int) -> Optional[int]:

@@ -22,7 +22,7 @@ from gushewa_line.ends import End, end_in_order
 FIRST_GREETING = "gushewa 1"
 GREETING = re.compile(r"gushewa 2 ([0-9]{1,20})\Z")
 SEND = re.compile(r"send ([1-5]) ([0-9A-F]{4}|[0-9A-F]{6})")
-QUIET, DAMAGED, LOST, FAULT = "quiet", "damaged", "lost", "fault"
+QUIET, DAMAGED, LOST, FAULT, ANSWER = "quiet", "damaged", "lost", "fault", "answer "
 
 EVENTS_KEPT = 256
 
@@ -73,7 +73,12 @@ class Events:
 
 def answer(byte: int) -> str:
     """What `send` returns where a backward frame of this byte came."""
-    return f"answer {byte}"
+    return f"{ANSWER}{byte}"
+
+
+def byte_of(came: str) -> Optional[int]:
+    """The byte of an answer; None of anything else that came."""
+    return int(came.removeprefix(ANSWER)) if came.startswith(ANSWER) else None
 
 
 def first_answer_to_greeting(request: str) -> Optional[str]:
