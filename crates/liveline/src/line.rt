@@ -140,14 +140,8 @@ impl<R: Wait + Clock + Drop, W: Write + Drop, T: Teller, O: Drop> MendedLine<R, 
             began: None,
             number: 0,
         };
-        starter.order(
-            &rt,
-            Order {
-                tries,
-                jobs: theirs,
-                to,
-            },
-        )?;
+        let order = Order::new(&rt, tries, theirs, to)?;
+        starter.order(&rt, order)?;
         let mut line = MendedLine {
             rt,
             bus: LineBus::absent(number),

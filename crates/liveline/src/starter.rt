@@ -1,14 +1,14 @@
 //! Who starts the threads of lines.
 
 use crate::reasons::Reason;
-use crate::thread::{Job, Opener, Outcome, Tries};
-use crossbeam_channel::{Receiver, Sender, bounded};
+use crate::thread::{Job, Opener, Outcome, PAUSE, Tries};
+use crossbeam_channel::{Receiver, RecvTimeoutError, Sender, bounded};
 use std::alloc::{AllocError, Global};
 use std::io::{ErrorKind, Write};
 use std::sync::Wait;
 use std::thread;
 use std::thread::Threads;
-use std::time::Clock;
+use std::time::{Clock, Duration};
 
 /// The most lines that wait for their threads. Whoever asks for one more waits.
 const MOST_ORDERS: usize = 64;
@@ -17,9 +17,64 @@ const MOST_ORDERS: usize = 64;
 /// what became of that.
 #[derive(Drop)]
 pub(crate) struct Order<R: Wait + Clock + Drop, W: Write + Drop, O: Drop> {
-    pub(crate) tries: Tries<R, W, O>,
-    pub(crate) jobs: Receiver<Job<R, W>>,
-    pub(crate) to: Sender<Outcome<R, W>>,
+    tries: Tries<R, W, O>,
+    /// The handle of the thread.
+    rt: R,
+    jobs: Receiver<Job<R, W>>,
+    to: Sender<Outcome<R, W>>,
+    stand_in: StandIn<R, W>,
+}
+
+impl<R: Wait + Clock + Drop, W: Write + Drop, O: Drop> Order<R, W, O> {
+    /// # Errors
+    ///
+    /// The allocator is out of memory.
+    pub(crate) fn new(
+        rt: &R,
+        tries: Tries<R, W, O>,
+        jobs: Receiver<Job<R, W>>,
+        to: Sender<Outcome<R, W>>,
+    ) -> Result<Order<R, W, O>, AllocError>
+    where
+        R: Clone,
+    {
+        let stand_in = StandIn {
+            jobs: jobs.clone()?,
+            to: to.clone()?,
+        };
+        Ok(Order {
+            tries,
+            rt: rt.clone()?,
+            jobs,
+            to,
+            stand_in,
+        })
+    }
+}
+
+/// Who answers for a line while no thread can be made for it.
+#[derive(Drop)]
+struct StandIn<R: Wait + Clock + Drop, W: Write + Drop> {
+    jobs: Receiver<Job<R, W>>,
+    to: Sender<Outcome<R, W>>,
+}
+
+impl<R: Wait + Clock + Drop, W: Write + Drop> StandIn<R, W> {
+    /// Tells whoever asks that no thread can be made, and waits until the next try. It gives
+    /// whether the line is still wanted.
+    fn refuse(&self, rt: &R) -> bool {
+        let pause = Duration::from_millis(PAUSE);
+        match self.jobs.recv_timeout(rt, pause) {
+            Ok(_) => {
+                let why = Reason::Unopened(ErrorKind::OutOfMemory);
+                let is_wanted = self.to.send(rt, Err(why)).is_ok();
+                thread::sleep(rt, pause);
+                is_wanted
+            }
+            Err(RecvTimeoutError::Timeout) => true,
+            Err(RecvTimeoutError::Disconnected) => false,
+        }
+    }
 }
 
 /// A thread that starts the threads of lines. It is started where all is known of the machine's
@@ -76,7 +131,8 @@ where
     }
 }
 
-/// Starts the thread of a line. Where none can be made the line never opens.
+/// Starts the thread of a line, as soon as one can be made. Until then the other lines wait too,
+/// which need threads as well.
 fn begin<
     R: Threads + Wait + Clock + Clone + Send + Drop + 'static,
     W: Write + Send + Drop + 'static,
@@ -87,12 +143,19 @@ where
 {
     let Order {
         mut tries,
+        rt: handle,
         jobs,
         to,
+        stand_in,
     } = order;
-    let Ok(handle) = rt.clone() else {
-        let _ = to.send(rt, Err(Reason::Unopened(ErrorKind::OutOfMemory)));
-        return;
-    };
-    let _started = thread::spawn(rt, move || tries.serve(&handle, &jobs, &to));
+    let mut serve = move || tries.serve(&handle, &jobs, &to);
+    for _ in rt.forever() {
+        match thread::spawn(rt, serve) {
+            Ok(_) => return,
+            Err(refused) => serve = refused.value,
+        }
+        if !stand_in.refuse(rt) {
+            return;
+        }
+    }
 }

@@ -1,6 +1,6 @@
 //! The writer and its thread.
 
-ghost use Rattle.std.specs.Prelude.{◌≡◌, ◌<◌, IfErr, IfOk, OnErr, OnOk, length, min, take};
+ghost use Rattle.std.specs.Prelude.{◌≡◌, ◌<◌, ◌≤◌, IfErr, IfOk, OnErr, OnOk, length, min};
 ghost use Rattle.std.specs.Prelude.{false, true};
 ghost use Rattle.std.specs.Io.{WritesAtMost};
 ghost use Rattle.std.specs.IoError.{error_kind};
@@ -85,16 +85,20 @@ fn write_all<R: Wait, W: Write + Drop>(
     }
 }
 
-/// The first bytes, as many as a piece has.
+/// These bytes as a piece.
 fn piece_of(bytes: &[u8]) -> Piece
-    ensures { result.items ≡ take 32 bytes.now }
+    requires { length bytes.now ≤ 32 }
+    ensures { result.items ≡ bytes.now }
 {
     let mut piece = Piece::new();
-    let _ = piece.try_extend_from_slice(&bytes[..bytes.len().min(MOST_BYTES)]);
+    let _ = piece.try_extend_from_slice(bytes);
     piece
 }
 
-impl<R: Wait + Clock + Drop, W: Drop> TimedWriter<R, W> {
+impl<
+    R: Threads + Wait + Clock + Clone + Send + Drop + 'static,
+    W: Write + Send + Drop + 'static,
+> TimedWriter<R, W> {
     /// Starts the thread that writes to this. A piece of 32 bytes at most is to be written in the
     /// given number of milliseconds.
     ///
@@ -102,9 +106,6 @@ impl<R: Wait + Clock + Drop, W: Drop> TimedWriter<R, W> {
     ///
     /// The allocator is out of memory, or no thread can be made.
     pub fn over(alloc: Global, rt: R, to: W, patience: u64) -> io::Result<TimedWriter<R, W>>
-    where
-        R: Threads + Clone + Send + 'static,
-        W: Write + Send + 'static,
         ensures { IfOk result (λ writer. writer ≡ false) }
     {
         let (lent, pieces) = bounded::<Lent<W>, Global>(alloc, 1)?;
@@ -124,7 +125,9 @@ impl<R: Wait + Clock + Drop, W: Drop> TimedWriter<R, W> {
             returned,
         })
     }
+}
 
+impl<R: Wait + Clock + Drop, W: Drop> TimedWriter<R, W> {
     /// From the next piece on, a piece is to be written in the given number of milliseconds.
     pub fn set_patience(&self, patience: u64) {
         self.patience.store(patience, Ordering::SeqCst);
@@ -182,8 +185,8 @@ impl<R: Wait + Clock + Drop, W: Drop> TimedWriter<R, W> {
             return Err(io::Error::from(ErrorKind::TimedOut));
         };
         self.deadline = deadline;
-        let piece = piece_of(bytes);
-        let count = piece.len();
+        let count = MOST_BYTES.min(bytes.len());
+        let piece = piece_of(&bytes[..count]);
         match self.lent.send(&self.rt, Lent { to, piece }) {
             Ok(()) => Ok(count),
             Err(refused) => {
