@@ -1,7 +1,5 @@
 //! The files of lines on the machine: how they are opened, and which of them is which.
 
-ghost use Rattle.std.specs.Prelude.{◌≡◌};
-
 use liveline::Reason;
 use std::fs::{File, Metadata, OpenFile, OpenOptions, TryLockError};
 use std::io::ErrorKind;

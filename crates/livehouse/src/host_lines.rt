@@ -1,7 +1,7 @@
 //! The lines of the machine: who opens them, and who tells what becomes of them. A line's thread
 //! opens by [`Devices`], since what is sent to a thread may not rest on the bound `Files` itself.
 
-ghost use Rattle.std.specs.Prelude.{◌≡◌, ◌≢◌, ◌↔◌, IfOk, IsSome, IsTrue, Some, option_map};
+ghost use Rattle.std.specs.Prelude.{◌≡◌, ◌≢◌, ◌↔◌, IfOk, IsSome, IsTrue, option_map};
 ghost use Rattle.std.specs.Prelude.{string_bytes, true};
 
 use crate::host_files::{Exclusive, FileId, both_ways, checked, hold, two_files};
