@@ -36,4 +36,4 @@ pub use nearest::{is_near, meant_instruction, near_word};
 pub use possible::{Possible, list_words};
 pub use spots::{Spot, content_len, part, place_of};
 pub use surroundings::{OpenConstruct, Surroundings};
-pub use words::{Group, INTEGERS, is_one_of, sign_name};
+pub use words::{Group, is_of_group, is_one_of, sign_name};

@@ -4,8 +4,8 @@ ghost use Rattle.std.specs.Prelude.{◌≡◌, ◌↔◌, IsTrue};
 ghost use Rattle.explaincures.specs.Nearest.{DiffersAtEnd, digits_of};
 
 use crate::spots::part;
-use crate::words::{INSTRUCTIONS, SPELLED};
-use iltokens::keyword_of;
+use crate::words::{Group, INSTRUCTIONS, SPELLED, asked_group};
+use iltokens::{keyword_of, keywords};
 
 /// Whether two words differ by one letter that was added, left out or changed, or by two beside
 /// each other that were exchanged; letter case aside. Words of one letter are near to none, and
@@ -77,18 +77,24 @@ pub fn near_word(found: &[u8]) -> Option<&'static str> {
     near_among(INSTRUCTIONS, found, true).or(near_among(SPELLED, found, false))
 }
 
-/// The first word of some lists that is near to another one; an instruction is plainly meant too.
-fn near_among(
-    lists: &'static [&'static [&'static str]],
-    found: &[u8],
-    is_instruction: bool,
-) -> Option<&'static str> {
-    for words in lists {
-        for word in *words {
-            let is_kept = !is_instruction || is_plain(word.as_bytes(), found);
-            if is_kept && is_near(found, word.as_bytes()) {
-                return Some(*word);
-            }
+/// The first word of some groups that is near to another one; an instruction is plainly meant too.
+fn near_among(groups: &[Group], found: &[u8], is_instruction: bool) -> Option<&'static str> {
+    for group in groups {
+        let near = near_of(*group, found, is_instruction);
+        if near.is_some() {
+            return near;
+        }
+    }
+    None
+}
+
+/// The same of one group.
+fn near_of(group: Group, found: &[u8], is_instruction: bool) -> Option<&'static str> {
+    for keyword in keywords() {
+        let word = keyword.spelling();
+        let is_kept = !is_instruction || is_plain(word.as_bytes(), found);
+        if is_kept && is_near(found, word.as_bytes()) && asked_group(*keyword) == Some(group) {
+            return Some(word);
         }
     }
     None
@@ -168,18 +174,30 @@ fn count(word: &[u8], letter: u8) -> usize {
 /// begins as the word does up to the word's last letter and has one letter more at most, none more
 /// where the word has two, or is near to it and begins with the same letter.
 pub fn meant_instruction(found: &[u8], number: usize) -> Option<&'static str> {
-    let mut count: usize = 0;
-    for words in INSTRUCTIONS {
-        for word in *words {
-            if may_be_meant(word.as_bytes(), found) {
-                if count == number {
-                    return Some(*word);
-                }
-                count = count.saturating_add(1);
-            }
+    let mut left = number;
+    for group in INSTRUCTIONS {
+        match meant_of(*group, found, left) {
+            Ok(word) => return Some(word),
+            Err(rest) => left = rest,
         }
     }
     None
+}
+
+/// The same of one group; else the number that is left once those of this group are counted.
+fn meant_of(group: Group, found: &[u8], number: usize) -> Result<&'static str, usize> {
+    let mut left = number;
+    for keyword in keywords() {
+        let word = keyword.spelling();
+        let is_asked = asked_group(*keyword) == Some(group);
+        if is_asked && may_be_meant(word.as_bytes(), found) {
+            if left == 0 {
+                return Ok(word);
+            }
+            left = left.saturating_sub(1);
+        }
+    }
+    Err(left)
 }
 
 /// Whether an instruction may be meant by a word.

@@ -1,5 +1,7 @@
 //! The reserved words, by what they are.
 
+use iltokens::{Keyword, KeywordGroup, keyword_of};
+
 /// What may stand at a place of a text.
 #[derive(Clone, Copy, PartialEq, Eq)]
 pub enum Group {
@@ -23,60 +25,64 @@ pub enum Group {
     Sign,
 }
 
-/// Words, one after another.
-macro_rules! words {
-    ($($word:literal)+) => { &[$($word),+] };
-}
-
-/// What is asked of the parser, in the order in which it is told: words of a group, and how they are
-/// told in one where all could stand there.
+/// What is asked of the parser, in the order in which it is told: a group, how it is told in one
+/// where all of it could stand there, and what is asked beside the reserved words of the group.
 pub const ASKED: &[(Group, &str, &[&str])] = &[
     (Group::Name, "a name", &["a"]),
     (Group::Number, "a number", &["1"]),
     (Group::Time, "a time", &["T#1s"]),
     (Group::Address, "an address", &["%QB0.0"]),
-    (Group::Truth, "", TRUTHS),
-    (Group::Operator, "an operator", OPERATORS),
-    (Group::Outer, "an instruction", OUTER),
-    (Group::OtherType, "", OTHER_TYPES),
-    (Group::Integer, "a type of whole numbers", INTEGERS),
-    (Group::Block, "a function block", BLOCKS),
-    (Group::Word, "", WORDS),
+    (Group::Truth, "", &[]),
+    (Group::Operator, "an operator", &[]),
+    (Group::Outer, "an instruction", &[]),
+    (Group::OtherType, "", &[]),
+    (Group::Integer, "a type of whole numbers", &[]),
+    (Group::Block, "a function block", &[]),
+    (Group::Word, "", &[]),
     (Group::Sign, "", &[",", ":", ";", ":=", ".", "..", "(", ")"]), // `&` is another word for AND
 ];
 
-/// Truth values.
-const TRUTHS: &[&str] = words!["TRUE" "FALSE"];
+/// The group in which a reserved word is asked for; one conversion stands for all.
+pub fn asked_group(word: Keyword) -> Option<Group> {
+    match word.group() {
+        KeywordGroup::Load
+        | KeywordGroup::Logic
+        | KeywordGroup::Complement
+        | KeywordGroup::Arithmetic
+        | KeywordGroup::Comparison
+        | KeywordGroup::Extremum
+        | KeywordGroup::Limitation
+        | KeywordGroup::Magnitude => Some(Group::Operator),
+        KeywordGroup::Conversion => (word == Keyword::IntToDint).then_some(Group::Operator),
+        KeywordGroup::Store | KeywordGroup::Jump | KeywordGroup::Call | KeywordGroup::Return =>
+            Some(Group::Outer),
+        KeywordGroup::Truth => Some(Group::Truth),
+        KeywordGroup::ElementaryType => Some(Group::OtherType),
+        KeywordGroup::IntegerType => Some(Group::Integer),
+        KeywordGroup::StandardBlock | KeywordGroup::RequestBlock => Some(Group::Block),
+        KeywordGroup::Declaration => Some(Group::Word),
+    }
+}
 
-/// Instructions that may stand in parentheses; one conversion stands for all.
-const OPERATORS: &[&str] = words!["LD" "LDN" "AND" "ANDN" "OR" "ORN" "XOR" "XORN" "NOT" "ADD"
-    "SUB" "MUL" "DIV" "MOD" "GT" "GE" "EQ" "NE" "LE" "LT" "MIN" "MAX" "LIMIT" "ABS" "INT_TO_DINT"];
+/// Groups of instructions that a misspelled word may be meant for.
+pub const INSTRUCTIONS: &[Group] = &[Group::Outer, Group::Operator];
 
-/// The other instructions.
-const OUTER: &[&str] = words!["ST" "STN" "S" "R" "JMP" "JMPC" "JMPCN" "CAL" "CALC" "CALCN"
-    "RET" "RETC" "RETCN"];
+/// Groups of other words that it may be meant for.
+pub const SPELLED: &[Group] = &[
+    Group::OtherType,
+    Group::Truth,
+    Group::Integer,
+    Group::Block,
+    Group::Word,
+];
 
-/// Other types.
-const OTHER_TYPES: &[&str] = words!["BOOL" "TIME"];
-
-/// Types of whole numbers.
-pub const INTEGERS: &[&str] = words!["SINT" "INT" "DINT" "USINT" "UINT" "UDINT"];
-
-/// Function blocks.
-const BLOCKS: &[&str] = words!["R_TRIG" "CTU" "TON" "GEAR_LEVEL" "GEAR_DO" "GEAR_SET"
-    "GEAR_PAIR" "GEAR_ASK" "GEAR_READ" "DEV_DO" "DEV_SCHEME" "DEV_ASK"];
-
-/// Words of declarations and configurations.
-const WORDS: &[&str] = words!["TYPE" "END_TYPE" "FUNCTION" "END_FUNCTION" "PROGRAM"
-    "END_PROGRAM" "VAR" "END_VAR" "VAR_INPUT" "VAR_EXTERNAL" "VAR_GLOBAL" "CONFIGURATION"
-    "END_CONFIGURATION" "RESOURCE" "END_RESOURCE" "ON" "AT" "TASK" "SINGLE" "INTERVAL" "PRIORITY"
-    "WITH"];
-
-/// Lists of instructions that a misspelled word may be meant for.
-pub const INSTRUCTIONS: &[&[&str]] = &[OUTER, OPERATORS];
-
-/// Lists of other words that it may be meant for.
-pub const SPELLED: &[&[&str]] = &[OTHER_TYPES, TRUTHS, INTEGERS, BLOCKS, WORDS];
+/// Whether a word is a reserved one of some groups.
+pub fn is_of_group(word: &[u8], groups: &[KeywordGroup]) -> bool {
+    match keyword_of(word) {
+        Some(keyword) => groups.contains(&keyword.group()),
+        None => false,
+    }
+}
 
 /// Whether a word is one of some, in any letter case.
 pub fn is_one_of(word: &[u8], words: &[&str]) -> bool {

@@ -5,9 +5,9 @@ use crate::name_habits::{is_among, name_habit};
 use crate::said::{Change, Row, Said, Slot, advice};
 use crate::standing::{FaultPlace, lines_at};
 use crate::tokens::{Token, token_at, type_behind};
-use explaincures::{Spot, content_len, meant_instruction, near_word, part};
+use explaincures::{Spot, content_len, is_of_group, meant_instruction, near_word, part};
 use ilsource::{Declared, Name, Purpose, Specification};
-use iltokens::Keyword;
+use iltokens::{Keyword, KeywordGroup, keyword_of};
 
 /// What is said of a name that is not declared. Where nothing else is known of it, another one may
 /// be near.
@@ -106,13 +106,17 @@ fn instruction_asked(found: &[u8]) -> Option<&'static str> {
     }
 }
 
+/// Instructions that have forms with C and CN.
+const CONDITIONAL: &[KeywordGroup] = &[
+    KeywordGroup::Jump,
+    KeywordGroup::Call,
+    KeywordGroup::Return,
+];
+
 /// Whether that has forms with C and CN.
 fn is_conditional(found: &[u8]) -> bool {
     match instruction_asked(found) {
-        Some(word) => is_among(
-            "JMP,JMPC,JMPCN,CAL,CALC,CALCN,RET,RETC,RETCN",
-            word.as_bytes(),
-        ),
+        Some(word) => is_of_group(word.as_bytes(), CONDITIONAL),
         None => false,
     }
 }
@@ -138,7 +142,7 @@ fn habitual(place: &FaultPlace, word: &'static str, row: Row) -> Said {
     let (load, before) = (load_of(word), word_before(place));
     // A row that names the word is that of an instruction, or a type, with another word here.
     let is_named = row.contains("{0}");
-    let said = if is_named && !load.is_empty() && is_among(NO_RESULT, before) {
+    let said = if is_named && !load.is_empty() && has_no_result(before) {
         Said::of(LOADED).with_slots([Slot::Word(load), Slot::Word(word), Slot::Nothing])
     } else {
         Said::of(row).with_slots([Slot::Word(word); 3])
@@ -163,12 +167,11 @@ const LOADED: Row = advice!("an instruction that has another word here";
 
 /// The word that loads in place of a word of logic; empty for another word.
 fn load_of(word: &str) -> &'static str {
-    if is_among("AND,OR,XOR", word.as_bytes()) {
-        "LD"
-    } else if is_among("ANDN,ORN,XORN", word.as_bytes()) {
-        "LDN"
-    } else {
-        ""
+    let is_logic = is_of_group(word.as_bytes(), &[KeywordGroup::Logic]);
+    match word.as_bytes() {
+        [.., b'N'] if is_logic => "LDN",
+        _ if is_logic => "LD",
+        _ => "",
     }
 }
 
@@ -177,8 +180,9 @@ fn is_plain(word: &str, load: &str, before: &[u8]) -> bool {
     if word.is_empty() {
         return false;
     }
-    let is_free = load.is_empty() || is_among(TRUTHS, before);
-    is_among(NO_RESULT, before) || is_free && !is_among("LD,LDN", word.as_bytes())
+    let is_free = load.is_empty() || is_of_group(before, TRUTHS);
+    let is_load = is_of_group(word.as_bytes(), &[KeywordGroup::Load]);
+    has_no_result(before) || is_free && !is_load
 }
 
 /// Whether a number of the program stands behind what was found.
@@ -214,11 +218,18 @@ fn word_before<'a>(place: &FaultPlace<'a, '_>) -> &'a [u8] {
     }
 }
 
-/// With what a line begins behind which an instruction has no result that it goes on with.
-const NO_RESULT: &str = "END_VAR,ST,STN,S,R,JMP,JMPC,JMPCN,CAL,CALC,CALCN,RET,RETC,RETCN";
+/// Whether a line begins with a word behind which an instruction has no result that it goes on with.
+fn has_no_result(before: &[u8]) -> bool {
+    let is_done = is_of_group(before, &[KeywordGroup::Store]) || is_of_group(before, CONDITIONAL);
+    is_done || keyword_of(before) == Some(Keyword::EndVar)
+}
 
 /// With what a line begins that leaves a truth value that logic goes on with.
-const TRUTHS: &str = "LD,LDN,AND,ANDN,OR,ORN,XOR,XORN,NOT";
+const TRUTHS: &[KeywordGroup] = &[
+    KeywordGroup::Load,
+    KeywordGroup::Logic,
+    KeywordGroup::Complement,
+];
 
 /// What is said of a name that is declared as something else.
 fn other_kind(place: &FaultPlace) -> Option<Said> {

@@ -3,8 +3,9 @@
 use crate::bytes::{byte_at, count_of_digits, is_digits, last_of};
 use crate::kinds::is_name;
 use crate::slots::is_type;
-use crate::standing::{JUMPS, Standing};
-use explaincures::{Spot, Surroundings, is_one_of};
+use crate::standing::Standing;
+use explaincures::{Spot, Surroundings, is_of_group, is_one_of};
+use iltokens::{Keyword, KeywordGroup, keyword_of};
 
 /// What a word may be by what stands around it.
 #[derive(Clone, Copy)]
@@ -38,8 +39,7 @@ pub(crate) fn is_around(standing: &Standing, here: &Spot, word: &[u8], around: A
         Around::Begun => word == b";".as_slice() || begins_block(standing, here),
         Around::First => is_name(word) && is_first_name(standing, here),
         Around::Label => is_name(word) && has_colon(here, word.len()) && !is_declaration(here),
-        Around::Jumped => is_name(word) && stands_above(here, JUMPS, word),
-        Around::Defined => is_name(word) && stands_above(here, &["FUNCTION"], word),
+        Around::Jumped | Around::Defined => is_name(word) && stands_above(here, around, word),
         Around::Not => is_negation(here, word),
         Around::Hexadecimal => is_hexadecimal(here, word),
     }
@@ -116,11 +116,15 @@ fn are_hexadecimal(digits: &[u8]) -> bool {
     true
 }
 
-/// Whether a line above begins with one of some words, and a name behind it.
-fn stands_above(here: &Spot, words: &[&str], name: &[u8]) -> bool {
+/// Whether a line above begins with a jump, or with FUNCTION, and has a name behind that.
+fn stands_above(here: &Spot, around: Around, name: &[u8]) -> bool {
     for line in here.part(0, here.line_from).split(|byte| *byte == b'\n') {
         let line = Spot::of(line, 0);
-        if is_one_of(line.first_word(), words) && is_second(&line, name) {
+        let is_begun = match around {
+            Around::Jumped => is_of_group(line.first_word(), &[KeywordGroup::Jump]),
+            _ => keyword_of(line.first_word()) == Some(Keyword::Function),
+        };
+        if is_begun && is_second(&line, name) {
             return true;
         }
     }

@@ -1,9 +1,8 @@
 //! What a word is by itself.
 
 use crate::bytes::{byte_at, digits_len, is_digits, last_of};
-use crate::standing::CALLS;
-use explaincures::{is_one_of, meant_instruction, near_word, part};
-use iltokens::{Lexed, What, keyword_of, token};
+use explaincures::{is_of_group, is_one_of, meant_instruction, near_word, part};
+use iltokens::{KeywordGroup, Lexed, What, keyword_of, keywords, token};
 
 /// What a word may be.
 #[derive(Clone, Copy)]
@@ -35,7 +34,25 @@ pub(crate) enum Kind {
     Near,
     /// CAL, CALC or CALCN may be meant by it, and none is plainly meant.
     Calling,
+    /// An instruction that takes the opposite where it has an N behind it, as LD does.
+    Negatable,
+    /// A port of a function block.
+    Port,
 }
+
+/// Ports of function blocks.
+const PORTS: &[&str] = &[
+    "CLK", "Q", "CU", "PV", "CV", "IN", "PT", "ET", "REQ", "BUS", "ADR", "LEVEL", "CMD", "DATA",
+    "BANK", "OFFSET", "INST", "SCHEME",
+];
+
+/// Functions of the language.
+const FUNCTIONS: &[KeywordGroup] = &[
+    KeywordGroup::Extremum,
+    KeywordGroup::Limitation,
+    KeywordGroup::Magnitude,
+    KeywordGroup::Conversion,
+];
 
 /// Whether a word is of a kind.
 pub(crate) fn is_kind(word: &[u8], kind: Kind) -> bool {
@@ -51,9 +68,11 @@ pub(crate) fn is_kind(word: &[u8], kind: Kind) -> bool {
         Kind::Thousands => is_begun && first != b'0' && is_digits(word) && word.len() < 4,
         Kind::Operand => is_operand(word, first),
         Kind::End => is_reserved(word) && part(word, 0, 4).eq_ignore_ascii_case(b"END_"),
-        Kind::Function => is_reserved(word) && is_function(word),
+        Kind::Function => is_of_group(word, FUNCTIONS),
         Kind::Near => near_word(word).is_some(),
         Kind::Calling => near_word(word).is_none() && is_calling(word),
+        Kind::Negatable => is_reserved(word) && has_negation(word),
+        Kind::Port => is_one_of(word, PORTS),
         Kind::Name => is_name(word),
         Kind::Other => !is_name(word),
         Kind::Time | Kind::Amount | Kind::Constant | Kind::Address => is_literal(word, kind),
@@ -86,7 +105,7 @@ pub(crate) fn is_name(word: &[u8]) -> bool {
 /// Whether a word may be meant that calls a block.
 fn is_calling(word: &[u8]) -> bool {
     match meant_instruction(word, 0) {
-        Some(meant) => is_one_of(meant.as_bytes(), CALLS),
+        Some(meant) => is_of_group(meant.as_bytes(), &[KeywordGroup::Call]),
         None => false,
     }
 }
@@ -101,12 +120,13 @@ fn is_operand(word: &[u8], first: u8) -> bool {
     (first.is_ascii_alphanumeric() || first == b'_') && !is_reserved(word)
 }
 
-/// Whether a word is that of a function of the language: a conversion has `_TO_` in it.
-fn is_function(word: &[u8]) -> bool {
-    for four in word.windows(4) {
-        if four.eq_ignore_ascii_case(b"_TO_") {
-            return true;
+/// Whether a reserved word is another one with an N behind it.
+fn has_negation(word: &[u8]) -> bool {
+    for keyword in keywords() {
+        match keyword.spelling().as_bytes() {
+            [front @ .., b'N'] if front.eq_ignore_ascii_case(word) => return true,
+            _ => {}
         }
     }
-    is_one_of(word, &["MAX", "MIN", "LIMIT", "ABS"])
+    false
 }

@@ -22,4 +22,4 @@ mod standing;
 
 pub use bytes::{count_of_digits, digits_len, is_digits, place_of_any, place_of_pair};
 pub use likeness::Likeness;
-pub use standing::{CALLS, Extent, JUMPS, Standing};
+pub use standing::{Extent, Standing};

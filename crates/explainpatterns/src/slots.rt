@@ -5,14 +5,15 @@ use crate::bytes::{named, names};
 use crate::kinds::{Kind, is_kind};
 use crate::spans::{Span, bracket_len, front_len, operator_of, span_len};
 use crate::standing::{Extent, Standing};
-use explaincures::{Spot, is_one_of, near_word, part};
+use explaincures::{Spot, is_of_group, near_word, part};
+use iltokens::KeywordGroup;
 
 /// Slots for a word, by what it is.
 const KINDS: &[(&str, Kind)] = names! { Kind: "name" Name, "other" Other, "word" Word,
     "number" Number, "digit" Digit, "signed" Signed, "dotted" Dotted, "group" Group,
     "thousands" Thousands, "time" Time, "amount" Amount, "constant" Constant, "address" Address,
     "operand" Operand, "end" End, "function" Function, "near" Near,
-    "calling" Calling };
+    "calling" Calling, "negatable" Negatable, "port" Port };
 
 /// Slots for a word, by what stands around it.
 const AROUND: &[(&str, Around)] = names! { Around: "called" Called, "ported" Ported,
@@ -25,42 +26,50 @@ const SPANS: &[(&str, Span)] = names! { Span: "value" Value, "digits" Digits, "1
     "range" Range, "target" Target, "given" Given, "operator" Operator, "sign" Sign,
     "inner" Within("(" ")"), "braced" Within("{" "}"), "remark" Within("/*" "*/") };
 
-/// Words, one after another.
-macro_rules! words {
-    ($($word:literal)+) => { &[$($word),+] };
-}
-
-/// Instructions and operators that take an operand.
-const WITH: &[&str] = words!("LD" "LDN" "ST" "STN" "S" "R" "AND" "ANDN" "OR" "ORN" "XOR" "XORN"
-    "ADD" "SUB" "MUL" "DIV" "MOD" "GT" "GE" "EQ" "NE" "LE" "LT" "MIN" "MAX");
-
-/// Types of variables.
-const TYPES: &[&str] = words!("BOOL" "TIME" "SINT" "INT" "DINT" "USINT" "UINT" "UDINT");
-
-/// Function blocks.
-const BLOCKS: &[&str] = words!("TON" "CTU" "R_TRIG" "GEAR_LEVEL" "GEAR_DO" "GEAR_SET" "GEAR_PAIR"
-    "GEAR_ASK" "GEAR_READ" "DEV_DO" "DEV_SCHEME" "DEV_ASK");
-
-/// Ports of function blocks.
-const PORTS: &[&str] = words!("CLK" "Q" "CU" "PV" "CV" "IN" "PT" "ET" "REQ" "BUS" "ADR" "LEVEL"
-    "CMD" "DATA" "BANK" "OFFSET" "INST" "SCHEME");
-
-/// Slots for one of some words.
-const LISTS: &[(&str, &[&str])] = &[
-    ("with", WITH),
-    ("store", &["ST", "STN", "S", "R"]),
+/// Slots for a reserved word of some groups.
+const GROUPS: &[(&str, &[KeywordGroup])] = &[
+    ("with", WITH), // an instruction that takes one operand
+    ("store", &[KeywordGroup::Store]),
     (
         "single",
-        &["LD", "LDN", "ST", "STN", "S", "R", "JMP", "JMPC", "JMPCN"],
+        &[KeywordGroup::Load, KeywordGroup::Store, KeywordGroup::Jump],
     ),
+    ("deferred", DEFERRED), // an operator that may wait for what stands in parentheses
     (
-        "integer",
-        &["SINT", "INT", "DINT", "USINT", "UINT", "UDINT"],
+        "limiting",
+        &[KeywordGroup::Extremum, KeywordGroup::Limitation],
     ),
+    ("call", &[KeywordGroup::Call]),
+    ("return", &[KeywordGroup::Return]),
+    ("truth", &[KeywordGroup::Truth]),
+    ("integer", &[KeywordGroup::IntegerType]),
     ("type", TYPES),
-    ("block", BLOCKS),
-    ("port", PORTS),
+    ("standard", &[KeywordGroup::StandardBlock]),
+    (
+        "block",
+        &[KeywordGroup::StandardBlock, KeywordGroup::RequestBlock],
+    ),
 ];
+
+/// Instructions and operators that take an operand.
+const WITH: &[KeywordGroup] = &[
+    KeywordGroup::Load,
+    KeywordGroup::Store,
+    KeywordGroup::Logic,
+    KeywordGroup::Arithmetic,
+    KeywordGroup::Comparison,
+    KeywordGroup::Extremum,
+];
+
+/// Operators that the standard has with `(`.
+const DEFERRED: &[KeywordGroup] = &[
+    KeywordGroup::Logic,
+    KeywordGroup::Arithmetic,
+    KeywordGroup::Comparison,
+];
+
+/// Types of variables.
+const TYPES: &[KeywordGroup] = &[KeywordGroup::ElementaryType, KeywordGroup::IntegerType];
 
 /// Where a slot ends that begins at a place, if that stands there.
 pub(crate) fn slot_end(standing: &Standing, here: &Spot, slot: &[u8]) -> Option<usize> {
@@ -82,7 +91,7 @@ fn word_len(standing: &Standing, here: &Spot, slot: &[u8]) -> usize {
     } else if let Some(around) = named(AROUND, slot) {
         is_around(standing, here, word, around)
     } else {
-        is_listed(word, slot)
+        is_grouped(word, slot)
     };
     if is_asked { word.len() } else { 0 }
 }
@@ -97,17 +106,17 @@ pub(crate) fn word_at<'a>(standing: &Standing<'a>, here: &Spot<'a>) -> &'a [u8] 
     }
 }
 
-/// Whether a word is one of those of a slot.
-fn is_listed(word: &[u8], slot: &[u8]) -> bool {
-    match named(LISTS, slot) {
-        Some(words) => is_one_of(word, words),
+/// Whether a word is a reserved one of the groups of a slot.
+fn is_grouped(word: &[u8], slot: &[u8]) -> bool {
+    match named(GROUPS, slot) {
+        Some(groups) => is_of_group(word, groups),
         None => false,
     }
 }
 
 /// Whether a word is that of a type of variables, or of a block that they often are.
 pub(crate) fn is_type(word: &[u8]) -> bool {
-    is_one_of(word, TYPES) || is_one_of(word, &["TON", "CTU", "R_TRIG"])
+    is_of_group(word, TYPES) || is_of_group(word, &[KeywordGroup::StandardBlock])
 }
 
 /// The place of a slot, or of what stands within its signs.

@@ -3,13 +3,8 @@
 ghost use Rattle.std.specs.Prelude.{◌↔◌, IsTrue};
 ghost use Rattle.explaincures.specs.Trying.{IsEnd};
 
-use explaincures::{AskedText, Spot, Surroundings, is_end, is_one_of};
-
-/// Words that begin a call of a block.
-pub const CALLS: &[&str] = &["CAL", "CALC", "CALCN"];
-
-/// Words that begin a jump.
-pub const JUMPS: &[&str] = &["JMP", "JMPC", "JMPCN"];
+use explaincures::{AskedText, Spot, Surroundings, is_end, is_of_group};
+use iltokens::KeywordGroup;
 
 /// Where a part of the asked text begins and ends.
 pub type Extent = (usize, usize);
@@ -43,7 +38,8 @@ impl<'a> Standing<'a> {
     pub fn is_in_call(&self) -> bool {
         match self.around.parenthesis {
             Some(open) if self.around.is_in_body() => {
-                is_one_of(Spot::of(self.spot.text, open).first_word(), CALLS)
+                let word = Spot::of(self.spot.text, open).first_word();
+                is_of_group(word, &[KeywordGroup::Call])
             }
             _ => false,
         }

@@ -1,8 +1,7 @@
 //! What stands at a place where nothing is wrong: how it is written, and lines as they read.
 
-use explaincures::{Spot, Surroundings, is_one_of, part};
-use explainpatterns::{CALLS, JUMPS};
-use iltokens::{Keyword, Lexed, What, token};
+use explaincures::{Spot, Surroundings, is_of_group, is_one_of, part};
+use iltokens::{Keyword, KeywordGroup, Lexed, What, token};
 
 /// A task and an instance of a program.
 const BOTH: &str =
@@ -36,17 +35,17 @@ pub(crate) fn example_of(spot: &Spot, around: &Surroundings) -> Example {
 
 /// What stands in a line of instructions that begins with this word.
 fn in_body(word: &[u8]) -> Example {
-    if is_one_of(word, JUMPS) {
+    if is_of_group(word, &[KeywordGroup::Jump]) {
         (
             "a jump names a label, which stands further on with a colon behind it",
             "JMPC below\nLD 5\nbelow: ST level",
         )
-    } else if is_one_of(word, CALLS) {
+    } else if is_of_group(word, &[KeywordGroup::Call]) {
         (
             "the inputs stand in parentheses, each with := and its value",
             "CAL rest(IN := pressed, PT := T#3m)",
         )
-    } else if is_one_of(word, &["LIMIT"]) {
+    } else if is_of_group(word, &[KeywordGroup::Limitation]) {
         (
             "LIMIT takes the lower limit, a comma and the upper one, and keeps the current\n\
                 result between them",

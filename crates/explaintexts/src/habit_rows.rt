@@ -215,7 +215,7 @@ const LINES: &[Habit] = habits! {
     advice!("a port behind CAL";
         "CAL takes the name of an instance, and its inputs in parentheses; LD loads a port";
         "CAL edge(CLK := button)\nLD edge.Q") =>
-        Body "^ {} {name} @ ." ["cal calc calcn"] Nothing;
+        Body "^ {call} {name} @ ." Nothing;
     advice!("parentheses behind a port"; "a port is no call: leave them out"; "LD rest.Q") =>
         Body "<< {ported} @ [ () ]" Put("");
     advice!("two dots before a port"; "a port stands behind one dot"; "LD rest.Q") =>
@@ -234,7 +234,7 @@ const LINES: &[Habit] = habits! {
     advice!("a block where an instance of it is asked for";
         "declare an instance of the block in VAR, and write its name";
         "VAR rest : TON; END_VAR\nCAL rest(IN := pressed, PT := T#3m)") =>
-        Body "@ {}" ["ton ctu r_trig"] Nothing;
+        Body "@ {standard}" Nothing;
     advice!("a parenthesis as Siemens' lists have it";
         "write AND(, ANDN(, OR(, ORN( or XOR( with the first operand behind it";
         "LD button\nAND( light\nOR other\n)") =>
@@ -261,8 +261,8 @@ const CALLS: &[Habit] = habits! {
         "their operands stand behind the word, without a parenthesis; what is computed\n\
             has to be stored before";
         "LIMIT 0, 200") =>
-        Anywhere "< {} [ @ {inner} ]" ["limit min max"] Put(" {1}"),
-        Anywhere "<< {} @ (" ["limit min max"] Nothing;
+        Anywhere "< {limiting} [ @ {inner} ]" Put(" {1}"),
+        Anywhere "<< {limiting} @ (" Nothing;
     advice!("parentheses around an operand";
         "write the operand alone: a parenthesis stands behind an operator of two values";
         "LD button") =>
@@ -333,7 +333,7 @@ const OPERANDS: &[Habit] = habits! {
         "a return stands alone on its line; a function gives what was stored to its own\n\
             name";
         "ST half\nRET") =>
-        Body "< {} @ {operand}" ["ret retc retcn"] Nothing;
+        Body "< {return} @ {operand}" Nothing;
     advice!("a function that shares variables";
         "a function sees its inputs and its own variables alone: the call hands in what\n\
             it needs";
@@ -383,7 +383,7 @@ const NUMBERS: &[Habit] = habits! {
             before";
         "LD 200\nST lamp") =>
         Anywhere "< {store} @ {constant}" Nothing,
-        Anywhere "< {store} @ {}" ["true false"] Nothing;
+        Anywhere "< {store} @ {truth}" Nothing;
 };
 
 /// Addresses, words that say more of variables, and blocks that are not there.

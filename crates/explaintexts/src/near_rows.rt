@@ -17,8 +17,8 @@ const DECLARED: &[Habit] = habits! {
     advice!("a time without its #"; "a time begins with T#"; "") =>
         Anywhere "< {} ~@ [ = ] ~{digit}" ["t time"] Put("#");
     UNIT =>
-        Call "^ {} {name} ( pt := * [ ] {digits} ~@ h" ["cal calc calcn"] Put("T#"),
-        Call "^ {} {name} ( {front} , pt := * [ ] {digits} ~@ h" ["cal calc calcn"] Put("T#"),
+        Call "^ {call} {name} ( pt := * [ ] {digits} ~@ h" Put("T#"),
+        Call "^ {call} {name} ( {front} , pt := * [ ] {digits} ~@ h" Put("T#"),
         Variables "^ var? {name} : time := * [ ] {digits} ~@ h" Put("T#"),
         Anywhere "^ task {name} ( interval := * [ ] {digits} ~@ h" Put("T#");
     advice!("a number with an h behind it";
@@ -116,8 +116,7 @@ const INSTRUCTIONS: &[Habit] = habits! {
         "each operator has a line of its own";
         "LD lux\nLT 30") =>
         Body "^ [ ld (? {value} {operator} {value} )? ;? $ ]" Put("LD {0}\n{i}{w} {2}"),
-        Body "^ [ {} ( {value} {sign} {value} ) $ ]"
-            ["and andn or orn xor xorn add sub mul div mod gt ge eq ne le lt"]
+        Body "^ [ {deferred} ( {value} {sign} {value} ) $ ]"
             Put("{0}( {1}\n{i}{w} {3}\n{i})");
 };
 
@@ -140,8 +139,7 @@ const WORDS: &[Habit] = habits! {
             Put("LDN {4}\n{i}ST {0}.{2}\n{i}CAL {0}({1}, "),
         Call "^ [ cal {name} ( {front} , {name} := @ {not} {value} ]"
             Put("LDN {4}\n{i}ST {0}.{2}\n{i}CAL {0}({1}"),
-        Anywhere "< {} [ @ {not} * ] {value}" ["ld st and or xor jmpc calc"]
-            Put("N "),
+        Anywhere "< {negatable} [ @ {not} * ] {value}" Put("N "),
         Anywhere "< ( * [ @ {not} {value} $ ]" Put("{1}\nNOT"),
         Anywhere "< {word} @ {not} {word}" Nothing;
     advice!("a function with its argument behind it";

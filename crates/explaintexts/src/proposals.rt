@@ -4,11 +4,11 @@
 
 use crate::said::{Change, Row, Said, Trial, advice};
 use explaincures::{
-    Advice, Group, OpenConstruct, Possible, Spot, content_len, is_one_of, line_number, near_word,
-    part, sign_name,
+    Advice, Group, OpenConstruct, Possible, Spot, content_len, is_of_group, is_one_of, line_number,
+    near_word, part, sign_name,
 };
 use explainpatterns::{Extent, Standing, is_digits};
-use iltokens::keyword_of;
+use iltokens::{KeywordGroup, keyword_of};
 
 /// Words that begin a block of variables.
 const BLOCKS: &[&str] = &["VAR", "VAR_INPUT", "VAR_EXTERNAL", "VAR_GLOBAL"];
@@ -177,8 +177,11 @@ fn end_text(spot: &Spot, is_end: bool) -> &'static str {
 }
 
 /// Instructions that stand outside parentheses alone.
-const OUTSIDE: &[&str] = &[
-    "ST", "STN", "S", "R", "JMP", "JMPC", "JMPCN", "CAL", "CALC", "CALCN", "RET", "RETC", "RETCN",
+const OUTSIDE: &[KeywordGroup] = &[
+    KeywordGroup::Store,
+    KeywordGroup::Jump,
+    KeywordGroup::Call,
+    KeywordGroup::Return,
 ];
 
 /// The parentheses that close what operators opened, before a word that stands only outside, each
@@ -190,7 +193,7 @@ fn close(standing: &Standing) -> Option<Said> {
         "");
     let line = line_number(spot.text, around.parenthesis?) as u64;
     let behind = spot.part(spot.line_to, spot.text.len());
-    if is_one_of(spot.token(), OUTSIDE) && behind.trim_ascii_start().starts_with(b")") {
+    if is_of_group(spot.token(), OUTSIDE) && behind.trim_ascii_start().starts_with(b")") {
         let row = advice!("{0} within a parenthesis";
             "what stores, jumps, calls or returns stands outside parentheses: write it\n\
                 behind the ) of the next line";
@@ -223,7 +226,7 @@ fn is_timed(spot: &Spot, possible: &Possible) -> bool {
 
 /// Whether a reserved word stands where a name is asked for.
 pub(crate) fn is_renamed(spot: &Spot, possible: &Possible) -> bool {
-    let is_value = is_one_of(spot.token(), &["TRUE", "FALSE"]);
+    let is_value = is_of_group(spot.token(), &[KeywordGroup::Truth]);
     let is_reserved = keyword_of(spot.token()).is_some() && !is_bracket(spot.token()) && !is_value;
     is_reserved && possible.has(Group::Name)
 }

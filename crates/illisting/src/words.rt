@@ -74,7 +74,7 @@ fn verb_of(code: &Code, word: Word) -> &'static str {
         Word::Call(_) => "CAL",
         Word::Invoke(_) => "CALL",
         Word::Jump { condition, target } => jump_text(condition, is_return(code, target)),
-        _ => ")",
+        Word::Close | Word::Pass { .. } | Word::Give { .. } => ")",
     }
 }
 
