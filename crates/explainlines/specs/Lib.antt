@@ -1,1 +1,2 @@
 pub mod Curing
+pub mod LineForms

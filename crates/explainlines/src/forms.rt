@@ -15,9 +15,16 @@ pub(crate) enum Field {
     Frame,
 }
 
-/// The lines of a kind: their first word, what stands behind it, and one as it could read.
+/// The lines of a kind.
 #[derive(Clone, Copy)]
-pub(crate) struct Form(pub &'static str, pub &'static [Field], pub &'static str);
+pub(crate) struct Form {
+    /// Their first word.
+    pub word: &'static str,
+    /// What stands behind it.
+    pub fields: &'static [Field],
+    /// One as it could read.
+    pub line: &'static str,
+}
 
 /// A word that may follow on a line, what stands behind it, and whether it may come again.
 #[derive(Clone, Copy)]
@@ -34,7 +41,7 @@ const INSTANCE: Field = Field::Number("instance number", 0, 31);
 /// Lines with their words, each with one as it could read.
 macro_rules! forms {
     ($($word:literal [$($field:expr),+] $line:literal;)+) => {
-        &[$(Form($word, &[$($field),+], $line)),+]
+        &[$(Form { word: $word, fields: &[$($field),+], line: $line }),+]
     };
 }
 
@@ -78,7 +85,7 @@ const GEAR_PARTS: &[Part] = &[
 
 /// What may stand behind the fields of a line, in this order.
 pub(crate) fn parts_of(form: &Form) -> &'static [Part] {
-    if form.0 == "gear" { GEAR_PARTS } else { &[] }
+    if form.word == "gear" { GEAR_PARTS } else { &[] }
 }
 
 /// The fields behind one of a list's words: the numbers of a source, by its event scheme.
@@ -95,7 +102,7 @@ pub(crate) fn fields_behind(word: &[u8]) -> &'static [Field] {
 /// The form of the lines of a file that begin with a word.
 pub(crate) fn form_of(forms: &'static [Form], word: &[u8]) -> Option<&'static Form> {
     for form in forms {
-        if form.0.as_bytes() == word {
+        if form.word.as_bytes() == word {
             return Some(form);
         }
     }

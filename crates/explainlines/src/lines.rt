@@ -1,8 +1,9 @@
 //! What is said of a bad line of a binding or of a scenario.
 
-ghost use Rattle.std.specs.Prelude.{◌↔◌, IfOk, IsTrue};
+ghost use Rattle.std.specs.Prelude.{◌↔◌, All, IfOk, IsTrue};
 ghost use Rattle.explaincures.specs.Trying.{IsShown};
 ghost use Rattle.explainlines.specs.Curing.{CuresLine, IsGoodTo, IsGoodWith, IsOnLine, ReadsTo};
+ghost use Rattle.explainlines.specs.LineForms.{IsLineOf};
 ghost use Rattle.explainlines.specs.declared.lines.LineFile.TheVariants as files;
 
 use crate::forms::{BINDING, Form, SCENARIO, form_of};
@@ -90,8 +91,10 @@ fn shown(
     }
 }
 
-/// The forms of the lines of a file.
-fn forms_of(file: LineFile) -> &'static [Form] {
+/// The forms of the lines of a file. The line that each shows is one that such a file may have.
+fn forms_of(file: LineFile) -> &'static [Form]
+    ensures { All (λ form. IsLineOf file form.line.now) result.now }
+{
     match file {
         LineFile::Binding => BINDING,
         LineFile::Scenario => SCENARIO,
@@ -126,7 +129,7 @@ fn line_like(file: LineFile, cause: LineCause, line: &[u8]) -> &'static str {
     match (file, cause, form_of(forms_of(file), first_word(line))) {
         (LineFile::Binding, LineCause::TooLong, _) => "buses 1",
         (LineFile::Scenario, LineCause::TooLong, _) => "tick 1000",
-        (_, _, Some(form)) => form.2,
+        (_, _, Some(form)) => form.line,
         (LineFile::Binding, _, None) => "source 0.0 device-instance 5 2",
         (LineFile::Scenario, _, None) => "event 0 048402",
     }

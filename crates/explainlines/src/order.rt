@@ -29,7 +29,7 @@ impl<'a> Said<'a> {
         Said {
             bytes,
             number,
-            word: form.0,
+            word: form.word,
             numbers: numbers_of(line_of(bytes, number)),
         }
     }

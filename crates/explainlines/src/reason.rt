@@ -138,7 +138,7 @@ fn first_words(alloc: Global, forms: &[Form]) -> Result<String, AllocError> {
             6 => ",\n",
             _ => ", ",
         })?;
-        words.push_str(form.0)?;
+        words.push_str(form.word)?;
     }
     Ok(words)
 }

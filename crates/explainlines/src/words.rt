@@ -105,10 +105,10 @@ fn unknown(bytes: &[u8], word: &[u8], forms: &'static [Form]) -> Reason {
     let is_bound = form_of(BINDING, word).is_some();
     let is_other = is_bound || form_of(SCENARIO, word).is_some();
     let (what, cure, meant) = match meant_form(word, forms) {
-        Some(form) if word.eq_ignore_ascii_case(form.0.as_bytes()) => {
-            (CAPITAL, KNOWN, Meant::With(form.0))
+        Some(form) if word.eq_ignore_ascii_case(form.word.as_bytes()) => {
+            (CAPITAL, KNOWN, Meant::With(form.word))
         }
-        Some(form) => (NO_LINE, KNOWN, Meant::With(form.0)),
+        Some(form) => (NO_LINE, KNOWN, Meant::With(form.word)),
         None if is_other && has_line_of(bytes, forms) => {
             (OTHER_FILE, ELSEWHERE, Meant::Perhaps("# {word}"))
         }
@@ -160,7 +160,7 @@ fn has_line_of(bytes: &[u8], forms: &'static [Form]) -> bool {
 /// The form whose first word another one is meant for.
 fn meant_form(word: &[u8], forms: &'static [Form]) -> Option<&'static Form> {
     for form in forms {
-        if is_meant(word, form.0) {
+        if is_meant(word, form.word) {
             return Some(form);
         }
     }
@@ -175,13 +175,13 @@ fn is_meant(word: &[u8], other: &str) -> bool {
 /// Why the words behind the first are bad: one is not what it has to be, is too much, or is
 /// missing.
 fn bad_fields(line: &[u8], form: &Form) -> Option<Reason> {
-    let mut fields = form.1;
+    let mut fields = form.fields;
     let mut parts = parts_of(form);
-    let mut from = form.0.len().saturating_add(1);
+    let mut from = form.word.len().saturating_add(1);
     for word in line.split(|byte| *byte == b' ').skip(1) {
         let to = from.saturating_add(word.len());
         match fields {
-            [Field::Number(..), ..] if form.0 == "source" && is_in("instance group", word) => {
+            [Field::Number(..), ..] if form.word == "source" && is_in("instance group", word) => {
                 let cure = "device-instance, device-group and instance-group are one word each";
                 let reason = Reason::of("a blank where a hyphen is asked for", cure);
                 let reason = reason.meaning(Meant::With("-"));
@@ -199,10 +199,10 @@ fn bad_fields(line: &[u8], form: &Form) -> Option<Reason> {
         }
         from = to.saturating_add(1);
     }
-    let (first, end) = (form.0.len().saturating_add(1), line.len());
+    let (first, end) = (form.word.len().saturating_add(1), line.len());
     let mut reason = unmet(form, *fields.first()?, b"").at(end, end);
     let only = number_of(part(line, first, end), u64::MAX);
-    if let ([Field::Number(..), _], Some(1..)) = (form.1, only) {
+    if let ([Field::Number(..), _], Some(1..)) = (form.fields, only) {
         reason = reason.at(first, first).meaning(Meant::Perhaps("0 "));
         reason.what = "one number, where the bus and the {name} are asked for";
         reason.cure = "write both, the bus first";
@@ -235,7 +235,7 @@ const FRAME: &str = "a frame is six hexadecimal digits, such as 048402";
 
 /// What helps where a moment or an event is asked for and something else is written.
 fn cure_of(form: &Form, field: Field, word: &[u8], is_number: bool) -> Option<&'static str> {
-    match (form.0, field, word) {
+    match (form.word, field, word) {
         ("tick" | "ticks", _, [b'0'..=b'9' | b'T' | b't', ..]) if !is_number => Some(MILLISECONDS),
         ("event", Field::Number(..), _) if is_number => None,
         ("event", Field::Frame, [first, _, _, _, ..]) if first.is_ascii_hexdigit() => None,
