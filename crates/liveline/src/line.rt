@@ -281,8 +281,12 @@ impl<R: Wait + Clock + Drop, W: Write + Drop, T: Teller, O: Drop> MendedLine<R, 
         };
         if left == 0 {
             self.bus.fall_silent();
-        } else if let (Some(from), Some(to)) = (self.bus.reader(), self.bus.writer()) {
+            return;
+        }
+        if let Some(from) = self.bus.reader() {
             from.set_patience(left);
+        }
+        if let Some(to) = self.bus.writer() {
             to.set_patience(left);
         }
     }
