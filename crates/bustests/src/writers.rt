@@ -4,13 +4,12 @@ use buslink::Bus;
 use daliframe::BusNumber;
 use liveline::{Greeted, LineBus, TimedWriter, Trouble};
 use std::alloc::{AllocError, Global};
-use std::io;
 use std::io::{ErrorKind, Write};
 use std::sync::atomic::{AtomicBool, Ordering};
 use std::sync::{Arc, Mutex, Wait};
 use std::test::Fail;
-use std::thread;
 use std::time::{Clock, Duration};
+use std::{io, thread};
 
 /// The milliseconds after which a writer is late, and those that a test waits at most.
 const SHORT: u64 = 50;
@@ -19,6 +18,9 @@ const LONG: u64 = 30_000;
 
 /// What is written, which takes two pieces.
 const LINES: &[u8] = b"gushewa 2 18446744073709551615\nsend 2 0A80\n";
+
+/// A request of one piece.
+const HEAR: &[u8] = b"hear\n";
 
 /// A writer that takes nothing while its gate is shut.
 #[derive(Drop)]
@@ -94,11 +96,11 @@ fn a_writer_that_takes_nothing_is_late_and_stuck(rt: HostRuntime) -> Result<(), 
     let gated = Gated::new(rt.alloc(), &rt, false)?;
     let (is_open, took) = (gated.is_open.clone()?, gated.took.clone()?);
     let mut writer = TimedWriter::over(rt.alloc(), rt, gated, SHORT)?;
-    assert!(rt; writer.write(b"hear\n")? == 5);
+    assert!(rt; writer.write(HEAR)? == 5);
     for _ in 0..3 {
         let flushed = writer.flush().map_err(|error| error.kind());
         assert!(rt; flushed == Err(ErrorKind::TimedOut));
-        let written = writer.write(b"hear\n").map_err(|error| error.kind());
+        let written = writer.write(HEAR).map_err(|error| error.kind());
         assert!(rt; written == Err(ErrorKind::TimedOut));
         assert!(rt; writer.is_stuck() && took.lock(&rt).is_empty());
     }
@@ -109,7 +111,7 @@ fn a_writer_that_takes_nothing_is_late_and_stuck(rt: HostRuntime) -> Result<(), 
         }
         thread::sleep(&rt, Duration::from_millis(1));
     }
-    assert!(rt; !writer.is_stuck() && took.lock(&rt).as_slice() == b"hear\n");
+    assert!(rt; !writer.is_stuck() && took.lock(&rt).as_slice() == HEAR);
     Ok(())
 }
 
@@ -120,7 +122,7 @@ fn a_writer_that_fails_is_not_stuck(rt: HostRuntime) -> Result<(), Fail> {
         kind: ErrorKind::BrokenPipe,
     };
     let mut writer = TimedWriter::over(rt.alloc(), rt, failing, LONG)?;
-    assert!(rt; writer.write(b"hear\n")? == 5);
+    assert!(rt; writer.write(HEAR)? == 5);
     let flushed = writer.flush().map_err(|error| error.kind());
     assert!(rt; flushed == Err(ErrorKind::BrokenPipe) && !writer.is_stuck());
     Ok(())

@@ -42,9 +42,7 @@ pub fn write_lends_the_writer<R: Wait + Clock + Drop, W: Drop>(
 }
 
 /// `no_writer_is_stuck`: a writer that the thread still had was said to be free.
-pub fn lent_writer_is_stuck<R: Wait + Clock + Drop, W: Drop>(
-    writer: &mut TimedWriter<R, W>,
-) -> bool
+pub fn lent_writer_is_stuck<R: Wait + Clock + Drop, W: Drop>(writer: &mut TimedWriter<R, W>) -> bool
     ensures { result ≡ writer.new }
 {
     writer.is_stuck()
