@@ -1,23 +1,30 @@
 """Checks of benches/lines: a line that fails, and comes back, while the other bus goes on undisturbed."""
 
+from __future__ import annotations
+
 import concurrent.futures
 import itertools
 import multiprocessing
 import os
 import statistics
 import time
+from typing import Iterable, List, Tuple
 
-from lines_live import Found
-from lines_neighbour import BIND, FAR, GROUP, Neighbour, PATIENCE, Presser, QUICK, SIGN, SLOW, TWO, cases
+from lines_bench import Bench, Checks
+from lines_live import Found, Said
+from lines_neighbour import BIND, Case, FAR, GROUP, Neighbour, PATIENCE, Presser, QUICK, SIGN, SLOW, TWO, cases
 from lines_ports import Attended, NUMBERS, Pty
 
+# What was otherwise in a run, how long each press took on bus 0, and each return of bus 1.
+Run = Tuple[Found, List[float], List[float]]
 
-def judge_back(bench):
+
+def judge_back(bench: Bench) -> Found:
     """Two buses, of which one is in trouble: the other one's presses light their lamp in time, each once."""
     found = Found()
     bench.beside_well = []
     for case in cases(bench):
-        otherwise, took, back = Found(), [], []
+        otherwise, took, back = Found(), list[float](), list[float]()
         for more, presses, returns in judge_runs(bench, case):
             otherwise += more
             took += presses
@@ -30,7 +37,7 @@ def judge_back(bench):
     return found
 
 
-def judge_runs(bench, case):
+def judge_runs(bench: Bench, case: Case) -> List[Run]:
     """What came of each run of a case. In full some run beside each other, each in a process and a folder of its own."""
     runs = 1 if case.is_long else bench.back_runs
     at_once = min(runs, bench.back_at_once // (2 if case.is_busy else 1))
@@ -41,7 +48,7 @@ def judge_runs(bench, case):
         return list(pool.map(judge_case, [bench.apart() for _ in range(runs)], [case] * runs))
 
 
-def tell_times(bench, case, took, back):
+def tell_times(bench: Bench, case: Case, took: List[float], back: List[float]) -> None:
     """The rows of a case: how long presses took on bus 0, and until the lamps of bus 1 were right again."""
     if took:
         value = f"median {statistics.median(took) * 1000:.1f}, worst {max(took) * 1000:.1f} ms"
@@ -51,11 +58,11 @@ def tell_times(bench, case, took, back):
         bench.row(what, f"worst {max(back):.1f} s", f"under {case.back:.0f} s")
 
 
-def judge_times(found, took, well):
+def judge_times(found: Found, took: List[float], well: List[float]) -> None:
     """Each press lit its lamp in time. On a machine with other work a press may take longer whatever bus 1 does: what is
     late is compared with the same beside a bus that is well."""
     late = [time for time in took if time > QUICK]
-    if os.getloadavg()[0] < os.cpu_count() / 2:
+    if os.getloadavg()[0] < (os.cpu_count() or 1) / 2:
         found.same(f"presses above {QUICK * 1000:.0f} ms", len(late), 0)
     share = max(1 / 50, 2 * sum(time > QUICK for time in well) / max(1, len(well)))
     found.hold(len(late) <= share * len(took), f"{len(late)} of {len(took)} presses above {QUICK * 1000:.0f} ms")
@@ -63,9 +70,9 @@ def judge_times(found, took, well):
     found.hold(max(took, default=0) <= slow, f"a press took {1000 * max(took, default=0):.0f} of {1000 * slow:.0f} ms")
 
 
-def judge_case(bench, case):
+def judge_case(bench: Bench, case: Case) -> Run:
     """What was otherwise in one run, how long each press took on bus 0, and each return of bus 1."""
-    found, back = Found(), []
+    found, back = Found(), list[float]()
     presser = Presser((0.2, 0.6) if case.is_long else (0.005, 0.040))
     port = Pty(bench.folder, presser)
     log = f"{bench.folder}/log{next(NUMBERS)}"
@@ -95,7 +102,7 @@ def judge_case(bench, case):
     return found, presser.from_event, back
 
 
-def wait_for(bench, case, presser, neighbour):
+def wait_for(bench: Bench, case: Case, presser: Presser, neighbour: Neighbour) -> None:
     """Until there were enough presses, and bus 1 had its troubles and is back."""
     time.sleep(case.seconds)
     bench.eventually(lambda: len(presser.from_event) >= bench.back_presses, 120)
@@ -109,8 +116,10 @@ class Events:
     """What an event log says: the moments of the scans of the task `clock` that changed a variable, which is each but the first,
     and which buses went down or came up, in all and before the last of these scans."""
 
-    def __init__(self, lines):
-        self.scans, self.turns, self.early_turns = [], [], []
+    def __init__(self, lines: Iterable[str]) -> None:
+        self.scans: List[int] = []
+        self.turns: List[str] = []
+        self.early_turns: List[str] = []
         for text in lines:
             words = text.split()
             if words[3:5] == ["commit", "clock"]:
@@ -120,7 +129,7 @@ class Events:
                 self.turns.append(" ".join(words[4:]))
 
 
-def judge_presses(found, said, presser):
+def judge_presses(found: Found, said: Said, presser: Presser) -> None:
     """Each press was taken once, and set the lamp once."""
     presses = presser.handed
     found.same("scans and lost events", said.tasks.get("push"), (presses, 0))
@@ -130,7 +139,7 @@ def judge_presses(found, said, presser):
     found.counts(said, 0, presser)
 
 
-def judge_timer(found, said, events, seconds):
+def judge_timer(found: Found, said: Said, events: Events, seconds: float) -> None:
     """The timer ran from the first scan of its task, before those of the log, to the last one, and these go on until the end was
     asked for, so many seconds after bus 0 greeted. The clock begins at the greeting at the soonest, and a second later at the
     latest."""
@@ -141,7 +150,7 @@ def judge_timer(found, said, events, seconds):
     found.hold(seconds - 2.5 < ran < seconds + 0.5, f"the last scan is at {ran:.1f} s of {seconds:.1f}")
 
 
-def judge_log(found, events, case):
+def judge_log(found: Found, events: Events, case: Case) -> None:
     """Bus 1 alone goes down, and up again after each time, but for the last where it ends down; once for each trouble."""
     turns = events.turns
     found.same("buses that went down or up", {text.split()[-1] for text in turns} - {"1"}, set())
@@ -155,7 +164,7 @@ def judge_log(found, events, case):
         found.same("times that bus 1 went down", turns.count("down bus 1"), case.troubles)
 
 
-def judge_return(found, neighbour, presser, case):
+def judge_return(found: Found, neighbour: Neighbour, presser: Presser, case: Case) -> List[float]:
     """After each trouble all lamps of bus 1 have their levels in time. Gives how long each took."""
     times = neighbour.times_of(case)
     found.same("troubles of bus 1", len(times), case.troubles)
@@ -167,4 +176,4 @@ def judge_return(found, neighbour, presser, case):
     return took
 
 
-CHECKS = [("two buses, of which one is in trouble", judge_back)]
+CHECKS: Checks = [("two buses, of which one is in trouble", judge_back)]

@@ -1,5 +1,7 @@
 """Checks of benches/lines: how a building ends, or is killed, while a button is pressed; and many lines at once."""
 
+from __future__ import annotations
+
 import multiprocessing
 import os
 import random
@@ -8,14 +10,17 @@ import subprocess
 import sys
 import tempfile
 import time
+from multiprocessing.connection import Connection
+from typing import Callable, List, Optional, Sequence, Type
 
+from lines_bench import Bench, Checks
 from lines_houses import HERE, House, Pressed
-from lines_live import Found
+from lines_live import Found, Live
 from lines_ports import Attended, Desk, Fifos, Pty
 from lines_texts import HALL, binding, town
 
 
-def judge_ends(bench):
+def judge_ends(bench: Bench) -> Found:
     """The end by the stop file and by --for, while a button is pressed all the time: nothing is left, and nothing is lost."""
     found = Found()
     for turn in range(bench.ends):
@@ -42,16 +47,16 @@ def judge_ends(bench):
             if by_time and live.ended_at:
                 found.hold(0.9 < live.ended_at - began, f"--for 1 ended after {live.ended_at - began:.2f} s")
         port.close()
-    house = House()
-    port = Pty(bench.folder, house)
+    idle = House()
+    port = Pty(bench.folder, idle)
     with Attended(port), bench.live(HALL, binding(1), [port.word()], is_stopped=True) as live:
         found.same("the status of a start that finds the stop file", live.wait(), 0)
-        found.same("what it sends", house.sends, [])
+        found.same("what it sends", idle.sends, [])
     port.close()
     return found
 
 
-def judge_killed(bench):
+def judge_killed(bench: Bench) -> Found:
     """A controller that is killed, and started again on the same line of examples/interfaces/simulated.py."""
     # What was not read on a pseudo terminal is dropped within a second.
     return Found(
@@ -61,7 +66,7 @@ def judge_killed(bench):
     )
 
 
-def judge_killed_on(bench, end, pause, kills):
+def judge_killed_on(bench: Bench, end: str, pause: float, kills: int) -> List[str]:
     """So on a pseudo terminal, or on FIFOs, with a pause before each start."""
     path, log = f"{bench.folder}/simulated{end}", f"{bench.folder}/simulated.log"
     paths = [path] if end == "--pty" else [path, f"{path}-sink"]
@@ -90,7 +95,7 @@ def judge_killed_on(bench, end, pause, kills):
         interface.wait()
 
 
-def judge_restarts(bench, word, log, pause, kills):
+def judge_restarts(bench: Bench, word: str, log: str, pause: float, kills: int) -> Found:
     """Kills some on this line, and compares what one that comes to its end says with the log of the interface."""
     found = Found()
     for turn in range(kills):
@@ -112,7 +117,7 @@ def judge_restarts(bench, word, log, pause, kills):
     return found
 
 
-def serve_lines(folder, count, kind, pipe):
+def serve_lines(folder: str, count: int, kind: Type[Pressed], pipe: Connection) -> None:
     """A process of its own: as many lines, each with a button that is pressed each 0.2 to 0.6 seconds."""
     houses = [kind(0.2, 0.6) for _ in range(count)]
     ports = [(Pty, Fifos)[at % 2](folder, house) for at, house in enumerate(houses)]
@@ -126,7 +131,14 @@ def serve_lines(folder, count, kind, pipe):
     pipe.send([(house.handed, house.greetings, len(house.sends), house.sends[-1:]) for house in houses])
 
 
-def judge_lines(bench, buses, processes, meanwhile=None, kind=Pressed, more=()):
+def judge_lines(
+    bench: Bench,
+    buses: int,
+    processes: int,
+    meanwhile: Optional[Callable[[Live], None]] = None,
+    kind: Type[Pressed] = Pressed,
+    more: Sequence[str] = (),
+) -> Found:
     """Many lines at once, each with a button and a lamp; `meanwhile` is what is done with the program."""
     found = Found()
     context = multiprocessing.get_context("fork")
@@ -161,15 +173,15 @@ def judge_lines(bench, buses, processes, meanwhile=None, kind=Pressed, more=()):
     return found
 
 
-def judge_16(bench):
+def judge_16(bench: Bench) -> Found:
     return judge_lines(bench, 16, 4)
 
 
-def judge_64(bench):
+def judge_64(bench: Bench) -> Found:
     return judge_lines(bench, 64, 8)
 
 
-CHECKS = [
+CHECKS: Checks = [
     ("ends while a button is pressed", judge_ends),
     ("killed and started again", judge_killed),
     ("16 lines at once", judge_16),

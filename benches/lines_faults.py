@@ -1,17 +1,21 @@
 """Checks of benches/lines: words that name no lines, interfaces that fail or are unplugged, and buses that stay down."""
 
+from __future__ import annotations
+
 import collections
 import concurrent.futures
 import contextlib
 import time
+from typing import List, Optional, Sequence, Tuple
 
+from lines_bench import Bench, Checks
 from lines_houses import Faulty, House, Pressed
 from lines_live import Found
-from lines_ports import Attended, Fifos, Pty
+from lines_ports import KINDS, Attended, Fifos, Kind, Pty
 from lines_texts import HALL, HALL_LEVELS, SET_ONCE, binding
 
 
-def judge_words(bench):
+def judge_words(bench: Bench) -> Found:
     """Words that name no lines, and files that are refused."""
     found = Found()
     house = House()
@@ -63,14 +67,14 @@ FORMS = {
 }
 
 
-def judge_fault(bench, kind, form, at):
+def judge_fault(bench: Bench, kind: Kind, form: str, at: int) -> Tuple[str, Optional[str], Found]:
     """An interface that fails in one way at one request, and then is well again: its bus comes back."""
     says, ends = FORMS[form]
     house = Faulty(at, says, ends)
     port = kind(bench.folder, house)
     found = Found()
 
-    def is_back():
+    def is_back() -> bool:
         return house.greetings > (at > 0) and SET_ONCE <= set(house.sends[house.before :])
 
     with Attended(port) as attended, bench.live(HALL, binding(1), [port.word()], "--patience", "300") as live:
@@ -94,10 +98,10 @@ def judge_fault(bench, kind, form, at):
     return f"{form} at {'the greeting' if at == 0 else f'request {at}'}", house.failed_at, found
 
 
-def judge_faults(bench):
+def judge_faults(bench: Bench) -> Found:
     """An interface that fails, in each way, at each of the first requests. Four at once."""
     found = Found()
-    for name, kind in (("pseudo terminal", Pty), ("FIFOs", Fifos)):
+    for name, kind in KINDS:
         met = collections.defaultdict(set)
         cases = [(form, at) for form in FORMS for at in range(bench.requests)]
         with concurrent.futures.ThreadPoolExecutor(4) as pool:
@@ -113,7 +117,7 @@ def judge_faults(bench):
     return found
 
 
-def judge_plug(bench, before=(), leads=False):
+def judge_plug(bench: Bench, before: Sequence[str] = (), leads: bool = False) -> Found:
     """A line that is unplugged, and plugged in again: the program goes on, and sends all levels again."""
     found = Found()
     house, other = House(), House()
@@ -138,15 +142,16 @@ def judge_plug(bench, before=(), leads=False):
     return found
 
 
-def judge_session(bench):
+def judge_session(bench: Bench) -> Found:
     """The same where the process leads a session, as under a supervisor: the device is its terminal, and nohup keeps it alive."""
     return judge_plug(bench, before=["nohup"], leads=True)
 
 
-def judge_stay(bench):
+def judge_stay(bench: Bench) -> Found:
     """A bus that goes down, and stays so: the other one goes on, or with --end-on-down the program ends."""
     found = Found()
-    for words in ([], ["--stay"], ["--end-on-down"]):
+    ways: List[List[str]] = [[], ["--stay"], ["--end-on-down"]]
+    for words in ways:
         name = " ".join(words) or "no word"
         good, bad = Pressed(0.02, 0.04), Faulty(6, b"fault\n", False, is_well=False)
         ports = [Pty(bench.folder, good), Fifos(bench.folder, bad)]
@@ -168,7 +173,7 @@ def judge_stay(bench):
     return found
 
 
-CHECKS = [
+CHECKS: Checks = [
     ("words", judge_words),
     ("faults", judge_faults),
     ("unplugged and plugged", judge_plug),

@@ -1,10 +1,14 @@
 """Calls of `dalictl live` by benches/lines, what they print, and what was otherwise than it should be."""
 
+from __future__ import annotations
+
 import os
 import re
 import subprocess
 import time
+from typing import Dict, Iterable, List, Optional, Sequence, Tuple
 
+from lines_houses import House
 from lines_ports import NUMBERS
 
 # A build with run-time checks keeps memory that was given back, unless it is told not to.
@@ -16,8 +20,18 @@ class Live:
     `is_closed`, it begins without descriptors 0, 1 and 2."""
 
     def __init__(
-        self, program, folder, text, bind, lines, *words, before=(), leads=False, is_stopped=False, is_closed=False
-    ):
+        self,
+        program: str,
+        folder: str,
+        text: str,
+        bind: str,
+        lines: Sequence[str],
+        *words: str,
+        before: Sequence[str] = (),
+        leads: bool = False,
+        is_stopped: bool = False,
+        is_closed: bool = False,
+    ) -> None:
         number = next(NUMBERS)
         self.stop = f"{folder}/stop{number}"
         if is_stopped:
@@ -38,26 +52,26 @@ class Live:
                 env=ENVIRONMENT,
                 preexec_fn=(lambda: os.closerange(0, 3)) if is_closed else None,
             )
-        self.ended_at = None
+        self.ended_at: Optional[float] = None
 
-    def __enter__(self):
+    def __enter__(self) -> Live:
         return self
 
-    def __exit__(self, *_):
+    def __exit__(self, *_: object) -> None:
         if self.process.poll() is None:
             self.process.kill()
             self.process.wait()
 
-    def ask_for_end(self):
+    def ask_for_end(self) -> None:
         with open(self.stop, "w"):
             pass
 
-    def end(self):
+    def end(self) -> Optional[int]:
         """Asks for the end by the stop file, and waits for it."""
         self.ask_for_end()
         return self.wait()
 
-    def wait(self, seconds=20):
+    def wait(self, seconds: float = 20) -> Optional[int]:
         """The status, or None where it goes on."""
         try:
             status = self.process.wait(seconds)
@@ -66,38 +80,44 @@ class Live:
         self.ended_at = time.monotonic()
         return status
 
-    def out(self):
+    def out(self) -> List[str]:
         with open(self.out_path) as file:
             return file.read().splitlines()
 
-    def err(self):
+    def err(self) -> List[str]:
         with open(self.err_path) as file:
             return file.read().splitlines()
 
-    def unnamed(self, lines):
+    def unnamed(self, lines: Iterable[str]) -> List[str]:
         """Lines with TEXT and BIND for the paths of these files."""
         return [it.replace(self.text, "TEXT").replace(self.bind, "BIND") for it in lines]
 
-    def said(self):
+    def said(self) -> Said:
         return Said(self.out())
 
-    def seconds(self):
+    def seconds(self) -> float:
         """The processor time of the process up to now."""
         with open(f"/proc/{self.process.pid}/stat") as file:
             fields = file.read().rsplit(")", 1)[1].split()
         return (int(fields[11]) + int(fields[12])) / os.sysconf("SC_CLK_TCK")
 
-    def memory(self):
+    def memory(self) -> int:
         """The most memory that the process had up to now, in KiB."""
         with open(f"/proc/{self.process.pid}/status") as file:
-            return int(re.search(r"VmHWM:\s+(\d+)", file.read())[1])
+            found = re.search(r"VmHWM:\s+(\d+)", file.read())
+        return int(found[1]) if found else 0
 
 
 class Said:
     """What is printed at the end."""
 
-    def __init__(self, lines):
-        self.ended, self.events, self.buses, self.tasks, self.values, self.other = None, 0, {}, {}, {}, []
+    def __init__(self, lines: Iterable[str]) -> None:
+        self.ended: Optional[str] = None
+        self.events = 0
+        self.buses: Dict[int, Tuple[int, int]] = {}
+        self.tasks: Dict[str, Tuple[int, int]] = {}
+        self.values: Dict[str, str] = {}
+        self.other: List[str] = []
         for text in lines:
             words = text.split()
             if re.fullmatch(r"ended (asked|a bus went down|limit|no memory|no thread)", text):
@@ -114,18 +134,18 @@ class Said:
                 self.other.append(text)
 
 
-class Found(list):
+class Found(List[str]):
     """What was otherwise than it should be."""
 
-    def same(self, what, found, wanted):
+    def same(self, what: str, found: object, wanted: object) -> None:
         if found != wanted:
             self.append(f"{what} {found!r} and not {wanted!r}")
 
-    def hold(self, holds, what):
+    def hold(self, holds: object, what: str) -> None:
         if not holds:
             self.append(what)
 
-    def ended(self, live, status, wanted, why="asked"):
+    def ended(self, live: Live, status: Optional[int], wanted: int, why: str = "asked") -> Said:
         """The status, and where it is 0 or 3 after a start why the run was ended: as it was asked."""
         if status is None:
             self.append(f"it goes on; on standard error {live.err()[-1:]}")
@@ -136,7 +156,7 @@ class Found(list):
         self.same("other lines", said.other, [])
         return said
 
-    def counts(self, said, bus, house, is_up=True, unsaid=0):
+    def counts(self, said: Said, bus: int, house: House, is_up: bool = True, unsaid: int = 0) -> None:
         """What the program says of a bus is what its interface says, which had nothing more where the bus is up. A frame
         that failed since the line was not there counts as sent; so many more there may be."""
         sent, heard = said.buses.get(bus, (-1, -1))

@@ -1,10 +1,14 @@
 """Two buses of benches/lines: a button on bus 0, a simulated interface on bus 1, and what may happen to this."""
 
+from __future__ import annotations
+
 import os
 import subprocess
 import sys
 import time
+from typing import Dict, Iterator, List, Optional, Sequence, Tuple
 
+from lines_bench import Bench
 from lines_houses import HERE, Stopwatch
 from lines_ports import NUMBERS
 from lines_texts import SOURCE
@@ -60,15 +64,17 @@ FAR, SIGN, GROUP = 0x0A, 0x0C, 0x82
 class Presser(Stopwatch):
     """A button that is pressed again soon after its lamp was set, until it is switched off."""
 
-    def __init__(self, span):
+    def __init__(self, span: Tuple[float, float]) -> None:
         super().__init__(1 << 62, span)
-        self.is_on, self.presses, self.greeted = True, [], None
+        self.is_on = True
+        self.presses: List[float] = []
+        self.greeted: Optional[float] = None
 
-    def forget(self):
+    def forget(self) -> None:
         super().forget()
         self.greeted = time.monotonic()
 
-    def event(self):
+    def event(self) -> Optional[int]:
         if not self.is_on:
             return None
         event = super().event()
@@ -76,7 +82,7 @@ class Presser(Stopwatch):
             self.presses.append(time.monotonic())
         return event
 
-    def counts_about(self, moment):
+    def counts_about(self, moment: float) -> range:
         """How many presses there may have been for the controller just before this moment."""
         before = sum(press < moment - 0.5 for press in self.presses)
         return range(before, sum(press < moment + 0.1 for press in self.presses) + 1)
@@ -85,7 +91,7 @@ class Presser(Stopwatch):
 class Neighbour:
     """A simulated interface in a process of its own, and what its log says, in seconds of this machine's clock."""
 
-    def __init__(self, folder, *words):
+    def __init__(self, folder: str, *words: str) -> None:
         number = next(NUMBERS)
         self.path, self.log = f"{folder}/neighbour{number}", f"{folder}/neighbour{number}.log"
         command = [sys.executable, f"{HERE}/examples/interfaces/simulated.py", "--pty", self.path, "--log", self.log]
@@ -93,28 +99,29 @@ class Neighbour:
         while not os.path.exists(self.log):
             time.sleep(0.005)
         self.begun = time.monotonic()
-        self.file, self.known, self.left = open(self.log), [], ""
+        self.file, self.left = open(self.log), ""
+        self.known: List[Tuple[float, str, str]] = []
         while not os.path.exists(self.path) and "--start-after" not in words:
             time.sleep(0.005)
 
-    def __enter__(self):
+    def __enter__(self) -> Neighbour:
         return self
 
-    def __exit__(self, *_):
+    def __exit__(self, *_: object) -> None:
         self.process.kill()
         self.process.wait()
         self.file.close()
         if os.path.islink(self.path):
             os.unlink(self.path)
 
-    def lines(self):
+    def lines(self) -> List[Tuple[float, str, str]]:
         """Each line of the log: when, `<`, `>` or `!`, and the text. What was read before is not read again."""
         *whole, self.left = (self.left + self.file.read()).split("\n")
         words = [text.split(" ", 2) for text in whole]
         self.known += [(self.begun + float(when), way, text) for when, way, text in words]
         return self.known
 
-    def frames(self):
+    def frames(self) -> Iterator[Tuple[float, Optional[int]]]:
         """When the gear was sent which 16-bit frame, and None for a greeting."""
         for when, way, text in self.lines():
             if way == "<" and "gushewa" in text:
@@ -122,25 +129,25 @@ class Neighbour:
             elif way == "<" and text.startswith("send") and len(text) == len("send 4 0A80"):
                 yield when, int(text.split()[2], 16)
 
-    def well_again(self):
+    def well_again(self) -> List[float]:
         """When the line was well again after each of its troubles."""
         return [when + float(text.split()[1]) for when, way, text in self.lines() if way == "!"]
 
-    def is_back(self, case, presser):
+    def is_back(self, case: Case, presser: Presser) -> bool:
         """Whether the line had all troubles of this case, and after the last one all lamps have their levels again."""
         times = self.times_of(case)
         return len(times) >= case.troubles and self.back_at(times[-1], presser) is not None
 
-    def times_of(self, case):
+    def times_of(self, case: Case) -> List[float]:
         """When the line was well again after each trouble of this case; where it was not there at the start, when it came."""
         if case.words[0] != "--start-after":
             return self.well_again()
         came = self.begun + float(case.words[1])
         return [came] if time.monotonic() > came else []
 
-    def back_at(self, begun, presser):
+    def back_at(self, begun: float, presser: Presser) -> Optional[float]:
         """When all lamps had their levels again, sent since a greeting after this moment, or None."""
-        levels = {}
+        levels: Dict[int, int] = {}
         for when, frame in self.frames():
             if frame is None:
                 levels = {}
@@ -151,8 +158,8 @@ class Neighbour:
                     return when
         return None
 
-    def last_levels(self):
-        levels = {}
+    def last_levels(self) -> Dict[int, int]:
+        levels: Dict[int, int] = {}
         for _, frame in self.frames():
             if frame is not None:
                 levels[frame >> 8] = frame & 0xFF
@@ -163,13 +170,23 @@ class Case:
     """What bus 1 does, with so many troubles after which it comes back, or for so many seconds; and what is to come of it.
     A line that `speaks_on` once the end was asked for is let go of then. Where it `is_busy` it takes two processors."""
 
-    def __init__(self, name, words, troubles=0, seconds=0.0, ends_up=True, speaks_on=False, back=BACK, is_busy=False):
+    def __init__(
+        self,
+        name: str,
+        words: Sequence[str],
+        troubles: int = 0,
+        seconds: float = 0.0,
+        ends_up: bool = True,
+        speaks_on: bool = False,
+        back: float = BACK,
+        is_busy: bool = False,
+    ) -> None:
         self.name, self.words, self.troubles, self.seconds = name, words, troubles, seconds
         self.ends_up, self.speaks_on, self.back, self.is_busy = ends_up and not speaks_on, speaks_on, back, is_busy
-        self.is_long = words[:1] == ["--start-after"] and float(words[1]) > 1000
+        self.is_long = list(words[:1]) == ["--start-after"] and float(words[1]) > 1000
 
 
-def cases(bench):
+def cases(bench: Bench) -> List[Case]:
     """All that may happen to bus 1. A line falls out of order at its 100th request after the greeting."""
     times = 50 if bench.is_full else 5
     absent = 3600.0 if bench.is_long else 60.0 if bench.is_full else 4.0

@@ -1,10 +1,13 @@
 """Check of benches/lines: a serial adapter that is plugged in while the house runs, and set by what the package installs."""
 
+from __future__ import annotations
+
 import os
 import pathlib
 import tempfile
 import time
 
+from lines_bench import Bench, Checks
 from lines_houses import HERE, Stopwatch
 from lines_live import Found
 from lines_ports import Attended, Cooked
@@ -18,7 +21,7 @@ SETTINGS = pathlib.Path(f"{HERE}/packaging/dalictl-live.default")
 BACK = 5.0
 
 
-def judge_plugged(bench):
+def judge_plugged(bench: Bench) -> Found:
     """The device comes cooked. It is set at once, or once the controller has met its echo."""
     found = Found()
     for after in (0.0, 1.5):
@@ -26,7 +29,7 @@ def judge_plugged(bench):
     return found
 
 
-def judge_replug(bench, after):
+def judge_replug(bench: Bench, after: float) -> Found:
     """The device is set so many seconds after it was plugged in; its bus is up in time, and presses light the lamp."""
     found = Found()
     first, again = Stopwatch(3), Stopwatch(3)
@@ -61,7 +64,7 @@ def judge_replug(bench, after):
     return found
 
 
-def device_of(found, port):
+def device_of(found: Found, port: Cooked) -> None:
     """Sets a device as the package does: the rule of udev starts a unit for it, whose command line is run. The name of the
     pseudo terminal stands in the place of the adapter's name."""
     wanted = wanted_of(RULES, {"ACTION": "add", "SUBSYSTEM": "tty", "KERNEL": "ttyUSB0"})
@@ -74,4 +77,4 @@ def device_of(found, port):
     found.hold(is_set(port.theirs), "the device is not set")
 
 
-CHECKS = [("cooked: an adapter that is plugged in again", judge_plugged)]
+CHECKS: Checks = [("cooked: an adapter that is plugged in again", judge_plugged)]

@@ -1,9 +1,13 @@
 """Checks of benches/lines: lines that are silent, that are not there, or that flood, and descriptors that are closed."""
 
+from __future__ import annotations
+
 import contextlib
 import os
 import time
+from typing import List
 
+from lines_bench import Bench, Checks
 from lines_houses import House
 from lines_live import Found
 from lines_neighbour import Neighbour, PATIENCE, TWO
@@ -11,7 +15,7 @@ from lines_ports import Attended, NUMBERS, Pty
 from lines_texts import binding
 
 
-def judge_silent(bench):
+def judge_silent(bench: Bench) -> Found:
     """A line that is silent, from the greeting on or later: --for ends within its time and the patience."""
     found = Found()
     for at in (0, 30):
@@ -27,13 +31,13 @@ def judge_silent(bench):
     return found
 
 
-def judge_absent(bench):
+def judge_absent(bench: Bench) -> Found:
     """No line is there: the program goes on and says so, and takes up a line that comes."""
     found = Found()
     status = f"{bench.folder}/status{next(NUMBERS)}"
     paths = [f"{bench.folder}/absent0", f"{bench.folder}/absent1"]
 
-    def has(text):
+    def has(text: str) -> bool:
         try:
             with open(status) as file:
                 return any(line.startswith(text) for line in file)
@@ -59,7 +63,7 @@ def judge_absent(bench):
     return found
 
 
-def judge_flood_ends(bench):
+def judge_flood_ends(bench: Bench) -> Found:
     """The end by --for and by the stop file, while the line has an event at each request."""
     found = Found()
     for by_time in (True, False):
@@ -80,10 +84,11 @@ def judge_flood_ends(bench):
     return found
 
 
-def judge_closed(bench):
+def judge_closed(bench: Bench) -> Found:
     """Descriptors 0, 1 and 2 are closed, so lines may get them: nothing that is printed or logged may go there."""
     found = Found()
-    for words in ([], ["--log", "-"]):
+    ways: List[List[str]] = [[], ["--log", "-"]]
+    for words in ways:
         with contextlib.ExitStack() as stack:
             neighbours = [stack.enter_context(Neighbour(bench.folder)) for _ in range(3)]
             paths = [neighbour.path for neighbour in neighbours]
@@ -97,7 +102,7 @@ def judge_closed(bench):
     return found
 
 
-CHECKS = [
+CHECKS: Checks = [
     ("a silent line, --for", judge_silent),
     ("no line is there", judge_absent),
     ("ends on a line that floods", judge_flood_ends),

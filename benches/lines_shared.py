@@ -1,14 +1,18 @@
 """Checks of benches/lines: one line under two names, a second program on it, another interface at its path, and what is said."""
 
+from __future__ import annotations
+
 import os
 import subprocess
 import time
+from typing import List
 
 from lines_back import judge_presses
+from lines_bench import Bench, Checks
 from lines_houses import House, Pressed
-from lines_live import ENVIRONMENT, Found
+from lines_live import ENVIRONMENT, Found, Live
 from lines_neighbour import BACK, BIND, PATIENCE, Presser, TWO
-from lines_ports import Attended, Fifos, NUMBERS, Pty
+from lines_ports import KINDS, NUMBERS, Attended, Kind, Pty
 from lines_texts import HALL, HALL_LEVELS, binding, town
 
 # Seconds until it is said that a line is busy; until the interface that stands at the path now is greeted, where the one
@@ -16,15 +20,15 @@ from lines_texts import HALL, HALL_LEVELS, binding, town
 BUSY, GREETED, SAID = 3.0, 4 * PATIENCE / 1000 + 3, 5.0
 
 
-def judge_names(bench):
+def judge_names(bench: Bench) -> Found:
     """Two buses with one line, under two names: one of them has it, and the other one is told that it is busy."""
     found = Found()
-    for name, kind in (("a pseudo terminal", Pty), ("FIFOs", Fifos)):
+    for name, kind in KINDS:
         found.extend(f"{name}: {one}" for one in judge_two_names(bench, kind))
     return found
 
 
-def judge_two_names(bench, kind):
+def judge_two_names(bench: Bench, kind: Kind) -> Found:
     found, house = Found(), Pressed(0.02, 0.06)
     port = kind(bench.folder, house)
     links = [f"{path}-again" for path in port.word().split(",")]
@@ -52,7 +56,7 @@ def judge_two_names(bench, kind):
     return found
 
 
-def judge_programs(bench):
+def judge_programs(bench: Bench) -> Found:
     """A second program on the line of a house is told that it is busy, and the house loses no press. Where the house has ended,
     the second one has the line."""
     found, presser, other = Found(), Presser((0.02, 0.06)), House()
@@ -82,7 +86,7 @@ def judge_programs(bench):
     return found
 
 
-def judge_tool(bench, path, command):
+def judge_tool(bench: Bench, path: str, command: List[str]) -> List[str]:
     """A command at one line says that it is busy, and ends in time."""
     name, words = command[0], command[1:]
     try:
@@ -101,7 +105,7 @@ def judge_tool(bench, path, command):
     return [] if is_told else [f"{name} ends with {ran.returncode}, and says {said.splitlines()[-1:]}"]
 
 
-def judge_hung(bench):
+def judge_hung(bench: Bench) -> Found:
     """The interface of bus 0 hangs, and stays open; another one stands at its path, and is greeted."""
     found, hangs, well = Found(), Hangs(), House()
     ports = [Pty(bench.folder, hangs), Pty(bench.folder, well)]
@@ -130,11 +134,11 @@ class Hangs(House):
 
     is_well = True
 
-    def answer(self, request):
+    def answer(self, request: str) -> bytes:
         return super().answer(request) if self.is_well else b""
 
 
-def judge_reasons(bench):
+def judge_reasons(bench: Bench) -> Found:
     """Each other reason of a bus that is down is said, and stands in the status; and none is said again and again."""
     found, house = Found(), House()
     port, status = Pty(bench.folder, house), f"{bench.folder}/status{next(NUMBERS)}"
@@ -161,19 +165,19 @@ def judge_reasons(bench):
     return found
 
 
-def judge_reason(bench, found, live, status, line):
+def judge_reason(bench: Bench, found: Found, live: Live, status: str, line: str) -> None:
     """This line is said in time, and its reason stands in the status."""
     reason = line.rsplit(": ", 1)[1]
     found.hold(bench.eventually(lambda: line in live.err(), SAID), f"it is not said: {reason}")
 
-    def stands():
+    def stands() -> bool:
         with open(status) as file:
             return any(text.startswith("bus 0 down") and reason in text for text in file)
 
     found.hold(bench.eventually(stands, SAID), f"it is not in the status: {reason}")
 
 
-def judge_echo(bench):
+def judge_echo(bench: Bench) -> Found:
     """A line that echoes for a while goes down at each try: that is said a few times, and not each time."""
     found, port = Found(), Pty(bench.folder, Echoes())
     with Attended(port), bench.live(HALL, binding(1), [port.word()], "--patience", str(PATIENCE)) as live:
@@ -188,11 +192,11 @@ def judge_echo(bench):
 class Echoes(House):
     """A bus whose line sends back each request before its answer."""
 
-    def answer(self, request):
+    def answer(self, request: str) -> bytes:
         return f"{request}\n".encode() + super().answer(request)
 
 
-CHECKS = [
+CHECKS: Checks = [
     ("shared: one line under two names", judge_names),
     ("shared: a second program on a line", judge_programs),
     ("shared: another interface at the path of one that hangs", judge_hung),

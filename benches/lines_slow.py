@@ -1,10 +1,14 @@
 """Check of benches/lines: a bus that answers just within its patience, beside one that is well."""
 
+from __future__ import annotations
+
 import os
 import time
+from typing import List, Tuple, Type, Union
 
 from gushewa_line import line
 from lines_back import judge_presses
+from lines_bench import Bench, Checks
 from lines_houses import House
 from lines_live import Found
 from lines_neighbour import BIND, PATIENCE, Presser, TWO
@@ -17,7 +21,7 @@ LATE, GAP, LIT = 0.8 * PATIENCE / 1000, 1.5, 1.0
 class Late(House):
     """A bus on which each answer takes its time, but those of greetings."""
 
-    def answer(self, request):
+    def answer(self, request: str) -> bytes:
         if not request.startswith("gushewa"):
             time.sleep(LATE)
         return super().answer(request)
@@ -26,21 +30,25 @@ class Late(House):
 class Losing(House):
     """A bus on which each frame is lost after a long time."""
 
-    def send(self, bits, frame, priority):
+    def send(self, bits: int, frame: int, priority: int) -> str:
         super().send(bits, frame, priority)
         time.sleep(LATE)
         return line.LOST
 
 
-def judge_slow(bench):
+Kind = Union[Type[Late], Type[Losing]]
+WAYS: List[Tuple[str, Kind]] = [("answers late", Late), ("loses each frame late", Losing)]
+
+
+def judge_slow(bench: Bench) -> Found:
     """Runs follow one another in ticks that come in time, and each press on bus 0 lights its lamp in time."""
     found = Found()
-    for name, kind in (("answers late", Late), ("loses each frame late", Losing)):
+    for name, kind in WAYS:
         found.extend(f"bus 1 {name}: {one}" for one in judge_beside(bench, name, kind))
     return found
 
 
-def judge_beside(bench, name, kind):
+def judge_beside(bench: Bench, name: str, kind: Kind) -> Found:
     found, presser, house = Found(), Presser((0.02, 0.06)), kind()
     port, other = Pty(bench.folder, presser), Pty(bench.folder, house)
     log = f"{bench.folder}/log{next(NUMBERS)}"
@@ -68,7 +76,7 @@ def judge_beside(bench, name, kind):
     return found
 
 
-def longest_pause(log, seconds):
+def longest_pause(log: str, seconds: float) -> float:
     """The longest time in which a log did not grow, of so many seconds. Each tick of the house adds a line to it."""
     end, size, grew, longest = time.monotonic() + seconds, 0, time.monotonic(), 0.0
     while (now := time.monotonic()) < end:
@@ -79,4 +87,4 @@ def longest_pause(log, seconds):
     return longest
 
 
-CHECKS = [("slow: a bus that answers just within its patience", judge_slow)]
+CHECKS: Checks = [("slow: a bus that answers just within its patience", judge_slow)]

@@ -1,21 +1,25 @@
 """Check of benches/lines: a machine that stands still for a while, as one that was suspended or has too much to do."""
 
+from __future__ import annotations
+
 import random
 import signal
 import time
 
+from lines_bench import Bench, Checks
 from lines_ends import judge_lines
 from lines_houses import Unhurried
+from lines_live import Found, Live
 from lines_neighbour import PATIENCE
 
 LINES = 6
 
 
-def judge_still(bench):
+def judge_still(bench: Bench) -> Found:
     """Six lines, and standstills that are longer than the patience: no bus goes down, and no press is lost."""
     count, most = (8, 4.0) if bench.is_quick else (20, 12.0)
 
-    def stand_still(live):
+    def stand_still(live: Live) -> None:
         time.sleep(2)
         for turn in range(count):
             time.sleep(random.uniform(0.5, 1.5))
@@ -28,4 +32,4 @@ def judge_still(bench):
     return judge_lines(bench, LINES, LINES, stand_still, Unhurried, ("--patience", str(PATIENCE)))
 
 
-CHECKS = [("still: standstills of 1.5 to 12 seconds", judge_still)]
+CHECKS: Checks = [("still: standstills of 1.5 to 12 seconds", judge_still)]

@@ -1,14 +1,18 @@
 """Check of benches/lines: a line that takes no bytes, beside one that is well."""
 
+from __future__ import annotations
+
 import os
 import re
 import termios
 import threading
 import time
+from typing import List, Optional, Tuple, Type, Union
 
 from lines_back import judge_presses
+from lines_bench import Bench, Checks
 from lines_houses import House
-from lines_live import Found
+from lines_live import Found, Live
 from lines_neighbour import BACK, BIND, PATIENCE, Presser, TWO
 from lines_ports import Attended, Fifos, Pty
 
@@ -21,39 +25,39 @@ XOFF, XON = b"\x13", b"\x11"
 class Paused(Pty):
     """A pseudo terminal whose output the interface stops by a control byte."""
 
-    def plug(self):
+    def plug(self) -> None:
         super().plug()
         attributes = termios.tcgetattr(self.theirs)
         attributes[0] |= termios.IXON
         termios.tcsetattr(self.theirs, termios.TCSANOW, attributes)
 
-    def hold(self):
+    def hold(self) -> None:
         self.write(XOFF)
 
-    def free(self):
+    def free(self) -> None:
         self.write(XON)
 
 
 class Stopped(Pty):
     """A pseudo terminal whose output is stopped, as by a driver that takes nothing."""
 
-    def hold(self):
+    def hold(self) -> None:
         termios.tcflow(self.theirs, termios.TCOOFF)
 
-    def free(self):
+    def free(self) -> None:
         termios.tcflow(self.theirs, termios.TCOON)
 
 
 class Full(Fifos):
     """Two FIFOs of which nothing is read while it is held, and the one that is written has no room."""
 
-    def plug(self):
+    def plug(self) -> None:
         super().plug()
         self.goes_on = threading.Event()
         self.goes_on.set()
         self.bus.goes_on = self.goes_on
 
-    def hold(self):
+    def hold(self) -> None:
         self.goes_on.clear()
         filling = os.open(self.sink, os.O_WRONLY | os.O_NONBLOCK)
         try:
@@ -62,30 +66,38 @@ class Full(Fifos):
         except BlockingIOError:
             os.close(filling)
 
-    def free(self):
+    def free(self) -> None:
         self.goes_on.set()
 
 
 class Holding(House):
     """A bus that answers nothing while it is held."""
 
-    goes_on = None
+    goes_on: Optional[threading.Event] = None
 
-    def answer(self, request):
+    def answer(self, request: str) -> bytes:
         if self.goes_on:
             self.goes_on.wait()
         return super().answer(request)
 
 
-def judge_stuck(bench):
+Held = Union[Paused, Stopped, Full]
+WAYS: List[Tuple[str, Type[Held]]] = [
+    ("XOFF", Paused),
+    ("stopped output", Stopped),
+    ("a FIFO without room", Full),
+]
+
+
+def judge_stuck(bench: Bench) -> Found:
     """Bus 1 takes nothing, is well again, and takes nothing at the end; each press on bus 0 lights its lamp in time."""
     found = Found()
-    for name, kind in (("XOFF", Paused), ("stopped output", Stopped), ("a FIFO without room", Full)):
+    for name, kind in WAYS:
         found.extend(f"{name}: {one}" for one in judge_way(bench, name, kind))
     return found
 
 
-def judge_way(bench, name, kind):
+def judge_way(bench: Bench, name: str, kind: Type[Held]) -> Found:
     found, presser, house = Found(), Presser((0.02, 0.06)), Holding()
     port, line = Pty(bench.folder, presser), kind(bench.folder, house)
     words = ["--patience", str(PATIENCE), "--limit", "300"]
@@ -112,7 +124,7 @@ def judge_way(bench, name, kind):
     return found
 
 
-def judge_hold(bench, found, live, presser, house, line):
+def judge_hold(bench: Bench, found: Found, live: Live, presser: Presser, house: House, line: Held) -> None:
     """Bus 1 takes nothing for some seconds, which is said, and then is well again; at last no button is pressed any more."""
     found.hold(bench.eventually(lambda: len(presser.from_event) >= 10), "no presses before")
     line.hold()
@@ -132,4 +144,4 @@ def judge_hold(bench, found, live, presser, house, line):
     time.sleep(LIT)
 
 
-CHECKS = [("stuck: a line that takes no bytes", judge_stuck)]
+CHECKS: Checks = [("stuck: a line that takes no bytes", judge_stuck)]

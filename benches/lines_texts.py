@@ -68,7 +68,7 @@ END_CONFIGURATION
 """
 
 
-def town(buses):
+def town(buses: int) -> str:
     """A lamp on each bus, which is lit where the button of the bus was pressed an odd number of times."""
     programs = "".join(
         f"PROGRAM follow{bus}\nVAR_EXTERNAL presses{bus} : UINT; lamp{bus} : USINT (0..254); END_VAR\n"
@@ -85,7 +85,7 @@ def town(buses):
     )
 
 
-def busy():
+def busy() -> str:
     """Four tasks each millisecond: some 9,000 events a second."""
     tasks = "".join(f"TASK t{task} (INTERVAL := T#1ms, PRIORITY := {task});\n" for task in range(4))
     instances = "".join(f"PROGRAM x{task} WITH t{task} : p;\n" for task in range(4))
@@ -95,5 +95,5 @@ def busy():
     )
 
 
-def binding(buses):
+def binding(buses: int) -> str:
     return f"buses {buses}\n" + "".join(f"source {bus}.0 {SOURCE}\n" for bus in range(buses))

@@ -1,15 +1,18 @@
 """Checks of benches/lines that measure: many events, the time with nothing to do, from event to frame, and memory."""
 
+from __future__ import annotations
+
 import statistics
 import time
 
+from lines_bench import Bench, Checks
 from lines_houses import House, Stopwatch, Storm
 from lines_live import Found
 from lines_ports import Attended, Fifos, Pty
 from lines_texts import HALL, STORM, binding, busy
 
 
-def judge_storm(bench):
+def judge_storm(bench: Bench) -> Found:
     """As many events as the line takes: each is counted once, also where one run follows another."""
     found = Found()
     for name, kind, words in (
@@ -41,7 +44,7 @@ def judge_storm(bench):
     return found
 
 
-def judge_idle(bench):
+def judge_idle(bench: Bench) -> Found:
     """One line, and 16, on which nothing happens."""
     found = Found()
     for count, wanted in ((1, ""), (16, "under 2 %")):
@@ -66,7 +69,7 @@ def judge_idle(bench):
     return found
 
 
-def judge_latency(bench):
+def judge_latency(bench: Bench) -> Found:
     """From an event to the frame that answers it, as the interface sees it."""
     found = Found()
     for buses in (1, 16):
@@ -90,7 +93,7 @@ def judge_latency(bench):
     return found
 
 
-def judge_memory(bench):
+def judge_memory(bench: Bench) -> Found:
     """The most memory, half-way and at the end, of many runs that follow each other."""
     found = Found()
     for limit in (1_000, 100_000):
@@ -116,7 +119,7 @@ def judge_memory(bench):
     return found
 
 
-CHECKS = [
+CHECKS: Checks = [
     ("many events", judge_storm),
     ("idle", judge_idle),
     ("latency", judge_latency),
