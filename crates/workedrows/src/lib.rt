@@ -26,6 +26,6 @@ mod table;
 pub use command_line::CommandLine;
 pub use difference::{RowDifference, RowsStop};
 pub use judge::Judge;
-pub use machine::{Machine, Output, Printout, StoredFile, Terminal};
+pub use machine::{Machine, Output, Page, StoredFile, Terminal};
 pub use page::{Fit, PageStep, ShownRun, page_steps};
 pub use table::{CHANGED, ChangedLine};
