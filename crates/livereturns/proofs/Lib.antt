@@ -1,0 +1,3 @@
+mod GoingOn
+mod KeptStarts
+mod KeptTriggers
