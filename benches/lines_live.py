@@ -150,7 +150,7 @@ class Found(List[str]):
         if status is None:
             self.append(f"it goes on; on standard error {live.err()[-1:]}")
             return live.said()
-        self.same("status", status, wanted)
+        self.hold(status == wanted, f"status {status} and not {wanted}; on standard error {live.err()[-2:]}")
         said = live.said()
         self.same("ended", said.ended, why)
         self.same("other lines", said.other, [])

@@ -60,14 +60,14 @@ def judge_beside(bench: Bench, name: str, kind: Kind) -> Found:
         time.sleep(2 * LIT)
         status = live.end()
         said = found.ended(live, status, 0 if status == 0 else 3)
-        slow = [text for text in live.err() if text.startswith("bus 1 slow")]
+        slow = [text.split()[2] for text in live.err() if text.startswith(("bus 1 slow", "bus 1 up"))]
     judge_presses(found, said, presser)
     found.hold(gap < GAP, f"{gap:.1f} s between two ticks")
     worst = max(presser.from_press, default=0)
     found.hold(worst < LIT, f"a press took {worst:.1f} s")
-    found.hold(slow, "it is not said that bus 1 is slow")
-    if kind is Late:
-        found.same("how often it is said", len(slow), 1)
+    found.hold("slow:" in slow, "it is not said that bus 1 is slow")
+    again = [one for one, other in zip(slow, slow[1:]) if (one, other) == ("slow:", "slow:")]
+    found.hold(not again, f"it is said again without need: {' '.join(slow)}")
     presses = f"bus 1 {name}: bus 0, {len(presser.from_press)} presses"
     bench.row(presses, f"worst {worst:.2f} s", f"under {LIT:g} s")
     bench.row(f"bus 1 {name}: between two ticks", f"worst {gap:.2f} s", f"under {GAP:g} s")

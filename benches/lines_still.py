@@ -4,6 +4,7 @@ from __future__ import annotations
 
 import random
 import signal
+import threading
 import time
 
 from lines_bench import Bench, Checks
@@ -13,6 +14,22 @@ from lines_live import Found, Live
 from lines_neighbour import PATIENCE
 
 LINES = 6
+
+
+class Lateness(threading.Thread):
+    """How late the machine itself wakes somebody who sleeps, in seconds. Where that is some 50 ms, it has too much to do, and a
+    line that falls silent says nothing of the program."""
+
+    def __init__(self) -> None:
+        super().__init__(daemon=True)
+        self.worst, self.is_over = 0.0, False
+        self.start()
+
+    def run(self) -> None:
+        while not self.is_over:
+            began = time.monotonic()
+            time.sleep(0.01)
+            self.worst = max(self.worst, time.monotonic() - began - 0.01)
 
 
 def judge_still(bench: Bench) -> Found:
@@ -27,8 +44,11 @@ def judge_still(bench: Bench) -> Found:
             time.sleep(random.uniform(1.5, most) if turn else most)
             live.process.send_signal(signal.SIGCONT)
         time.sleep(1)
+        lateness.is_over = True
         bench.told("standstills", count)
+        bench.told("the machine itself was late by", f"{1000 * lateness.worst:.0f} ms")
 
+    lateness = Lateness()
     return judge_lines(bench, LINES, LINES, stand_still, Unhurried, ("--patience", str(PATIENCE)))
 
 

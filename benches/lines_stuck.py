@@ -126,22 +126,28 @@ def judge_way(bench: Bench, name: str, kind: Type[Held]) -> Found:
 
 def judge_hold(bench: Bench, found: Found, live: Live, presser: Presser, house: House, line: Held) -> None:
     """Bus 1 takes nothing for some seconds, which is said, and then is well again; at last no button is pressed any more."""
-    found.hold(bench.eventually(lambda: len(presser.from_event) >= 10), "no presses before")
+    found.hold(bench.eventually(lambda: len(presser.from_event) >= 5), "no presses before")
+    well = presses_in(presser, 3)
     line.hold()
     is_down = re.compile(f"bus 1 down: {re.escape(line.word())}: silent for {PATIENCE // 1000} s")
     found.hold(
         bench.eventually(lambda: any(map(is_down.fullmatch, live.err())), DOWN), "it is not said that bus 1 is silent"
     )
-    before = len(presser.from_event)
-    time.sleep(3)
-    lit = len(presser.from_event) - before
-    found.hold(lit > 20, f"{lit} presses on bus 0 in three seconds")
+    lit = presses_in(presser, 3)
+    found.hold(lit > well / 3, f"{lit} presses on bus 0 in three seconds, and {well} before")
     greetings = house.greetings
     line.free()
     found.hold(bench.eventually(lambda: house.greetings > greetings, BACK), "bus 1 does not come back")
     time.sleep(0.5)
     presser.is_on = False
     time.sleep(LIT)
+
+
+def presses_in(presser: Presser, seconds: float) -> int:
+    """How many presses light the lamp in a time. A program without proofs checks itself, and so takes its time for each."""
+    before = len(presser.from_event)
+    time.sleep(seconds)
+    return len(presser.from_event) - before
 
 
 CHECKS: Checks = [("stuck: a line that takes no bytes", judge_stuck)]
