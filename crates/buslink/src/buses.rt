@@ -59,6 +59,15 @@ pub trait Bus: Drop {
     fn resume(&mut self)
         requires { (log self.old).is_mended ≡ true }
         ensures { log self.new ≡ after_resume (log self.old) };
+
+    /// Waits until something may have come on the bus, or is to be sent, for a short while at most,
+    /// and tells whether it waited. A bus that is not told when something comes answers false at
+    /// once: it has to be asked again and again.
+    fn rest(&mut self) -> bool
+        ensures { log self.new ≡ log self.old }
+    {
+        false
+    }
 }
 
 /// A call goes to the bus in the box, and what became of that one became of the box.
@@ -83,5 +92,9 @@ impl Bus for Box<dyn Bus + Send> {
 
     fn resume(&mut self) {
         (**self).resume();
+    }
+
+    fn rest(&mut self) -> bool {
+        (**self).rest()
     }
 }

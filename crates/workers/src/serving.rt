@@ -75,7 +75,8 @@ fn serve_once<
 }
 
 /// Serves a bus until the end is told, and shows that it is. What it sent and heard wakes the scan
-/// workers. While the bus is down, its worker sleeps between the questions whether its interface
+/// workers. Where it is idle it rests as the bus says; a bus that is not told of what comes is asked
+/// again and again, with pauses between. While the bus is down, its worker sleeps between the questions whether its interface
 /// answers again, until something happens elsewhere, for a tenth of a second at most.
 pub(crate) fn serve_bus<
     'e,
@@ -112,7 +113,11 @@ pub(crate) fn serve_bus<
                 end.bell.ring(rt);
                 pause.begin_anew();
             }
-            Ok(Turn::Idle) => pause.wait(rt),
+            Ok(Turn::Idle) => {
+                if !served.line.rest() {
+                    pause.wait(rt);
+                }
+            }
             Ok(Turn::Down) => end.bell.wait_past(rt, rings),
             Err(told) => return told,
         }
