@@ -4,7 +4,7 @@ use crate::words::Word;
 
 /// The program's version, the kit that proves it, and where it is from. `packaging/parts` writes
 /// the commit, and whether the program is proved, in place of the last words, which are as long.
-pub(crate) const VERSION: &str = "0.15.0, rattle-kit-13f, built in a checkout and not packed";
+pub(crate) const VERSION: &str = "0.16.0, rattle-kit-13f, built in a checkout and not packed";
 
 /// A command: its name, what the help says of it, its usage, its words, and what its help ends
 /// with.
