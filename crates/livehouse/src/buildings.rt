@@ -72,7 +72,7 @@ pub fn open<'a, S: Site>(
     if buses > FEW_BUSES && u64::from(options.size.limit) < LEAST_EVENTS_OF_MANY {
         return Err(LiveStop::Start(StartFault::Plant(OpenFault::Limit)));
     }
-    let Ok(watch) = Arc::new(alloc, DownWatch::new(options.ends_on_down)) else {
+    let Ok(watch) = Arc::new(alloc, DownWatch::new(alloc, options.ends_on_down)) else {
         return Err(LiveStop::Start(StartFault::Memory));
     };
     let opened = open_lines(alloc, site, lines, buses, options.patience, &watch)?;
@@ -217,6 +217,7 @@ impl<B: Bus + Send, C: Clock + Send> Building<B, C> {
         };
         let workers = size.workers as usize;
         let watched = WatchedGate {
+            rt,
             watch: &*watch,
             gate,
         };

@@ -70,7 +70,7 @@ where
         let opener = opener_of(alloc, self.devices, line)?;
         let teller = teller_of(self.rt, alloc, line, self.reasons, Some(watch.clone()?))?;
         let rt = self.rt.clone()?;
-        MendedLine::start(
+        let line = MendedLine::start(
             alloc,
             rt,
             opener,
@@ -78,7 +78,9 @@ where
             number,
             u64::from(patience),
             self.starter,
-        )
+        )?;
+        watch.note_bell(self.rt, line.bell()?)?;
+        Ok(line)
     }
 
     fn settle(&self, lines: &[Self::Line]) {

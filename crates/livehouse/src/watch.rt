@@ -2,31 +2,52 @@
 
 ghost use Rattle.std.specs.Prelude.{◌≡◌, IsSome, IsTrue};
 
-use liveline::StopCondition;
+use liveline::{LineBell, StopCondition};
 use plantlive::{Gate, Happened};
+use std::alloc::{AllocError, Global};
 use std::fs;
 use std::rt::Files;
-use std::sync::Arc;
 use std::sync::atomic::{AtomicBool, Ordering};
+use std::sync::{Arc, Mutex, Wait};
 
-/// Whether a bus went down at which the building is to end, and whether its clock came to its end.
+/// Whether a bus went down at which the building is to end, and whether its clock came to its end;
+/// and the bells of its lines.
 #[derive(Drop)]
 pub struct DownWatch {
     /// Whether the building ends where a bus goes down.
     pub ends: bool,
     is_over: AtomicBool,
     has_ended: AtomicBool,
+    bells: Mutex<Vec<LineBell>>,
 }
 
 impl DownWatch {
     /// No bus went down yet.
-    pub fn new(ends: bool) -> DownWatch
+    pub fn new(alloc: Global, ends: bool) -> DownWatch
         ensures { result.ends ≡ ends }
     {
         DownWatch {
             ends,
             is_over: AtomicBool::new(false),
             has_ended: AtomicBool::new(false),
+            bells: Mutex::new(Vec::new(alloc)),
+        }
+    }
+
+    /// A line has this bell.
+    ///
+    /// # Errors
+    ///
+    /// The allocator is out of memory.
+    pub fn note_bell<R: Wait>(&self, rt: &R, bell: LineBell) -> Result<(), AllocError> {
+        self.bells.lock(rt).push(bell)?;
+        Ok(())
+    }
+
+    /// Rings the bell of each line, since there may be something to send.
+    pub fn ring<R: Wait>(&self, rt: &R) {
+        for bell in self.bells.lock(rt).iter() {
+            bell.ring(rt);
         }
     }
 
@@ -55,14 +76,16 @@ impl DownWatch {
     }
 }
 
-/// Whoever tells a watch of each bus that went down, and another gate of each event.
+/// Whoever tells a watch of each bus that went down, rings the bells of the lines for each scan that
+/// was committed, and tells another gate of each event.
 #[derive(Drop)]
-pub struct WatchedGate<'w, G: Gate> {
+pub struct WatchedGate<'w, G: Gate, R: Wait + Sync> {
+    pub rt: &'w R,
     pub watch: &'w DownWatch,
     pub gate: &'w G,
 }
 
-impl<G: Gate> Gate for WatchedGate<'_, G> {
+impl<G: Gate, R: Wait + Sync> Gate for WatchedGate<'_, G, R> {
     fn before_scan(&self, worker: usize, task: usize) {
         self.gate.before_scan(worker, task);
     }
@@ -72,8 +95,10 @@ impl<G: Gate> Gate for WatchedGate<'_, G> {
     }
 
     fn after(&self, place: u64, happened: Happened) {
-        if let Happened::WentDown { .. } = happened {
-            self.watch.note_down();
+        match happened {
+            Happened::WentDown { .. } => self.watch.note_down(),
+            Happened::Committed { .. } => self.watch.ring(self.rt),
+            _ => {}
         }
         self.gate.after(place, happened);
     }

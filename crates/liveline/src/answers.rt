@@ -3,7 +3,7 @@
 ghost use Rattle.std.specs.Prelude.{◌≡◌, ◌↔◌, ◌++◌, ℕ, List, Option, Some, IsTrue, MatchOption};
 ghost use Rattle.buslink.specs.declared.marks.Reply.{Reply as ReplyTo};
 ghost use Rattle.buslink.specs.declared.marks.Reply.TheVariants as said;
-ghost use Rattle.liveline.specs.Lines.{IsMessage, IsReply, fault_line, greeting};
+ghost use Rattle.liveline.specs.Lines.{IsMessage, IsReply, fault_line, greeting, none_line};
 
 use buslink::Reply;
 use daliframe::Frame24;
@@ -66,9 +66,16 @@ pub(crate) fn message_in(line: &[u8]) -> Option<Option<Frame24>>
     Some(Some(frame))
 }
 
+/// Whether a line says that nothing has come, or nothing more.
+pub(crate) fn is_none(line: &[u8]) -> bool
+    ensures { IsTrue result ↔ (line.now ≡ none_line) }
+{
+    is_same(line, b"none")
+}
+
 /// The frame that a line says came, where it says that.
 #[tactic(auto, using(crate::proofs::Answering::not_after, crate::proofs::Answering::no_number))]
-fn frame_in(line: &[u8]) -> Option<Frame24>
+pub(crate) fn frame_in(line: &[u8]) -> Option<Frame24>
     ensures { MatchOption result ((frame : ℕ) → ¬ IsMessage (Some frame) line.now)
         (λ frame. IsMessage (Some frame) line.now) }
 {

@@ -1,16 +1,16 @@
 //! Buses behind a line.
 
-ghost use Rattle.std.specs.Prelude.{◌≡◌, ◌<◌, ◌≤◌, ◌++◌, ◌&&◌, IfOk, IsNone, IsOk, IsErr, OnOk, true};
+ghost use Rattle.std.specs.Prelude.{◌≡◌, ◌<◌, ◌≤◌, ◌++◌, ◌&&◌, [], IfOk, IsOk, IsErr, OnOk, Ok, None, true};
 ghost use Rattle.std.specs.Prelude.{false, is_ok, IfSome};
-ghost use Rattle.buslink.specs.BusLog.{TellsAll, after_hear, after_mend, after_resume, after_send};
+ghost use Rattle.buslink.specs.BusLog.{HasHeardAll, TellsAll, after_hear, after_mend, after_resume, after_send};
 ghost use Rattle.buslink.specs.BusLog.{with_sent, with_spare};
-ghost use Rattle.liveline.specs.Greetings.{ends};
-ghost use Rattle.liveline.specs.Lines.{IsMessage, IsReply, hear_line, line_end, send_line};
-ghost use Rattle.liveline.specs.Exchanges.{IsAtMost, IsExchange, IsSilent, fresh_log, silent_line};
-ghost use Rattle.liveline.specs.Exchanges.{with_line, without_line};
+ghost use Rattle.liveline.specs.Lines.{IsReply, hear_line, line_end, send_line};
+ghost use Rattle.liveline.specs.Exchanges.{IsAnswered, IsAtMost, IsExchange, IsHeard, IsSilent};
+ghost use Rattle.liveline.specs.Exchanges.{absent_line, with_line, without_line};
 
-use crate::answers::{message_in, reply_in};
-use crate::ends::{ask_to_hear, ask_to_send, read_line};
+use crate::answers::reply_in;
+use crate::ends::{ask_to_hear, ask_to_send};
+use crate::events::{KeptFrames, first_said, read_past, take_first};
 use crate::greetings::Greeted;
 use crate::troubles::Trouble;
 use buslink::{Bus, Fault, Mark, Reply, Sent};
@@ -27,6 +27,8 @@ use std::marker::Model;
 pub struct LineBus<R: Read, W: Write> {
     line: Option<Greeted<R, W>>,
     is_in_step: bool,
+    /// The frames that came before an answer, and were not heard yet, first to last.
+    kept: KeptFrames,
     /// Why the last request on the line came to nothing.
     trouble: Trouble,
     number: BusNumber,
@@ -42,7 +44,7 @@ pub struct LineBus<R: Read, W: Write> {
 
 impl<R: Read, W: Write> Model for LineBus<R, W> {
     ghost use Rattle.std.specs.Prelude.{None, reverse};
-    ghost use Rattle.liveline.specs.Exchanges.{LineState, unread_on, written_on};
+    ghost use Rattle.liveline.specs.Exchanges.{LineState, announces_on, unread_on, written_on};
 
     ghost Value = { LineState };
 
@@ -62,17 +64,20 @@ impl<R: Read, W: Write> Model for LineBus<R, W> {
       unread = unread_on b.line;
       written = written_on b.line;
       is_in_step = b.is_in_step;
+      announces = announces_on b.line;
+      kept = b.kept.items;
     } };
 }
 
 impl<R: Read + Drop, W: Write + Drop> LineBus<R, W> {
     /// A bus whose line is not there yet. Each call fails, and says and reads nothing.
     pub fn absent(number: BusNumber) -> LineBus<R, W>
-        ensures { result ≡ without_line (silent_line number None None) }
+        ensures { result ≡ absent_line number }
     {
         LineBus {
             line: None,
             is_in_step: false,
+            kept: KeptFrames::new(),
             trouble: Trouble::Absent,
             number,
             sent: Trace::new(),
@@ -88,7 +93,7 @@ impl<R: Read + Drop, W: Write + Drop> LineBus<R, W> {
 
     /// A bus behind a line whose interface greeted. It has sent and heard nothing.
     pub fn over(greeted: Greeted<R, W>, number: BusNumber) -> LineBus<R, W>
-        ensures { result ≡ silent_line number greeted.unread greeted.written }
+        ensures { result ≡ with_line greeted (absent_line number) }
     {
         let mut bus = LineBus::absent(number);
         bus.begin(greeted);
@@ -132,6 +137,33 @@ impl<R: Read + Drop, W: Write + Drop> LineBus<R, W> {
         ensures value { result ≡ self.now.is_in_step }
     {
         self.is_in_step
+    }
+
+    /// Whether the interface says unasked what comes.
+    pub fn announces(&self) -> bool
+        ensures value { result ≡ self.now.announces }
+    {
+        match &self.line {
+            Some(line) => line.announces,
+            None => false,
+        }
+    }
+
+    /// Whether a frame that came is to be heard still.
+    pub fn has_kept(&self) -> bool
+        ensures { result ≡ false → self.now.kept ≡ [] }
+    {
+        !self.kept.is_empty()
+    }
+
+    /// Notes a call that heard nothing, of an interface that says unasked what comes, and said
+    /// nothing. Nothing was said to it.
+    pub fn hear_nothing(&mut self)
+        ensures same { self.new ≡ record self.old { log = after_hear (Ok None) self.old.log } }
+        ensures all { HasHeardAll self.old.log }
+    {
+        self.hears = self.hears.saturating_add(1);
+        self.heard_none = true;
     }
 
     /// Why the last request on the line came to nothing, where one did.
@@ -198,7 +230,7 @@ impl<R: Read + Drop, W: Write + Drop> LineBus<R, W> {
             return Err(Trouble::Absent);
         };
         ask_to_send(&mut line.to, frame, priority)?;
-        let answer = read_line(&mut line.from)?;
+        let answer = read_past(&mut line.from, line.announces, &mut self.kept)?;
         let Some(reply) = reply_in(answer.as_slice()) else {
             return Err(Trouble::of(answer));
         };
@@ -206,12 +238,11 @@ impl<R: Read + Drop, W: Write + Drop> LineBus<R, W> {
         Ok(reply)
     }
 
-    /// Asks for what has come, and reads it.
+    /// The frame that was kept first; where none is, what the interface answers.
     #[tactic(auto, using(crate::proofs::Writing::not_begun))]
     fn try_to_hear(&mut self) -> Result<Option<Frame24>, Trouble>
         ensures log { self.new.log ≡ self.old.log }
-        ensures asked { IfOk result (λ message. IsExchange hear_line
-            (λ line. IsMessage message line) self.old self.new) }
+        ensures asked { IfOk result (λ message. IsHeard message self.old self.new) }
         ensures at_most { IsAtMost (hear_line ++ line_end) self.old.written self.new.written }
         ensures step { self.new.is_in_step ≡ is_ok result }
         ensures silent { self.old.is_in_step ≡ false → IsErr result × (self.new ≡ self.old) }
@@ -219,13 +250,29 @@ impl<R: Read + Drop, W: Write + Drop> LineBus<R, W> {
         if !self.is_in_step {
             return Err(Trouble::Absent);
         }
+        if let Some(frame) = take_first(&mut self.kept) {
+            return Ok(Some(frame));
+        }
+        self.ask_what_came()
+    }
+
+    /// Asks for what has come, and reads it.
+    #[tactic(auto, using(crate::proofs::Writing::not_begun))]
+    fn ask_what_came(&mut self) -> Result<Option<Frame24>, Trouble>
+        requires { self.old.kept ≡ [] }
+        ensures log { self.new.log ≡ self.old.log }
+        ensures asked { IfOk result
+            (λ message. IsAnswered self.old.announces message self.old self.new) }
+        ensures at_most { IsAtMost (hear_line ++ line_end) self.old.written self.new.written }
+        ensures step { self.new.is_in_step ≡ is_ok result }
+    {
         self.is_in_step = false;
         let Some(line) = &mut self.line else {
             return Err(Trouble::Absent);
         };
         ask_to_hear(&mut line.to)?;
-        let answer = read_line(&mut line.from)?;
-        let Some(message) = message_in(answer.as_slice()) else {
+        let answer = read_past(&mut line.from, line.announces, &mut self.kept)?;
+        let Some(message) = first_said(line.announces, answer.as_slice(), &mut self.kept) else {
             return Err(Trouble::of(answer));
         };
         self.is_in_step = true;
@@ -292,8 +339,7 @@ impl<R: Read + Drop, W: Write + Drop> Bus for LineBus<R, W> {
         requires { 0 < self.old.log.spare }
         ensures logged { self.new.log ≡ after_hear result self.old.log }
         ensures all { TellsAll result self.old.log }
-        ensures asked { IfOk result (λ message. IsExchange hear_line
-            (λ line. IsMessage message line) self.old self.new) }
+        ensures asked { IfOk result (λ message. IsHeard message self.old self.new) }
         ensures at_most { IsAtMost (hear_line ++ line_end) self.old.written self.new.written }
         ensures step { self.new.is_in_step ≡ is_ok result }
         ensures silent { self.old.is_in_step ≡ false → IsSilent result self.old self.new }

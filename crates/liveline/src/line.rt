@@ -1,11 +1,12 @@
 //! The line, as whoever has its bus sees it.
 
 ghost use Rattle.std.specs.Prelude.{◌≡◌, ◌<◌, ◌≤◌, ◌+◌, ◌⊎◌, IfOk, IfSome, IsErr, IsOk, IsSome};
-ghost use Rattle.std.specs.Prelude.{None, OnOk, Some, false, true};
+ghost use Rattle.std.specs.Prelude.{IsTrue, None, OnOk, Some, false, true};
 ghost use Rattle.buslink.specs.BusLog.{TellsAll, after_hear, after_mend, after_send, with_spare};
 ghost use Rattle.liveline.specs.Exchanges.{fresh_log};
 ghost use Rattle.liveline.specs.Mended.{IsCounted, IsLastCounted, most_kept};
 
+use crate::bells::{LineBell, Resting, new_bell};
 use crate::budget::Budget;
 use crate::buses::LineBus;
 use crate::reader::TimedReader;
@@ -23,7 +24,7 @@ use std::alloc::{AllocError, Global};
 use std::io::Write;
 use std::marker::Model;
 use std::sync::Wait;
-use std::time::{Clock, Instant};
+use std::time::{Clock, Duration, Instant};
 
 /// The most frames that are heard once the building's end was asked for: as many as an interface
 /// keeps.
@@ -71,6 +72,11 @@ pub struct MendedLine<R: Wait + Clock + Drop, W: Write + Drop, T: Teller, O> {
     /// Whether a call failed since the bus was taken up.
     is_down: bool,
     told: Told,
+    /// When the interface was last asked for what has come, and answered.
+    asked: Option<Instant>,
+    /// What rings where something comes, or may be to be sent.
+    bell: LineBell,
+    resting: Resting,
     /// How many frames were heard since the building's end was asked for.
     heard_last: u32,
     teller: T,
@@ -130,6 +136,7 @@ impl<R: Wait + Clock + Drop, W: Write + Drop, T: Teller, O: Drop> MendedLine<R, 
     {
         let (jobs, theirs) = bounded::<Job<R, W>, Global>(alloc, 1)?;
         let (to, outcomes) = bounded::<Outcome<R, W>, Global>(alloc, 1)?;
+        let (bell, resting) = new_bell(alloc)?;
         let noted = Memo::of(&opener);
         let tries = Tries {
             rt: rt.clone()?,
@@ -139,6 +146,7 @@ impl<R: Wait + Clock + Drop, W: Write + Drop, T: Teller, O: Drop> MendedLine<R, 
             ends: None,
             began: None,
             number: 0,
+            bell: bell.another()?,
         };
         let order = Order::new(&rt, tries, theirs, to)?;
         starter.order(&rt, order)?;
@@ -152,12 +160,24 @@ impl<R: Wait + Clock + Drop, W: Write + Drop, T: Teller, O: Drop> MendedLine<R, 
             budget: Budget::new(patience),
             is_down: false,
             told: Told::nothing(),
+            asked: None,
+            bell,
+            resting,
             heard_last: 0,
             teller,
             opener: noted,
         };
         line.ask(None);
         Ok(line)
+    }
+
+    /// What wakes the worker of the bus, for whoever has something to send.
+    ///
+    /// # Errors
+    ///
+    /// The allocator is out of memory.
+    pub fn bell(&self) -> Result<LineBell, AllocError> {
+        self.bell.another()
     }
 
     /// Whether the first try is over.
@@ -284,10 +304,42 @@ impl<R: Wait + Clock + Drop, W: Write + Drop, T: Teller, O: Drop> MendedLine<R, 
             return;
         }
         if let Some(from) = self.bus.reader() {
-            from.set_patience(left);
+            from.set_time(left);
         }
         if let Some(to) = self.bus.writer() {
             to.set_patience(left);
+        }
+    }
+
+    /// Whether the interface says unasked what comes, has said nothing, and answered not long ago
+    /// that there is nothing more: it need not be asked. At the building's end it is asked.
+    fn is_quiet(&self) -> bool
+        ensures { IsTrue result → self.now.is_in_step ≡ true }
+    {
+        self.bus.is_in_step()
+            && self.bus.announces()
+            && !self.bus.has_kept()
+            && !self.has_come()
+            && self.was_asked()
+            && !self.teller.is_at_end()
+    }
+
+    /// Whether something came on the line that was not read.
+    fn has_come(&self) -> bool {
+        match self.bus.reader() {
+            Some(from) => from.has_come(),
+            None => true,
+        }
+    }
+
+    /// Whether the interface was asked for what has come within its patience.
+    fn was_asked(&self) -> bool {
+        match self.asked {
+            Some(asked) => match asked.elapsed(&self.rt) {
+                Ok(since) => since < Duration::from_millis(self.budget.patience),
+                Err(_) => false,
+            },
+            None => false,
         }
     }
 
@@ -300,6 +352,14 @@ impl<R: Wait + Clock + Drop, W: Write + Drop, T: Teller, O: Drop> MendedLine<R, 
                 self.teller.tell_slow();
             }
         }
+    }
+
+    /// Notes that the interface answered what has come.
+    fn note_answer(&mut self)
+        ensures { self.new ≡ self.old }
+    {
+        self.asked = Instant::now(&self.rt).ok();
+        self.note_slow();
     }
 
     /// Notes that a call failed, and tells that the line is down.
@@ -379,14 +439,18 @@ impl<R: Wait + Clock + Drop, W: Write + Drop, T: Teller, O: Drop> Bus for Mended
         self.end_where_heard();
         self.budget.begin_anew();
         self.spend();
+        if self.is_quiet() {
+            self.bus.hear_nothing();
+            return Ok(None);
+        }
         match self.bus.hear() {
             Ok(Some(frame)) => {
-                self.note_slow();
+                self.note_answer();
                 self.count_last();
                 Ok(Some(frame))
             }
             Ok(None) => {
-                self.note_slow();
+                self.note_answer();
                 Ok(None)
             }
             Err(Fault) => {
@@ -414,5 +478,16 @@ impl<R: Wait + Clock + Drop, W: Write + Drop, T: Teller, O: Drop> Bus for Mended
             self.budget.forgive();
             self.teller.tell_up();
         }
+    }
+
+    /// Where the interface says unasked what comes, the bus waits for that, or for the bell.
+    fn rest(&mut self) -> bool
+        ensures { self.new ≡ self.old }
+    {
+        if !self.bus.is_in_step() || !self.bus.announces() {
+            return false;
+        }
+        self.resting.rest(&self.rt);
+        true
     }
 }

@@ -1,5 +1,6 @@
 //! The reader and its thread.
 
+use crate::bells::LineBell;
 use crate::waits::Deadline;
 use arrayvec::ArrayVec;
 use crossbeam_channel::{Receiver, RecvTimeoutError, Sender, bounded};
@@ -29,9 +30,14 @@ pub(crate) type Piece = ArrayVec<u8, MOST_BYTES>;
 #[derive(Drop)]
 pub struct TimedReader<R: Wait + Clock + Drop> {
     rt: R,
-    /// The milliseconds that a line may take, from the first read of it to its end.
+    /// The milliseconds that a line may take, from the first read of it to its end, or that all
+    /// lines may take together.
     patience: AtomicU64,
-    /// When the line that is read is to have ended, where it has begun.
+    /// Whether all lines have one time.
+    is_together: AtomicBool,
+    /// Whether the time begins anew with the next read.
+    is_anew: AtomicBool,
+    /// When what is read is to have ended, where it has begun.
     deadline: Option<Deadline>,
     pieces: Receiver<Piece>,
     /// What came and was not taken yet, first to last.
@@ -80,14 +86,20 @@ fn read_piece<F: Read, R: Clock>(rt: &R, from: &mut F) -> Came {
     }
 }
 
-/// Reads until nothing more comes, or nobody takes it.
-fn read_all<F: Read, R: Wait + Clock>(rt: &R, from: &mut F, to: &Sender<Piece>) {
+/// Reads until nothing more comes, or nobody takes it. The bell rings for each piece.
+fn read_all<F: Read, R: Wait + Clock>(
+    rt: &R,
+    from: &mut F,
+    to: &Sender<Piece>,
+    bell: &LineBell,
+) {
     for _ in rt.forever() {
         match read_piece(rt, from) {
             Came::Piece(piece) => {
                 if to.send(rt, piece).is_err() {
                     return;
                 }
+                bell.ring(rt);
             }
             Came::Nothing => {}
             Came::End => return,
@@ -97,7 +109,7 @@ fn read_all<F: Read, R: Wait + Clock>(rt: &R, from: &mut F, to: &Sender<Piece>) 
 
 impl<R: Wait + Clock + Drop> TimedReader<R> {
     /// Starts the thread that reads this. A line of it takes the given number of milliseconds at
-    /// most.
+    /// most. The bell rings where something came, and where nothing more comes.
     ///
     /// # Errors
     ///
@@ -107,6 +119,7 @@ impl<R: Wait + Clock + Drop> TimedReader<R> {
         rt: R,
         from: F,
         patience: u64,
+        bell: LineBell,
     ) -> io::Result<TimedReader<R>>
     where
         R: Threads + Clone + Send + 'static,
@@ -117,9 +130,10 @@ impl<R: Wait + Clock + Drop> TimedReader<R> {
         let theirs = rt.clone()?;
         let mut from = from;
         let started = thread::spawn(&rt, move || {
-            read_all(&theirs, &mut from, &to);
+            read_all(&theirs, &mut from, &to, &bell);
             drop(from);
             ends.store(true, Ordering::SeqCst);
+            bell.ring(&theirs);
         });
         if started.is_err() {
             return Err(io::Error::from(ErrorKind::OutOfMemory));
@@ -127,6 +141,8 @@ impl<R: Wait + Clock + Drop> TimedReader<R> {
         Ok(TimedReader {
             rt,
             patience: AtomicU64::new(patience),
+            is_together: AtomicBool::new(false),
+            is_anew: AtomicBool::new(false),
             deadline: None,
             pieces,
             came: Piece::new(),
@@ -139,17 +155,37 @@ impl<R: Wait + Clock + Drop> TimedReader<R> {
         self.has_ended.load(Ordering::SeqCst)
     }
 
-    /// From the next line on, a line takes the given number of milliseconds at most.
-    pub fn set_patience(&self, patience: u64) {
-        self.patience.store(patience, Ordering::SeqCst);
+    /// Whether something came that was not read yet, or nothing more can come.
+    pub fn has_come(&self) -> bool {
+        !self.came.is_empty() || !self.pieces.is_empty() || self.has_ended()
     }
 
-    /// When the line that is read is to have ended. With its first read its time begins.
+    /// From the next line on, a line takes the given number of milliseconds at most.
+    pub fn set_patience(&self, patience: u64) {
+        self.begin_time(patience, false);
+    }
+
+    /// From the next read on, all that is read takes the given number of milliseconds at most.
+    pub fn set_time(&self, millis: u64) {
+        self.begin_time(millis, true);
+    }
+
+    /// From the next read on, a line, or all lines together, takes this number of milliseconds.
+    fn begin_time(&self, millis: u64, is_together: bool) {
+        self.patience.store(millis, Ordering::SeqCst);
+        self.is_together.store(is_together, Ordering::SeqCst);
+        self.is_anew.store(true, Ordering::SeqCst);
+    }
+
+    /// When what is read is to have ended. With its first read its time begins.
     ///
     /// # Errors
     ///
     /// The clock cannot be read.
     fn line_deadline(&mut self) -> io::Result<Deadline> {
+        if self.is_anew.swap(false, Ordering::SeqCst) {
+            self.deadline = None;
+        }
         if let Some(deadline) = self.deadline {
             return Ok(deadline);
         }
@@ -187,7 +223,7 @@ impl<R: Wait + Clock + Drop> Read for TimedReader<R> {
         }
         match self.next_byte() {
             Ok(Some(byte)) => {
-                if byte == b'\n' {
+                if byte == b'\n' && !self.is_together.load(Ordering::SeqCst) {
                     self.deadline = None;
                 }
                 buf[0] = byte;

@@ -19,6 +19,8 @@ pub enum Reason {
     RegularFile,
     /// Its interface does not answer the greeting.
     Ungreeted,
+    /// The greeting came back, and nothing else: the device is not set for the line.
+    Echoed,
     /// The answers of one transaction took longer than this number of milliseconds.
     Silent(u64),
     /// The building's end was asked for, and it still has events, more than it is to keep.
@@ -43,6 +45,7 @@ pub(crate) enum ReasonKind {
     Unopened,
     RegularFile,
     Ungreeted,
+    Echoed,
     Silent,
     SpeaksOn,
     Closed,
@@ -58,6 +61,7 @@ impl Reason {
             Reason::Unopened(kind) => unopened_kind(*kind),
             Reason::RegularFile => ReasonKind::RegularFile,
             Reason::Ungreeted => ReasonKind::Ungreeted,
+            Reason::Echoed => ReasonKind::Echoed,
             Reason::Silent(_) => ReasonKind::Silent,
             Reason::SpeaksOn => ReasonKind::SpeaksOn,
             Reason::Closed => ReasonKind::Closed,
@@ -83,6 +87,7 @@ impl Reason {
             Trouble::Absent => Reason::NotYet,
             Trouble::Silent => Reason::Silent(patience),
             Trouble::Closed => Reason::Closed,
+            Trouble::Echoed => Reason::Echoed,
             Trouble::Fault => Reason::Fault,
             Trouble::Answered(line) => Reason::Answered(copy_of(line)),
         }
@@ -112,6 +117,7 @@ impl fmt::Display for Reason {
             Reason::NotYet => f.write_str("not open yet"),
             Reason::RegularFile => f.write_str("is a regular file"),
             Reason::Ungreeted => f.write_str("answers no greeting"),
+            Reason::Echoed => f.write_str("gives back what is said, set it by stty raw -echo"),
             Reason::SpeaksOn => f.write_str("still speaks at the end"),
             Reason::Closed => f.write_str("closed"),
             Reason::Fault => f.write_str("fault"),

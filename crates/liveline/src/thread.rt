@@ -1,5 +1,6 @@
 //! The thread of a line: it opens the line, has it read, and greets it.
 
+use crate::bells::LineBell;
 use crate::greetings::{Greeted, Ungreeted};
 use crate::reader::TimedReader;
 use crate::reasons::Reason;
@@ -59,6 +60,8 @@ pub(crate) struct Tries<R: Wait + Clock + Drop, W: Drop, O> {
     pub(crate) began: Option<Instant>,
     /// The number of the last greeting.
     pub(crate) number: u64,
+    /// What rings where something comes on the line.
+    pub(crate) bell: LineBell,
 }
 
 impl<
@@ -150,7 +153,8 @@ where
     /// where the other one cannot be made.
     fn start_threads(&self, from: O::From, to: W) -> std::io::Result<Ends<R, W>> {
         let writer = TimedWriter::over(self.alloc, self.rt.clone()?, to, self.patience)?;
-        let reader = TimedReader::over(self.alloc, self.rt.clone()?, from, self.patience)?;
+        let bell = self.bell.another()?;
+        let reader = TimedReader::over(self.alloc, self.rt.clone()?, from, self.patience, bell)?;
         Ok((reader, writer))
     }
 
@@ -159,6 +163,7 @@ where
         match why {
             _ if is_stuck => Reason::Silent(self.patience),
             Trouble::Closed => Reason::Closed,
+            Trouble::Echoed => Reason::Echoed,
             _ => Reason::Ungreeted,
         }
     }

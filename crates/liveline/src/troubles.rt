@@ -18,6 +18,8 @@ pub enum Trouble {
     Silent,
     /// Nothing can be written, or nothing more comes: the other end is gone.
     Closed,
+    /// What was said came back, and nothing else in time.
+    Echoed,
     /// The interface answered `fault`.
     Fault,
     /// It answered this line, which is no answer to what was asked.

@@ -7,7 +7,7 @@ use Rattle.buslink.specs.BusLog.{BusLog, after_hear, after_send, mark_of_send}
 use Rattle.buslink.specs.ClockLog.{ClockLog, after_now}
 use Rattle.buslink.specs.declared.faults.Fault.{Fault}
 use Rattle.liveline.specs.Exchanges.{LineState, with_line}
-use Rattle.liveline.specs.Greetings.{Ends}
+use Rattle.liveline.specs.Greetings.{GreetedLine}
 
 -- what holds of each value of a result
 pub if_ok : {X E : Type 0} (P Q : X → Type 0) (given : Result X E) → IfOk given P → ((x : X) → P x → Q x)
@@ -33,6 +33,6 @@ given_is (Some moment) old new is = ap (λ (l : ClockLog). l.given) is
 given_is None old new is = tt
 
 -- a line that begins does not mend its bus
-pub begun : (old new : LineState) (greeted : Ends) → new ≡ with_line greeted old → old.log.is_mended ≡ false
+pub begun : (old new : LineState) (greeted : GreetedLine) → new ≡ with_line greeted old → old.log.is_mended ≡ false
     → (new.is_in_step && new.log.is_mended) ≡ false
 begun old new greeted is mended = rw (is, mended) refl

@@ -1,6 +1,6 @@
 //! Buses and clocks of any kind, and buses behind a line.
 
-ghost use Rattle.std.specs.Prelude.{◌≡◌, ◌<◌, ◌≤◌, ◌++◌, [], ◌∷◌, All, IfOk, IfSome, None, Some};
+ghost use Rattle.std.specs.Prelude.{◌≡◌, ◌<◌, ◌≤◌, ◌++◌, [], ◌∷◌, All, IfOk, IfSome, None, OnOk, Some};
 ghost use Rattle.std.specs.Prelude.{codes, false, length, true};
 ghost use Rattle.std.specs.Io.KnownBytes.{Appends};
 ghost use Rattle.buslink.specs.BusLog.{mark_of_send};
@@ -152,6 +152,7 @@ pub fn nonsense_is_no_answer<R: Read + Drop, W: Write + Drop>(
     requires spare { 0 < bus.old.log.spare }
     requires text { bus.old.unread ≡ Some text.now }
     requires short { length text.now < 5 }
+    requires kept { bus.old.kept ≡ [] }
     ensures { result ≡ false }
 {
     bus.hear().is_ok()
@@ -173,25 +174,77 @@ pub fn short_text_is_no_greeting<R: Read + Drop, W: Write + Drop>(
 }
 
 /// `version_1_is_not_asked_for`: an interface that knows no numbered greeting was not greeted in
-/// version 1. A text of 16 bytes can say `fault` and then that greeting, and has no room for the
-/// other.
+/// version 1. A text of 22 bytes can say `fault` twice and then that greeting, and has no room for
+/// one `fault` and the answer of version 2.
 pub fn refused_greeting_is_said_plainly<R: Read + Drop, W: Write + Drop>(
     from: R,
     to: W,
     text: &[u8],
 ) -> Result<Greeted<R, W>, Ungreeted<R, W>>
     requires text { R.remaining from ≡ Some text.now }
-    requires short { length text.now < 17 }
-    ensures { IfOk result (λ greeted. Appends (W.contents to) greeted.written
-        ((numbered_greeting 7 ++ line_end) ++ (greeting ++ line_end))) }
+    requires short { length text.now < 23 }
+    ensures { IfOk result (λ greeted. greeted.announces ≡ false
+        → Appends (W.contents to) greeted.written ((numbered_greeting 3 7 ++ line_end)
+          ++ ((numbered_greeting 2 7 ++ line_end) ++ (greeting ++ line_end)))) }
 {
     Greeted::greet(from, to, 7)
 }
 
 /// `a_late_answer_is_the_greeting`: the answer to the greeting before was the answer to this one.
 pub fn late_answer_is_no_greeting<R: Read + Drop, W: Write + Drop>(from: R, to: W) -> bool
-    requires { R.remaining from ≡ Some (codes "gushewa 2 hears 9\n") }
+    requires { R.remaining from ≡ Some (codes "gushewa 3 hears 9\n") }
     ensures { result ≡ false }
 {
     Greeted::greet(from, to, 10).is_ok()
+}
+
+/// `version_3_is_not_asked_for`, `every_interface_announces`: an interface that was greeted in
+/// version 3 did not announce. A text of 21 bytes can answer that greeting, and has no room for a
+/// refusal and another one.
+pub fn short_greeting_is_of_version_3<R: Read + Drop, W: Write + Drop>(
+    from: R,
+    to: W,
+    text: &[u8],
+) -> Result<Greeted<R, W>, Ungreeted<R, W>>
+    requires text { R.remaining from ≡ Some text.now }
+    requires short { length text.now < 22 }
+    ensures { IfOk result (λ greeted. greeted.announces ≡ true) }
+{
+    Greeted::greet(from, to, 7)
+}
+
+/// `what_was_kept_is_passed_over`, `the_last_that_was_kept_is_heard`: a frame that had come before an
+/// answer was not the next that was heard.
+pub fn kept_frame_is_heard_first<R: Read + Drop, W: Write + Drop>(
+    bus: &mut LineBus<R, W>,
+) -> Result<Option<Frame24>, Fault>
+    requires spare { 0 < bus.old.log.spare }
+    requires kept { bus.old.kept ≡ 7 ∷ 9 ∷ [] }
+    ensures { IfOk result (λ heard. heard ≡ Some 7) }
+{
+    bus.hear()
+}
+
+/// `a_frame_stays_kept`: a frame that was heard could be heard again.
+pub fn kept_frame_is_heard_once<R: Read + Drop, W: Write + Drop>(
+    bus: &mut LineBus<R, W>,
+) -> Result<Option<Frame24>, Fault>
+    requires spare { 0 < bus.old.log.spare }
+    requires kept { bus.old.kept ≡ 7 ∷ 9 ∷ [] }
+    ensures { OnOk result (bus.new.kept ≡ 9 ∷ []) }
+{
+    bus.hear()
+}
+
+/// `any_interface_may_speak_unasked`: an interface that does not announce said an event before its
+/// answer, and that was kept.
+pub fn nothing_is_kept_where_nothing_is_announced<R: Read + Drop, W: Write + Drop>(
+    bus: &mut LineBus<R, W>,
+    frame: Frame,
+) -> Result<Reply, Fault>
+    requires spare { 0 < bus.old.log.spare }
+    requires silent { bus.old.announces ≡ false }
+    ensures { OnOk result (bus.new.kept ≡ bus.old.kept) }
+{
+    bus.send(frame, 3)
 }

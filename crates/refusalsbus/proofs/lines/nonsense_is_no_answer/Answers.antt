@@ -6,4 +6,4 @@ pub returns : goal.returns
 returns g c =
     c.is_ok.ensures.value
     ∙ no_message c.hear.result c.args.bus.now c.hear.new.self c.args.text.now c.requires.text c.requires.short
-    c.hear.ensures.asked
+    c.requires.kept c.hear.ensures.asked
