@@ -4,6 +4,7 @@
 use buslink::{Bus, Fault, Reply};
 use daliframe::{BusNumber, Frame, Frame16, Frame24};
 use liveline::{Greeted, LineBus};
+use std::alloc::Global;
 use std::io;
 use std::io::{ErrorKind, Read};
 use std::test::Fail;
@@ -12,17 +13,43 @@ use std::test::Fail;
 /// hears, a letter each; and how many bytes of `ASKED` were said to it.
 type Row = (&'static [u8], &'static [u8], usize);
 
-/// The greeting and the three requests.
-const ASKED: &[u8] = b"gushewa 2 5\nsend 2 0A80\nsend 5 0BA0\nhear\n";
+/// The greeting, and how it is answered, in a version.
+type Greeting = (&'static [u8], &'static [u8]);
+
+/// Version 3, which the interface knows, and version 2 where it does not know version 3.
+const NEWEST: Greeting = (b"gushewa 3 5\n", b"none\ngushewa 3 5\ngushewa 3 hears 5\n");
+
+const BEFORE: Greeting = (
+    b"gushewa 3 5\ngushewa 2 5\n",
+    b"none\nfault\ngushewa 2 5\ngushewa 2 hears 5\n",
+);
+
+/// The three requests.
+const ASKED: &[u8] = b"send 2 0A80\nsend 5 0BA0\nhear\n";
 
 /// Where the first, the second and the third request end.
-const ONE: usize = 24;
+const ONE: usize = 12;
 
-const TWO: usize = 36;
+const TWO: usize = 24;
 
-const ALL: usize = 41;
+const ALL: usize = 29;
 
-const ROWS: [Row; 19] = [
+/// An interface that announces: events come before answers, and `hear` is answered by `none`.
+const ANNOUNCING: [Row; 10] = [
+    (b"quiet\nanswer 128\nnone\n", b"qan", ALL),
+    (b"event 0A8809\nquiet\nanswer 0\n", b"qae", TWO),
+    (b"quiet\nevent 0A8809\nevent 0A880A\nanswer 7\n", b"qae", TWO),
+    (b"quiet\nlost\nevent 0A8809\nnone\n", b"qle", ALL),
+    (b"quiet\nquiet\nevent 0A8809\nevent 0A880A\nnone\n", b"qqe", ALL),
+    (b"quiet\nquiet\nevent 0A8809\n", b"qqf", ALL),
+    (b"quiet\nquiet\nquiet\n", b"qqf", ALL),
+    (b"event 0A880\nquiet\nnone\n", b"fff", ONE),
+    (b"event 0A8809\nfault\nnone\n", b"fff", ONE),
+    (b"none\nquiet\nnone\n", b"fff", ONE),
+];
+
+const ROWS: [Row; 20] = [
+    (b"event 0A8809\nquiet\nnone\n", b"fff", ONE),
     (b"quiet\nanswer 128\nnone\n", b"qan", ALL),
     (b"lost\ndamaged\nevent 0A8809\n", b"lde", ALL),
     (b"quiet\nanswer 0\nevent 0a8809\n", b"qae", ALL),
@@ -50,7 +77,9 @@ const ROWS: [Row; 19] = [
 
 /// What an interface may say in place of the answer to the greeting of number 5: among it an answer
 /// to an earlier greeting, an echo, and the greeting of version 1 that nobody asked for.
-const NO_ANSWERS: [&[u8]; 8] = [
+const NO_ANSWERS: [&[u8]; 10] = [
+    b"gushewa 3 hears 4\n",
+    b"gushewa 2 hears 5\n",
     b"gushewa 2 hears 4\n",
     b"gushewa 2 5\n",
     b"gushewa 2 hears 5",
@@ -63,18 +92,19 @@ const NO_ANSWERS: [&[u8]; 8] = [
 
 /// What an interface of version 1 says up to where it is silent and from there on, and whether it
 /// has greeted then.
-const PLAIN: [(&[u8], &[u8], bool); 7] = [
-    (b"fault\n", b"gushewa 1\n", true),
+const PLAIN: [(&[u8], &[u8], bool); 8] = [
+    (b"fault\nfault\n", b"gushewa 1\n", true),
     (
-        b"none\nquiet\nfault\nnone\ngushewa 1\n",
+        b"none\nquiet\nfault\nnone\nfault\nnone\ngushewa 1\n",
         b"gushewa 1\n",
         true,
     ),
-    (b"fault\ngushewa 1\n", b"none\ngushewa 1\n", false),
-    (b"fault\ngushewa 1\n", b"gushewa 2 hears 5\n", false),
+    (b"fault\nfault\ngushewa 1\n", b"none\ngushewa 1\n", false),
+    (b"fault\nfault\ngushewa 1\n", b"gushewa 2 hears 5\n", false),
+    (b"fault\n", b"gushewa 1\n", false),
     (b"gushewa 1\n", b"gushewa 1\n", false),
-    (b"fault 1\n", b"gushewa 1\n", false),
-    (b"fault\n", b"", false),
+    (b"fault 1\nfault\n", b"gushewa 1\n", false),
+    (b"fault\nfault\n", b"", false),
 ];
 
 /// A reader of two parts, between which it is silent once.
@@ -118,26 +148,37 @@ fn heard(message: Result<Option<Frame24>, Fault>) -> u8 {
     }
 }
 
+/// What became of the three requests, a letter each, where the interface answers the greeting and
+/// then says this; and what was said to it.
+fn asked_over(alloc: Global, answer: &[u8], says: &[u8]) -> Result<([u8; 3], Vec<u8>), Fail> {
+    let mut lines = Vec::new(alloc);
+    lines.extend_from_slice(answer)?;
+    lines.extend_from_slice(says)?;
+    let to = Vec::<u8>::new(alloc);
+    let Ok(greeted) = Greeted::greet(lines.as_slice(), to, 5) else {
+        return Err(Fail::from("a greeting"));
+    };
+    let mut bus = LineBus::over(greeted, BusNumber::default());
+    bus.room(3)?;
+    let level = sent(bus.send(Frame::Forward16(Frame16::new(0x0A80)), 2));
+    let query = sent(bus.send(Frame::Forward16(Frame16::new(0x0BA0)), 5));
+    let came = heard(bus.hear());
+    match bus.let_go() {
+        Some((_, to)) => Ok(([level, query, came], to)),
+        None => Err(Fail::from("the ends")),
+    }
+}
+
 #[test]
 fn each_answer_is_read_as_its_row_says(rt: HostRuntime) -> Result<(), Fail> {
-    for (says, letters, asked) in ROWS {
-        let mut lines = Vec::new(rt.alloc());
-        lines.extend_from_slice(b"none\ngushewa 2 5\ngushewa 2 hears 5\n")?;
-        lines.extend_from_slice(says)?;
-        let to = Vec::<u8>::new(rt.alloc());
-        let Ok(greeted) = Greeted::greet(lines.as_slice(), to, 5) else {
-            return Err(Fail::from("a greeting"));
-        };
-        let mut bus = LineBus::over(greeted, BusNumber::default());
-        bus.room(3)?;
-        let level = sent(bus.send(Frame::Forward16(Frame16::new(0x0A80)), 2));
-        let query = sent(bus.send(Frame::Forward16(Frame16::new(0x0BA0)), 5));
-        let came = heard(bus.hear());
-        let Some((_, to)) = bus.let_go() else {
-            return Err(Fail::from("the ends"));
-        };
-        assert!(rt; [level, query, came].as_slice() == letters, "{says:?}");
-        assert!(rt; Some(to.as_slice()) == ASKED.get(..asked), "{says:?}");
+    let tables: [(Greeting, &[Row]); 2] = [(NEWEST, &ANNOUNCING), (BEFORE, &ROWS)];
+    for ((greeting, answer), rows) in tables {
+        for (says, letters, asked) in rows {
+            let (became, said) = asked_over(rt.alloc(), answer, says)?;
+            assert!(rt; became.as_slice() == *letters, "{says:?}");
+            let requests = said.as_slice().strip_prefix(greeting);
+            assert!(rt; requests == ASKED.get(..*asked), "{says:?}");
+        }
     }
     Ok(())
 }
@@ -171,7 +212,7 @@ fn a_bus_fails_until_its_line_is_renewed(rt: HostRuntime) -> Result<(), Fail> {
     let mut bus = LineBus::absent(BusNumber::default());
     bus.room(3)?;
     assert!(rt; bus.hear().is_err() && !bus.mend());
-    let lines: &[u8] = b"gushewa 2 hears 5\nnone\nnone\n";
+    let lines: &[u8] = b"gushewa 3 hears 5\nnone\nnone\n";
     let Ok(greeted) = Greeted::greet(lines, Vec::<u8>::new(rt.alloc()), 5) else {
         return Err(Fail::from("a greeting"));
     };

@@ -17,7 +17,7 @@ const SHORT: u64 = 50;
 const LONG: u64 = 30_000;
 
 /// What is written, which takes two pieces.
-const LINES: &[u8] = b"gushewa 2 18446744073709551615\nsend 2 0A80\n";
+const LINES: &[u8] = b"gushewa 3 18446744073709551615\nsend 2 0A80\n";
 
 /// A request of one piece.
 const HEAR: &[u8] = b"hear\n";
@@ -135,7 +135,7 @@ fn a_request_that_is_not_taken_is_silence(rt: HostRuntime) -> Result<(), Fail> {
             was_flushed: false,
             kind,
         };
-        let says: &[u8] = b"gushewa 2 hears 5\nnone\n";
+        let says: &[u8] = b"gushewa 3 hears 5\nnone\n";
         let Ok(greeted) = Greeted::greet(says, failing, 5) else {
             return Err(Fail::from("a greeting"));
         };
