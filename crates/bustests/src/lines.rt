@@ -38,9 +38,17 @@ const ALL: usize = 29;
 const ANNOUNCING: [Row; 10] = [
     (b"quiet\nanswer 128\nnone\n", b"qan", ALL),
     (b"event 0A8809\nquiet\nanswer 0\n", b"qae", TWO),
-    (b"quiet\nevent 0A8809\nevent 0A880A\nanswer 7\n", b"qae", TWO),
+    (
+        b"quiet\nevent 0A8809\nevent 0A880A\nanswer 7\n",
+        b"qae",
+        TWO,
+    ),
     (b"quiet\nlost\nevent 0A8809\nnone\n", b"qle", ALL),
-    (b"quiet\nquiet\nevent 0A8809\nevent 0A880A\nnone\n", b"qqe", ALL),
+    (
+        b"quiet\nquiet\nevent 0A8809\nevent 0A880A\nnone\n",
+        b"qqe",
+        ALL,
+    ),
     (b"quiet\nquiet\nevent 0A8809\n", b"qqf", ALL),
     (b"quiet\nquiet\nquiet\n", b"qqf", ALL),
     (b"event 0A880\nquiet\nnone\n", b"fff", ONE),

@@ -51,8 +51,6 @@ impl LineBell {
 impl Resting {
     /// Rests until the bell rings, for a twentieth of a second at most.
     pub(crate) fn rest<R: Wait + Clock>(&self, rt: &R) {
-        let _woken = self
-            .rung
-            .recv_timeout(rt, Duration::from_millis(LONGEST));
+        let _woken = self.rung.recv_timeout(rt, Duration::from_millis(LONGEST));
     }
 }

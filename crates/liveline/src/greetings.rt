@@ -121,11 +121,7 @@ fn greet<R: Read, W: Write>(from: &mut R, to: &mut W, number: u64) -> Result<boo
 
 /// Greets the interface by this number in version 2, and in version 1 where it does not know that.
 #[tactic(auto, using(crate::proofs::Greeting::by_number, crate::proofs::Greeting::plainly))]
-fn greet_as_before<R: Read, W: Write>(
-    from: &mut R,
-    to: &mut W,
-    number: u64,
-) -> Result<(), Trouble>
+fn greet_as_before<R: Read, W: Write>(from: &mut R, to: &mut W, number: u64) -> Result<(), Trouble>
     ensures { OnOk result (IsGreetedAsBefore number
         (ends (R.remaining from.old) (W.contents to.old))
         (ends (R.remaining from.new) (W.contents to.new))) }

@@ -87,12 +87,7 @@ fn read_piece<F: Read, R: Clock>(rt: &R, from: &mut F) -> Came {
 }
 
 /// Reads until nothing more comes, or nobody takes it. The bell rings for each piece.
-fn read_all<F: Read, R: Wait + Clock>(
-    rt: &R,
-    from: &mut F,
-    to: &Sender<Piece>,
-    bell: &LineBell,
-) {
+fn read_all<F: Read, R: Wait + Clock>(rt: &R, from: &mut F, to: &Sender<Piece>, bell: &LineBell) {
     for _ in rt.forever() {
         match read_piece(rt, from) {
             Came::Piece(piece) => {

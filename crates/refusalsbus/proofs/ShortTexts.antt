@@ -35,16 +35,16 @@ leaves : (old new : Option (List ℕ)) (text front line : List ℕ) → old ≡ 
     → Consumes old new (front ++ (line ++ line_end)) → Leaves (length line + 1) text new
 leaves old new text front line is read =
     let begun = begin_by old new text (front ++ (line ++ line_end)) is read in record {
-  rest = begun.rest;
-  is = begun.is;
-  long = omega (
-    arith,
-    ap length begun.are,
-    length-append (front ++ (line ++ line_end)) begun.rest,
-    length-append front (line ++ line_end),
-    length-append line line_end,
-  );
-}
+      rest = begun.rest;
+      is = begun.is;
+      long = omega (
+        arith,
+        ap length begun.are,
+        length-append (front ++ (line ++ line_end)) begun.rest,
+        length-append front (line ++ line_end),
+        length-append line line_end,
+      );
+    }
 
 -- ---- a message
 
@@ -230,12 +230,12 @@ said_plainly text old new is short (inr greeted) silent =
     ((numbered_greeting 2 7 ++ line_end) ++ (greeting ++ line_end)) refuses.refusal.request
     (then_plainly left.rest refuses.refused (ends_of new) left.is (omega (arith, least, short)) refuses.after)
   where
-  then_plainly : (text : List ℕ) (old new : Ends) → old.unread ≡ Some text → length text < 17
-      → IsGreetedAsBefore 7 old new
-      → Appends old.written new.written ((numbered_greeting 2 7 ++ line_end) ++ (greeting ++ line_end))
-  then_plainly text old new is short (inl knows) =
-      let left = asked_leaves 2 7 (numbered_answer 2 7) text old new is knows in let least = left.long in
-      absurd (omega (arith, least, short, answer_long 2 7, one_digit.0))
-  then_plainly text old new is short (inr plain) =
-      Appends-trans old.written plain.refused.written new.written (numbered_greeting 2 7 ++ line_end)
-      (greeting ++ line_end) plain.refusal.request plain.after.request
+    then_plainly : (text : List ℕ) (old new : Ends) → old.unread ≡ Some text → length text < 17
+        → IsGreetedAsBefore 7 old new
+        → Appends old.written new.written ((numbered_greeting 2 7 ++ line_end) ++ (greeting ++ line_end))
+    then_plainly text old new is short (inl knows) =
+        let left = asked_leaves 2 7 (numbered_answer 2 7) text old new is knows in let least = left.long in
+        absurd (omega (arith, least, short, answer_long 2 7, one_digit.0))
+    then_plainly text old new is short (inr plain) =
+        Appends-trans old.written plain.refused.written new.written (numbered_greeting 2 7 ++ line_end)
+        (greeting ++ line_end) plain.refusal.request plain.after.request

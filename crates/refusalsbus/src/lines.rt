@@ -185,7 +185,7 @@ pub fn refused_greeting_is_said_plainly<R: Read + Drop, W: Write + Drop>(
     requires short { length text.now < 23 }
     ensures { IfOk result (λ greeted. greeted.announces ≡ false
         → Appends (W.contents to) greeted.written ((numbered_greeting 3 7 ++ line_end)
-          ++ ((numbered_greeting 2 7 ++ line_end) ++ (greeting ++ line_end)))) }
+        ++ ((numbered_greeting 2 7 ++ line_end) ++ (greeting ++ line_end)))) }
 {
     Greeted::greet(from, to, 7)
 }
