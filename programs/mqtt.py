@@ -80,17 +80,10 @@ class OwnBus(Gateway):
         self.asked: Optional[float] = None
         broker.subscribe(["lamp/+/set", "event/+/+"], lambda topic, text: self.events.add(event_of(topic, text)))
 
-    def forget(self) -> None:
-        self.asked = time.monotonic()
-        super().forget()
-
-    def take(self) -> Optional[int]:
-        self.asked = time.monotonic()
-        return super().take()
-
-    def send(self, bits: int, frame: int, priority: int) -> str:
-        self.asked = time.monotonic()
-        return super().send(bits, frame, priority)
+    def note(self, way: str, line: str) -> None:
+        """Notes when the controller asked something last."""
+        if way == "<":
+            self.asked = time.monotonic()
 
     def is_up(self) -> bool:
         """Whether the controller is at its line."""
@@ -126,7 +119,7 @@ class Program:
             self.look()
             return
         threading.Thread(target=self.look, daemon=True).start()
-        run(self.bus, self.given)
+        run(self.bus, self.given, self.bus.note)
 
     def look(self) -> None:
         """Says what is seen on the lines, and each second what else there is."""
