@@ -13,7 +13,15 @@ HERE = os.path.dirname(os.path.dirname(os.path.abspath(__file__)))
 sys.path[:0] = [f"{HERE}/programs", f"{HERE}/examples/interfaces"]
 sys.dont_write_bytecode = True
 from gushewa_line.ends import End  # noqa: E402
-from gushewa_line.line import QUIET, THIRD, HearingBus, Interface, event_line, version_of  # noqa: E402
+from gushewa_line.line import (
+    QUIET,
+    THIRD,
+    HearingBus,
+    Interface,
+    answer_to_greeting,
+    event_line,
+    version_of,
+)  # noqa: E402
 
 COUNT_SECONDS, FRAME_SECONDS, LATE_SECONDS = 0.17, 0.06, 0.5
 COUNTER = 0x0C8800
@@ -62,6 +70,17 @@ class Deaf(Counting):
         came = super().send(bits, frame, priority)
         self.is_sending = False
         return came
+
+
+class Third(Interface):
+    """An interface that knows version 3 alone."""
+
+    def __init__(self, end: End) -> None:
+        super().__init__(Counting(), end, to_greeting=third_answer_to_greeting)
+
+
+def third_answer_to_greeting(request: str) -> Optional[str]:
+    return answer_to_greeting(request) if "gushewa 3" in request else None
 
 
 class Wrong(Interface):

@@ -8,8 +8,8 @@
   check.py --counts ..           of some source each event has the information of the one before and one
                                  more, as simulated.py --counter gives them; so their order is seen
 
-It prints a line for each duty: `ok`, or what came. The duties of version 3 begin with `3:`; of an
-interface that does not know it they are not tried. It exits with 1 where something came that should
+It prints a line for each duty: `ok`, or what came. The first ones are those of version 2, and those of
+version 3 begin with `3:`. Of a version that the interface does not know they are not tried. It exits with 1 where something came that should
 not, and with 2 where the line cannot be opened. On the bus it only asks: whether gear 63 is there,
 and for the status of device 63. End `dalictl live` and all else that uses the line first.
 """
@@ -70,6 +70,7 @@ class Asked(Trial):
     # The duties.
 
     def answers_greeting(self) -> None:
+        self.need_version()
         for number in (1, time.time_ns() // 1_000_000):
             self.greet_by(f"gushewa 2 {number}")
 

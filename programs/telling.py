@@ -3,7 +3,7 @@
 from __future__ import annotations
 
 import time
-from typing import Callable, Dict, List, Optional, Sequence, Tuple
+from typing import Callable, Dict, List, Sequence, Tuple
 
 from gushewa_line.controller import EVENT, MOST_PASSED_OVER, SILENT_SECONDS, answer_to
 from gushewa_line.line import FAULT, FIRST_GREETING, HEAR, NONE, SECOND, THIRD
@@ -19,6 +19,7 @@ from trial import (
     NotTried,
     Otherwise,
     Trial,
+    greeting_of,
 )
 
 LAST_INFORMATION = 0x3FF
@@ -33,19 +34,8 @@ class Telling(Trial):
     """An interface under trial in version 3."""
 
     version = THIRD
-    is_known: Optional[bool] = None  # whether the interface knows the version
 
     # What the duties are made of.
-
-    def greet(self) -> None:
-        self.need_version()
-        super().greet()
-
-    def need_version(self) -> None:
-        if self.is_known is None:
-            self.is_known = self.answer_to_greeting(greeting_of(THIRD)) != FAULT
-        if not self.is_known:
-            raise NotTried("not tried: it does not know version 3")
 
     def ask(self, request: str) -> Tuple[List[str], str]:
         """The events before the answer to a request, and the answer."""
@@ -119,12 +109,16 @@ class Telling(Trial):
                 raise Otherwise(f"its own frame, {own[0]!r} after {request!r}")
 
     def says_events_alone(self) -> None:
+        self.ask(HEAR)
         self.listen(UNASKED_SECONDS, "some seconds")
 
-    def is_silent_in_2(self) -> None:
+    def greet_in_2(self) -> None:
         self.line.greet(seconds=ANSWER_SECONDS, newest=SECOND)
         if self.line.version != SECOND:
             raise NotTried("not tried: it does not know version 2")
+
+    def is_silent_in_2(self) -> None:
+        self.greet_in_2()
         self.hears_nothing("2")
 
     def is_silent_in_1(self) -> None:
@@ -137,7 +131,7 @@ class Telling(Trial):
 
     def answers_before_events(self) -> None:
         """What waits when a greeting comes is said behind its answer."""
-        self.line.greet(seconds=ANSWER_SECONDS, newest=SECOND)
+        self.greet_in_2()
         self.wait_for_presses("press a button")
         greeting = greeting_of(THIRD)
         self.line.write(greeting + "\n")
@@ -199,11 +193,6 @@ class Telling(Trial):
         while time.monotonic() < end:
             self.ask(QUERY_GEAR)
         self.listen(SILENT_SECONDS, QUERY_GEAR)
-
-
-def greeting_of(version: int) -> str:
-    """A greeting with a number that no greeting had before."""
-    return f"gushewa {version} {time.time_ns()}"
 
 
 DUTIES: Sequence[Tuple[str, Callable[[Telling], None]]] = (

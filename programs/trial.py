@@ -8,7 +8,7 @@ import time
 from typing import List, Optional
 
 from gushewa_line.controller import EVENT, MOST_PASSED_OVER, Line, answer_to
-from gushewa_line.line import SECOND
+from gushewa_line.line import FAULT, SECOND, THIRD
 
 QUERY_GEAR = "send 4 7F91"
 QUERY_GEAR_AGAIN = "send 1 7F91"
@@ -29,10 +29,16 @@ class NotTried(Exception):
     """Nobody presses a button, or the interface does not know the version."""
 
 
+def greeting_of(version: int) -> str:
+    """A greeting with a number that no greeting had before."""
+    return f"gushewa {version} {time.time_ns()}"
+
+
 class Trial:
-    """An interface under trial, in a version of the line."""
+    """An interface under trial, in a version of the line, 2 or 3."""
 
     version = SECOND
+    is_known: Optional[bool] = None  # whether the interface knows the version
 
     def __init__(self, line: Line, press: float, counts: bool) -> None:
         self.line, self.press, self.counts = line, press, counts
@@ -71,8 +77,18 @@ class Trial:
         if line != answer_to(greeting):
             raise Otherwise(f"{before + greeting!r}: {line!r}")
 
+    def need_version(self) -> None:
+        """Whether the interface knows this version. One that knows neither is to know version 2."""
+        if self.is_known is None:
+            self.is_known = self.answer_to_greeting(greeting_of(self.version)) != FAULT
+            if not self.is_known and self.version == SECOND:
+                self.is_known = self.answer_to_greeting(greeting_of(THIRD)) == FAULT
+        if not self.is_known:
+            raise NotTried(f"not tried: it does not know version {self.version}")
+
     def greet(self) -> None:
         """Comes in step again, whatever came before."""
+        self.need_version()
         greeted = self.line.greet(seconds=ANSWER_SECONDS, newest=self.version)
         if greeted is None or self.line.version != self.version:
             raise Otherwise(f"no answer to a greeting of version {self.version}")
