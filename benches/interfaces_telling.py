@@ -23,12 +23,16 @@ from gushewa_line.line import (
     version_of,
 )  # noqa: E402
 
-COUNT_SECONDS, FRAME_SECONDS, LATE_SECONDS = 0.17, 0.06, 0.5
+COUNT_SECONDS, SELDOM_SECONDS, FRAME_SECONDS, LATE_SECONDS = 0.17, 0.4, 0.06, 0.3
 COUNTER = 0x0C8800
 
 
 class Counting(HearingBus):
     """A bus on which frames take their time, with a device that counts."""
+
+    def __init__(self, seconds: float = COUNT_SECONDS) -> None:
+        super().__init__()
+        self.seconds = seconds
 
     def watch(self, wake: Callable[[], None]) -> None:
         super().watch(wake)
@@ -36,7 +40,7 @@ class Counting(HearingBus):
 
     def count(self) -> None:
         for number in itertools.count():
-            time.sleep(COUNT_SECONDS)
+            time.sleep(self.seconds)
             self.hear(COUNTER | number & 0x3FF)
 
     def hear(self, frame: int) -> None:
@@ -86,8 +90,8 @@ def third_answer_to_greeting(request: str) -> Optional[str]:
 class Wrong(Interface):
     """An interface of version 3, with a mistake."""
 
-    def __init__(self, end: End) -> None:
-        super().__init__(Counting(), end)
+    def __init__(self, end: End, seconds: float = COUNT_SECONDS) -> None:
+        super().__init__(Counting(seconds), end)
 
 
 class Unheard(Wrong):
@@ -148,7 +152,10 @@ class Endless(Wrong):
 
 
 class Late(Wrong):
-    """Says its events half a second later."""
+    """Says its events a while later, before the next one comes."""
+
+    def __init__(self, end: End) -> None:
+        super().__init__(end, SELDOM_SECONDS)
 
     def say_unasked(self) -> None:
         threading.Timer(LATE_SECONDS, super().say_unasked).start()

@@ -171,10 +171,14 @@ def devices_of(given: argparse.Namespace, chance: Callable[[], int]) -> List[Dev
 
 def noting(log: Optional[TextIO]) -> Callable[[str, str], None]:
     """Writes each line down, with the seconds since now."""
-    start = time.monotonic()
     if log is None:
         return note_nothing
-    return lambda way, line: print(f"{time.monotonic() - start:.4f} {way} {line}", file=log)
+    start, write = time.monotonic(), log.write
+
+    def note(way: str, line: str) -> None:
+        write(f"{time.monotonic() - start:.4f} {way} {line}\n")  # in one piece, since two threads note
+
+    return note
 
 
 def read_words() -> argparse.Namespace:

@@ -93,7 +93,9 @@ class PtyEnd(End):
 
     def plug(self) -> None:
         self.left, self.version = b"", 0
-        self.written = self.unread = self.looked = 0
+        # How many bytes were written in all, and were up to the last look; how many were unread then; whether nobody reads.
+        self.written = self.looked = self.unread = 0
+        self.is_away = False
         THERE.add(self)
         self.ours, self.theirs = pty.openpty()
         tty.setraw(self.theirs)  # no echo, no translation; kept open, so that it stays so
@@ -126,6 +128,7 @@ class PtyEnd(End):
             if self.drops_unread():
                 # What was not read by now was for a controller that has ended.
                 termios.tcflush(self.theirs, termios.TCIFLUSH)
+        self.is_away = False
         return os.read(self.ours, 256)
 
     def drops_unread(self) -> bool:
@@ -133,12 +136,13 @@ class PtyEnd(End):
 
         One of version 1 would take it for the answer to its greeting. One of version 2 passes over it: it is one answer
         at most. In version 3 events are said whether or not a controller is there, and more of them might wait than a
-        controller passes over; they are dropped where nothing was read between two looks.
+        controller passes over: they are dropped where what waited at the last look was not read since.
         """
         written, unread = self.written, self.count_unread()
-        is_unmoved = 0 < self.unread == unread - (written - self.looked)
-        self.looked, self.unread = written, unread
-        return self.version < 2 or self.version == 3 and is_unmoved
+        is_unmoved = unread == self.unread + written - self.looked
+        self.is_away = is_unmoved and (self.unread > 0 or self.is_away)
+        self.looked, self.unread = written, 0 if self.is_away else unread
+        return self.version < 2 or self.version == 3 and self.is_away
 
     def count_unread(self) -> int:
         """How many bytes the controller did not read yet."""
