@@ -2,6 +2,7 @@
 
 from __future__ import annotations
 
+import itertools
 import os
 import sys
 import threading
@@ -21,16 +22,17 @@ PRESS_SECONDS = 0.3
 
 
 class NoAdapter(Adapter):
-    """Answers that gear 63 is there, and hears a button three times a second."""
+    """Answers that gear 63 is there, and hears a button three times a second, and a device that counts."""
 
     def __init__(self, on_frame: Callable[[int, int], None]) -> None:
         threading.Thread(target=self.press, args=(on_frame,), daemon=True).start()
 
     def press(self, on_frame: Callable[[int, int], None]) -> None:
-        while True:
+        for count in itertools.count():
             time.sleep(PRESS_SECONDS)
             on_frame(16, 0x0A80)
             on_frame(24, 0x0A8809)
+            on_frame(24, 0x0C8800 | count & 0x3FF)
 
     def send(self, bits: int, frame: int, priority: int) -> Optional[int]:
         time.sleep(0.02)

@@ -11,7 +11,7 @@ import sys
 import tempfile
 import time
 from multiprocessing.connection import Connection
-from typing import Callable, List, Optional, Sequence, Type
+from typing import Callable, List, Optional, Sequence, Tuple, Type
 
 from lines_bench import Bench, Checks
 from lines_houses import HERE, House, Pressed
@@ -105,16 +105,20 @@ def judge_restarts(bench: Bench, word: str, log: str, pause: float, kills: int) 
             live.process.send_signal((signal.SIGKILL, signal.SIGTERM)[turn % 2])
             live.wait()
         time.sleep(pause)
-    with open(log) as file:
-        before = len(file.read().splitlines())
     with bench.live(HALL, binding(1), [word]) as live:
         time.sleep(1)
         said = found.ended(live, live.end(), 0)
     with open(log) as file:
-        lines = file.read().splitlines()[before:]
-    sent, heard = (sum(mark in text for text in lines) for mark in (" < send", " > event"))
-    found.same("sent and heard", said.buses.get(0), (sent, heard))
+        found.same("sent and heard", said.buses.get(0), sent_and_heard(file.read().splitlines()))
     return found
+
+
+def sent_and_heard(lines: Sequence[str]) -> Tuple[int, int]:
+    """What was sent and heard by the log of an interface, from its last answer to a greeting on. In version 3 the interface
+    goes on to say events that nobody reads: those behind the last `none` are not counted."""
+    greeted = max(at for at, text in enumerate(lines) if " > gushewa" in text)
+    ended = max(at for at, text in enumerate(lines) if text.endswith(" > none"))
+    return sum(" < send" in text for text in lines[greeted:]), sum(" > event" in text for text in lines[greeted:ended])
 
 
 def serve_lines(folder: str, count: int, kind: Type[Pressed], pipe: Connection) -> None:

@@ -6,9 +6,8 @@ import os
 import re
 import subprocess
 import time
-from typing import Dict, Iterable, List, Optional, Sequence, Tuple
+from typing import Dict, Iterable, List, Optional, Protocol, Sequence, Tuple
 
-from lines_houses import House
 from lines_ports import NUMBERS
 
 # A build with run-time checks keeps memory that was given back, unless it is told not to.
@@ -134,6 +133,14 @@ class Said:
                 self.other.append(text)
 
 
+class Counted(Protocol):
+    """An interface that counts the events that it handed over, and has what was sent, and its last request with the answer."""
+
+    handed: int
+    sends: List[int]
+    last: Optional[Tuple[str, str]]
+
+
 class Found(List[str]):
     """What was otherwise than it should be."""
 
@@ -156,7 +163,7 @@ class Found(List[str]):
         self.same("other lines", said.other, [])
         return said
 
-    def counts(self, said: Said, bus: int, house: House, is_up: bool = True, unsaid: int = 0) -> None:
+    def counts(self, said: Said, bus: int, house: Counted, is_up: bool = True, unsaid: int = 0) -> None:
         """What the program says of a bus is what its interface says, which had nothing more where the bus is up. A frame
         that failed since the line was not there counts as sent; so many more there may be."""
         sent, heard = said.buses.get(bus, (-1, -1))

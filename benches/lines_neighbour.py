@@ -203,4 +203,5 @@ def cases(bench: Bench) -> List[Case]:
         Case(f"is unplugged {times} times", ["--unplug-at", "100:0.2"] * times, times),
         Case("is not there at the start", ["--start-after", str(absent)], 1),
         Case("speaks version 1, and falls silent", ["--version-1", "--silent-at", "100:3"], 1),
+        Case("speaks version 2, and falls silent", ["--version-2", "--silent-at", "100:3"], 1),
     ]

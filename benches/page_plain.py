@@ -131,11 +131,23 @@ class Passed:
         assert asked == request.encode() + b"\n", "a request was changed"
         return self.relay.pass_answer(answer, now)
 
-    def greet(self) -> None:
-        self.ask("gushewa 2 17", b"gushewa 2 hears 17\n")
+    def greet(self, version: int = 2) -> None:
+        self.ask(f"gushewa {version} 17", b"gushewa %d hears 17\n" % version)
 
 
 # Lines that the interface says, to which requests, and what the page then knows of the line.
+JUDGED_3: Tuple[Tuple[str, bytes, Optional[str]], ...] = (
+    ("hear", b"none\n", None),
+    ("hear", b"event 048402\nevent 048403\nnone\n", None),
+    ("send 3 0BA0", b"event 048402\nanswer 255\n", None),
+    ("send 3 0BA0", b"event 048402\nevent 048403\nnone\n", "the interface said 'none'"),
+    ("hear", b"event 048402\nquiet\n", "the interface said 'quiet'"),
+    ("hear", b"event 0484\n", "the interface said 'event 0484'"),
+    ("gushewa 3 18", b"gushewa 3 hears 18\nevent 048402\n", "greeted"),
+    ("gushewa 3 18", b"event 048402\ngushewa 3 hears 18\n", "greeted"),
+    ("gushewa 3 18", b"fault\n", None),
+    ("gushewa 2 18", b"gushewa 2 hears 18\n", "greeted"),
+)
 JUDGED: Tuple[Tuple[str, bytes, Optional[str]], ...] = (
     ("hear", b"none\n", None),
     ("hear", b"event 048402\n", None),
@@ -154,14 +166,20 @@ JUDGED: Tuple[Tuple[str, bytes, Optional[str]], ...] = (
 
 
 def try_relay(bench: Bench) -> None:
-    for request, answer, wanted in JUDGED:
+    judged = [(2, *row) for row in JUDGED] + [(3, *row) for row in JUDGED_3]
+    for version, request, answer, wanted in judged:
         it = Passed()
-        it.greet()
+        it.greet(version)
         it.told.clear()
-        bench.same(f"{request} {answer!r}", it.ask(request, answer), answer)
-        bench.same(f"{request} {answer!r}", [text for way, text in it.told if way == "="], [wanted] if wanted else [])
+        what = f"version {version}: {request} {answer!r}"
+        bench.same(what, it.ask(request, answer), answer)
+        bench.same(what, [text for way, text in it.told if way == "="], [wanted] if wanted else [])
+        events = [f"event {text}" for text in answer.decode().split("event ")[1:]]
+        said = "".join(f"{text}\n" for way, text in it.told if way == ">" and text.startswith("event "))
+        bench.same(f"{what}: events that are seen", said, "".join(it.split("\n")[0] + "\n" for it in events))
     try_passing(bench)
     try_pressing(bench)
+    try_pressing_at_once(bench)
 
 
 def try_passing(bench: Bench) -> None:
@@ -181,8 +199,8 @@ def try_passing(bench: Bench) -> None:
     ]
     for turn in range(300):
         it = Passed()
-        if turn % 2:
-            it.greet()
+        if turn % 3:
+            it.greet(1 + turn % 3)
         asked, answered, requests, answers = b"", b"", b"", b""
         for _ in range(40):
             piece = chance.choice(pieces)
@@ -220,6 +238,32 @@ def try_pressing(bench: Bench) -> None:
     bench.same("too many", len(it.relay.presses), 64)
     it.relay.begin()
     bench.same("a new line", len(it.relay.presses), 0)
+
+
+def try_pressing_at_once(bench: Bench) -> None:
+    """In version 3 an event by hand is said at once between two lines, and not in place of any."""
+    it = Passed()
+    it.greet(3)
+    it.relay.press("1", 0x048402, 0.0)
+    bench.same("idle", it.relay.pass_presses(0.0), b"event 048402\n")
+    bench.same("told", it.told[-1], ("+", "1 048402"))
+    bench.same("once", it.relay.pass_presses(0.0), b"")
+    bench.same("hear", it.ask("hear", b"none\n"), b"none\n")
+    for begun, rest in ((b"no", b"ne\n"), (b"event 0A", b"8809\n"), (b"qui", b"et\n")):
+        passed = it.ask("hear" if begun == b"no" else "send 3 0A80", begun)
+        it.relay.press("2", 0x048402, 0.0)
+        bench.same(f"half said: {begun!r}", it.relay.pass_presses(0.0), b"")
+        passed += it.relay.pass_answer(rest, 0.0)
+        bench.same(f"behind the line: {begun!r}", passed, begun + rest + b"event 048402\n")
+    it.relay.pass_request(b"send 3 0A80\n", 0.0)
+    it.relay.press("3", 0x048402, 0.0)
+    bench.same("a frame is under way", it.relay.pass_presses(0.0), b"event 048402\n")
+    it.told.clear()
+    bench.same("its answer", it.relay.pass_answer(b"quiet\n", 0.0), b"quiet\n")
+    bench.same("its answer is seen", it.told, [(">", "quiet")])
+    it.relay.pass_request(b"gushewa 3 18\n", 0.0)
+    it.relay.press("4", 0x048402, 0.0)
+    bench.same("a greeting is under way", (it.relay.pass_presses(0.0), it.told[-1]), (b"", ("-", "4 048402")))
 
 
 # The state.
@@ -266,11 +310,28 @@ def try_state(bench: Bench) -> None:
         it.note(Sight(at, 1, ">", f"event {number << 10 & 0x7EFC00 | 0x8000:06X}"))
     bench.hold(len(it.sources) <= state.MOST_SOURCES and it.missed > 0, "sources without end")
     try_buses(bench)
+    try_patience(bench)
+
+
+def try_patience(bench: Bench) -> None:
+    """A controller of a long patience may be silent for longer, and asks an idle line of version 3 less often."""
+    it = state.Building(house(), 2, 5.0)
+    bus = it.buses[1]
+    it.note(Sight(1, 1, "=", "greeted"))
+    for at in range(2, 12):
+        it.note(Sight(at, 1, "~", "0 0"))
+        bench.same("asked each five seconds", bus.state, "up")
+    it.note(Sight(12, 1, "~", "0 0"))
+    bench.same("asked by nobody for two patiences", (bus.state, bus.why), ("down", state.NOBODY_ASKS))
+    it.note(Sight(13, 1, "~", "1 4900"))
+    bench.same("a long patience", bus.state, "up")
+    it.note(Sight(14, 1, "~", "0 5100"))
+    bench.same("a long patience is over", (bus.state, bus.why), ("down", "silent for 5 s"))
 
 
 def try_buses(bench: Bench) -> None:
     """A bus is up or down, since when and why."""
-    it, nothing = state.Building(house(), 2, 5.0), beside.Beside(house())
+    it, nothing = state.Building(house(), 2), beside.Beside(house())
 
     def bus(at: float, way: str, text: str) -> Tuple[Any, ...]:
         it.note(Sight(at, 1, way, text))

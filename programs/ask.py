@@ -6,7 +6,7 @@
 
 It greets first, and passes over what is not the answer to this greeting. So
 `ask.py /run/dali0 'send 4 0A80' 'send 5 0BA0' hear` sets gear 5 to level 128, asks its level, and
-hears.
+hears. In version 3 of the line the events that came by then stand before an answer.
 """
 
 from __future__ import annotations
@@ -29,7 +29,10 @@ def main() -> None:
             sys.exit("the interface does not answer the greeting")
         print(f'{"greeting":13}  {greeted}', flush=True)
         for request in given.request:
-            print(f'{request:13}  {line.ask(request) or "no answer"}', flush=True)
+            came = line.ask(request) or "no answer"
+            for said in (*line.events, came):
+                print(f"{request:13}  {said}", flush=True)
+            line.events.clear()
     except Ended:
         sys.exit("the interface ended")
     except OSError as error:

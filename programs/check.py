@@ -3,10 +3,13 @@
 
   check.py PATH                  PATH is a serial device or a pseudo terminal
   check.py SOURCE,SINK           or two FIFOs
-  check.py --press SECONDS ..    waits three times so long for somebody to press a button; it says each
+  check.py --press SECONDS ..    waits again and again so long for somebody to press a button; it says each
                                  time how often
+  check.py --counts ..           of some source each event has the information of the one before and one
+                                 more, as simulated.py --counter gives them; so their order is seen
 
-It prints a line for each duty: `ok`, or what came. It exits with 1 where something came that should
+It prints a line for each duty: `ok`, or what came. The first ones are those of version 2, and those of
+version 3 begin with `3:`. Of a version that the interface does not know they are not tried. It exits with 1 where something came that should
 not, and with 2 where the line cannot be opened. On the bus it only asks: whether gear 63 is there,
 and for the status of device 63. End `dalictl live` and all else that uses the line first.
 """
@@ -17,55 +20,38 @@ import argparse
 import re
 import sys
 import time
-from typing import Callable, List, Sequence, Tuple
+from typing import Callable, List, Sequence, Tuple, TypeVar
 
+import telling
 from gushewa_line.controller import SILENT_SECONDS, Ended, Line, answer_to
+from trial import (
+    GREETING_SECONDS,
+    OWN_SECONDS,
+    QUERY_DEVICE,
+    QUERY_GEAR,
+    QUERY_GEAR_AGAIN,
+    REPLY,
+    SHORTEST_FRAME,
+    UNASKED_SECONDS,
+    NotTried,
+    Otherwise,
+    Trial,
+)
 
 MANY_REQUESTS, MOST_EVENTS, PRESSES, TRIES = 300, 256, 4, 5
-SHORTEST_FRAME = 0.035  # seconds, of a 24-bit frame and the time before the next one: 23.1 and 13.5 ms
-OWN_SECONDS, UNASKED_SECONDS = 0.5, 3.0
-QUERY_GEAR = "send 4 7F91"
-QUERY_GEAR_AGAIN = "send 1 7F91"
-QUERY_DEVICE = "send 4 7FFE30"
-REPLY = re.compile(r"quiet|damaged|lost|answer 0*([0-9]|[1-9][0-9]|1[0-9]{2}|2[0-4][0-9]|25[0-5])")
 MESSAGE = re.compile(r"none|event [0-9A-Fa-f]{6}")
 UNKNOWN = ("nonsense", "send 6 7F91", "send 4 7F9", "hear 1", "")
-MOST_BYTES = 63
+MOST_BYTES, WIDTH = 63, 40
 
-ANSWER_SECONDS = 2.0
-GREETING_SECONDS = 0.5
 PAIR_SECONDS = 0.1
 HEAR_SECONDS = 0.03
 PAUSE_SECONDS = 0.002
 
 
-class Otherwise(Exception):
-    """What came in place of what should."""
-
-
-class NotTried(Exception):
-    """Nobody presses a button."""
-
-
-class Trial:
-    """An interface under trial."""
-
-    def __init__(self, path: str, press: float) -> None:
-        self.path, self.press = path, press
-        self.line = Line(path)
-        self.seen: List[str] = []
+class Asked(Trial):
+    """An interface under trial in version 2."""
 
     # What the duties are made of.
-
-    def read(self, after: str) -> str:
-        """The line that comes after this was asked."""
-        line = self.line.read(ANSWER_SECONDS)
-        if line is None:
-            half = self.line.left.decode("ascii", "backslashreplace")
-            what = f"half a line, {half!r}" if half else "no answer"
-            raise Otherwise(f"{after!r}: {what} within {ANSWER_SECONDS:.0f} s")
-        self.seen.append(line)
-        return line
 
     def ask(self, request: str, wanted: "re.Pattern[str]") -> str:
         """The answer to a request, of this form."""
@@ -74,11 +60,6 @@ class Trial:
         if not wanted.fullmatch(line):
             raise Otherwise(f"{request!r}: {line!r}")
         return line
-
-    def greet(self) -> None:
-        """Comes in step again, whatever came before."""
-        if self.line.greet(seconds=ANSWER_SECONDS) is None:
-            raise Otherwise("no answer to a greeting")
 
     def stay_silent(self, seconds: float, after: str) -> None:
         """Nobody says anything now."""
@@ -89,29 +70,15 @@ class Trial:
     # The duties.
 
     def answers_greeting(self) -> None:
+        self.need_version()
         for number in (1, time.time_ns() // 1_000_000):
-            greeting = f"gushewa 2 {number}"
-            self.line.write(greeting + "\n")
-            line = self.read(greeting)
-            if line == greeting:
-                raise Otherwise(f"{line!r} itself: switch the echo off")
-            if line != answer_to(greeting):
-                raise Otherwise(f"{greeting!r}: {line!r}")
+            self.greet_by(f"gushewa 2 {number}")
 
     def greets_in_time(self) -> None:
-        times = []
-        for _ in range(3):
-            begun = time.monotonic()
-            self.greet()
-            times.append(time.monotonic() - begun)
-        self.is_within(GREETING_SECONDS, min(times), "a greeting")
+        self.is_within(GREETING_SECONDS, self.time_to_greet(), "a greeting")
 
     def forgets_half_a_request(self) -> None:
-        greeting = "gushewa 2 7"
-        self.line.write(f"send 4 0A{greeting}\n")
-        line = self.read(f"send 4 0A{greeting}")
-        if line != answer_to(greeting):
-            raise Otherwise(f"{'send 4 0A' + greeting!r}: {line!r}")
+        self.greet_by("gushewa 2 7", "send 4 0A")
 
     def answers_in_order(self) -> None:
         """A greeting that comes while a request is under way is answered last."""
@@ -177,10 +144,6 @@ class Trial:
         """The best of some exchanges, since the machine may have other work."""
         self.is_within(wanted, min(self.time_of(request, form) for _ in range(TRIES)), repr(request))
 
-    def is_within(self, wanted: float, took: float, what: str) -> None:
-        if took > wanted:
-            raise Otherwise(f"{what} took {took * 1000:.0f} ms of {wanted * 1000:.0f}")
-
     def time_of(self, request: str, form: "re.Pattern[str]") -> float:
         begun = time.monotonic()
         self.ask(request, form)
@@ -224,61 +187,50 @@ class Trial:
         if not count:
             raise Otherwise("no event of the press")
 
-    def need_presses(self) -> None:
-        if not self.press:
-            raise NotTried("not tried without --press")
-
-    def ask_for(self, what: str) -> None:
-        print(f"  {what} within {self.press:.0f} s", file=sys.stderr, flush=True)
-
-    def wait_for_presses(self, what: str) -> None:
-        if self.press:
-            self.ask_for(what)
-            time.sleep(self.press)
-
     def is_opened_again(self) -> None:
         self.line.write("send 4 0A")
-        self.line.close()
-        time.sleep(0.1)
-        self.line = Line(self.path)
+        self.line.open_again(0.1)
         self.greet()
         self.stay_silent(SILENT_SECONDS, "a greeting")
 
-    def writes_plain_lines(self) -> None:
-        for line in self.seen:
-            if "\r" in line:
-                raise Otherwise(f"a carriage return in {line!r}")
-            if "\\" in line or len(line) > MOST_BYTES:
-                raise Otherwise(f"a byte that is no ASCII, or too many: {line!r}")
+
+def writes_plain_lines(trial: Trial) -> None:
+    for line in trial.seen:
+        if "\r" in line:
+            raise Otherwise(f"a carriage return in {line!r}")
+        if "\\" in line or len(line) > MOST_BYTES:
+            raise Otherwise(f"a byte that is no ASCII, or too many: {line!r}")
 
 
-DUTIES: Sequence[Tuple[str, Callable[[Trial], None]]] = (
-    ("answers a greeting with its number", Trial.answers_greeting),
-    ("answers a greeting within 500 ms", Trial.greets_in_time),
-    ("forgets half a request before it", Trial.forgets_half_a_request),
-    ("answers in order", Trial.answers_in_order),
-    ("hears", Trial.hears),
-    ("sends 16 bits", Trial.sends_16),
-    ("sends 24 bits", Trial.sends_24),
-    ("loses not each frame", Trial.sends_at_last),
-    ("does not hear its own frames", Trial.hears_no_own_frame),
-    ("answers no unknown request", Trial.refuses_unknown),
-    ("says nothing unasked", Trial.says_nothing_unasked),
-    ("sends a pair within 100 ms", Trial.sends_pairs_in_time),
-    ("hears within 30 ms", Trial.hears_in_time),
-    ("forgets events at a greeting", Trial.forgets_events),
-    ("keeps events", Trial.keeps_events),
-    ("gives each event once", Trial.gives_events_once),
-    ("answers 300 requests", Trial.goes_on),
-    ("is opened again", Trial.is_opened_again),
-    ("writes plain lines", Trial.writes_plain_lines),
+DUTIES: Sequence[Tuple[str, Callable[[Asked], None]]] = (
+    ("answers a greeting with its number", Asked.answers_greeting),
+    ("answers a greeting within 500 ms", Asked.greets_in_time),
+    ("forgets half a request before it", Asked.forgets_half_a_request),
+    ("answers in order", Asked.answers_in_order),
+    ("hears", Asked.hears),
+    ("sends 16 bits", Asked.sends_16),
+    ("sends 24 bits", Asked.sends_24),
+    ("loses not each frame", Asked.sends_at_last),
+    ("does not hear its own frames", Asked.hears_no_own_frame),
+    ("answers no unknown request", Asked.refuses_unknown),
+    ("says nothing unasked", Asked.says_nothing_unasked),
+    ("sends a pair within 100 ms", Asked.sends_pairs_in_time),
+    ("hears within 30 ms", Asked.hears_in_time),
+    ("forgets events at a greeting", Asked.forgets_events),
+    ("keeps events", Asked.keeps_events),
+    ("gives each event once", Asked.gives_events_once),
+    ("answers 300 requests", Asked.goes_on),
+    ("is opened again", Asked.is_opened_again),
 )
 
 
-def try_duty(trial: Trial, number: int, duty: Callable[[Trial], None]) -> Tuple[bool, str]:
+Tried = TypeVar("Tried", bound=Trial)
+
+
+def try_duty(trial: Tried, is_greeted: bool, duty: Callable[[Tried], None]) -> Tuple[bool, str]:
     """Whether it is kept, as far as it was tried, and `ok` or what came."""
     try:
-        if number:
+        if is_greeted:
             trial.greet()
         duty(trial)
     except NotTried as reason:
@@ -290,22 +242,36 @@ def try_duty(trial: Trial, number: int, duty: Callable[[Trial], None]) -> Tuple[
     return True, "ok"
 
 
+def try_all(line: Line, press: float, counts: bool) -> bool:
+    """Tries each duty, and prints what came of it; whether all are kept."""
+    good: List[bool] = []
+
+    def tell(name: str, found: Tuple[bool, str]) -> None:
+        good.append(found[0])
+        print(f"{name:{WIDTH}}{found[1]}", flush=True)
+
+    asked, told = Asked(line, press, counts), telling.Telling(line, press, counts)
+    for number, (name, duty) in enumerate(DUTIES):
+        tell(name, try_duty(asked, number > 0, duty))
+    for number, (name, third) in enumerate(telling.DUTIES):
+        tell(name, try_duty(told, number > 0, third))
+    asked.seen += told.seen
+    tell("writes plain lines", try_duty(asked, True, writes_plain_lines))
+    return all(good)
+
+
 def main() -> None:
     words = argparse.ArgumentParser(usage=__doc__)
     words.add_argument("path")
     words.add_argument("--press", type=float, default=0.0)
+    words.add_argument("--counts", action="store_true")
     given = words.parse_args()
     try:
-        trial = Trial(given.path, given.press)
+        line = Line(given.path)
     except OSError as error:
         print(f"cannot open {given.path}: {error.strerror}")
         sys.exit(2)
-    is_good = True
-    for number, (name, duty) in enumerate(DUTIES):
-        is_kept, came = try_duty(trial, number, duty)
-        is_good = is_good and is_kept
-        print(f"{name:36}{came}", flush=True)
-    sys.exit(0 if is_good else 1)
+    sys.exit(0 if try_all(line, given.press, given.counts) else 1)
 
 
 if __name__ == "__main__":

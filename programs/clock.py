@@ -33,12 +33,13 @@ from __future__ import annotations
 
 import argparse
 import datetime
+import threading
 import time
 import zoneinfo
 from typing import Callable, Dict, Iterator, List, Optional, Tuple
 
 from gushewa_line.gateway import device_event
-from gushewa_line.line import QUIET, Events
+from gushewa_line.line import QUIET, HearingBus
 from gushewa_line.program import add_ends, give_up, run
 from sun import Sun
 from week import BadLine, Table, read_table
@@ -83,12 +84,13 @@ class Calendar:
             said = self.values(begin + second)
 
 
-class ClockBus:
+class ClockBus(HearingBus):
     """A bus on which nothing is but the clock."""
 
     def __init__(self, calendar: Calendar, address: int, now: Callable[[], float] = time.time) -> None:
+        super().__init__()
         self.calendar, self.address, self.now = calendar, address, now
-        self.events, self.said = Events(), dict[int, int]()
+        self.said: Dict[int, int] = {}
         self.looked: Optional[int] = None
 
     def look(self) -> None:
@@ -105,11 +107,24 @@ class ClockBus:
 
     def take(self) -> Optional[int]:
         self.look()
-        return self.events.take()
+        return super().take()
 
     def forget(self) -> None:
-        self.events.forget()
+        super().forget()
         self.said, self.looked = {}, None
+
+    def greet(self) -> None:
+        """All is said as it is now, so that nothing of before is to be."""
+        self.forget()
+
+    def watch(self, wake: Callable[[], None]) -> None:
+        """Looks as soon as a second begins."""
+        threading.Thread(target=self.wake_each_second, args=[wake], daemon=True).start()
+
+    def wake_each_second(self, wake: Callable[[], None]) -> None:
+        while True:
+            time.sleep(1 - self.now() % 1)
+            wake()
 
     def send(self, bits: int, frame: int, priority: int) -> str:
         return QUIET

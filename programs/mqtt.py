@@ -8,6 +8,7 @@
   --line 0=PATH              the interface of bus 0: a device, a pseudo terminal, or two FIFOs (FROM,TO);
                              each bus from 0 on needs its own. May stand beside --pty
   --folder FOLDER            with --line: where the lines for the controller are, FOLDER/dali0 and so on
+  --patience MS              that of the controller, for which a line may be silent (1000 if none is given)
 
 The broker:
 
@@ -67,7 +68,7 @@ from gushewa_line.ends import end_in_order
 from gushewa_line.gateway import Gateway
 from gushewa_line.program import add_ends, give_up, report, run
 
-# The controller is taken for away from a line that nobody asked for so many seconds.
+# The controller is taken for away from a line that nobody asked for so many seconds, and for longer than two patiences.
 UNASKED_SECONDS = 10.0
 LOOK_SECONDS = 1.0
 
@@ -75,26 +76,20 @@ LOOK_SECONDS = 1.0
 class OwnBus(Gateway):
     """A bus whose levels and events are messages of a broker."""
 
-    def __init__(self, broker: Broker) -> None:
+    def __init__(self, broker: Broker, patience: float) -> None:
         super().__init__(lambda address, level: broker.say(f"lamp/{address_topic(address)}", state_message(level)))
+        self.most_unasked = max(UNASKED_SECONDS, 2 * patience)
         self.asked: Optional[float] = None
         broker.subscribe(["lamp/+/set", "event/+/+"], lambda topic, text: self.events.add(event_of(topic, text)))
 
-    def forget(self) -> None:
-        self.asked = time.monotonic()
-        super().forget()
-
-    def take(self) -> Optional[int]:
-        self.asked = time.monotonic()
-        return super().take()
-
-    def send(self, bits: int, frame: int, priority: int) -> str:
-        self.asked = time.monotonic()
-        return super().send(bits, frame, priority)
+    def note(self, way: str, line: str) -> None:
+        """Notes when the controller asked something last."""
+        if way == "<":
+            self.asked = time.monotonic()
 
     def is_up(self) -> bool:
         """Whether the controller is at its line."""
-        return self.asked is not None and time.monotonic() - self.asked < UNASKED_SECONDS
+        return self.asked is not None and time.monotonic() - self.asked < self.most_unasked
 
 
 class Program:
@@ -105,12 +100,12 @@ class Program:
         self.given = given
         self.broker = connect(given)
         announced = Announced(given.base, given.discovery, self.broker.say_at)
-        self.bus = OwnBus(self.broker) if given.pty or given.fifo else None
+        self.bus = OwnBus(self.broker, given.patience / 1000) if given.pty or given.fifo else None
         self.values = Values(given.status, self.broker, announced) if given.status else None
         paths = lines_of(given.line)
         names = read_names(given.text, given.bind, given.names)
         self.lines = Lines([(path, os.path.join(given.folder, f"dali{bus}")) for bus, path in enumerate(paths)])
-        self.house = House(names, len(paths), self.broker, announced)
+        self.house = House(names, len(paths), self.broker, announced, given.patience / 1000)
         for word in given.lamp:
             announced.lamp(word)
         for word in given.button:
@@ -126,7 +121,7 @@ class Program:
             self.look()
             return
         threading.Thread(target=self.look, daemon=True).start()
-        run(self.bus, self.given)
+        run(self.bus, self.given, self.bus.note)
 
     def look(self) -> None:
         """Says what is seen on the lines, and each second what else there is."""
@@ -168,6 +163,7 @@ def read_words() -> argparse.Namespace:
     add_ends(parser, is_required=False)
     parser.add_argument("--line", action="append", default=[])
     parser.add_argument("--folder")
+    parser.add_argument("--patience", type=int, default=1000)
     parser.add_argument("--broker", default="localhost:1883")
     parser.add_argument("--base", default="gushewa/house")
     parser.add_argument("--discovery", default="homeassistant")

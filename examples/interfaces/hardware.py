@@ -28,7 +28,7 @@ from typing import Callable, Union
 HERE = os.path.dirname(os.path.realpath(__file__))
 sys.path.insert(1, os.path.join(HERE, "../../programs"))  # the library of the line, gushewa_line
 from gushewa_line.ends import PtyEnd  # noqa: E402
-from gushewa_line.line import DAMAGED, LOST, QUIET, Events, Fault, answer, serve  # noqa: E402
+from gushewa_line.line import DAMAGED, LOST, QUIET, Fault, HearingBus, answer, serve  # noqa: E402
 
 
 class Adapter:
@@ -50,16 +50,15 @@ class Adapter:
         raise NotImplementedError
 
 
-class HardwareBus:
+class HardwareBus(HearingBus):
     """An adapter as the line asks it."""
 
     def __init__(self, make_adapter: Callable[[Callable[[int, int], None]], Adapter]) -> None:
-        self.events = Events()
-        self.take, self.forget = self.events.take, self.events.forget
+        super().__init__()
         self.adapter = make_adapter(self.hear)
 
     def hear(self, bits: int, frame: int) -> None:
-        """A frame of another device came. A library may say so in a thread of its own."""
+        """A frame of another device came. A library may say so in a thread of its own, also while a frame is sent."""
         if bits == 24:
             self.events.add(frame)
 

@@ -21,6 +21,7 @@ The bus (gear.py says what the gear knows, and devices.py what the control devic
   --seed NUMBER           the seed of the random addresses behind these
   --button 0A8809:3       an event message (here device 5, instance 2) each three seconds. May
                           stand again
+  --counter 0A8800:3      the same, with an information (0 to 1023) that is one more each time
   --real                  takes the time that frames take on a bus of 1200 baud
   --lose N                one frame in N, by chance, meets a collision
 
@@ -41,8 +42,9 @@ may stand again, for another request:
   --end-at N              ends
   --fault-at N            answers `fault` to this request after a greeting and to all behind it
   --echo                  sends each request back before its answer
-  --flood                 has an event each time that it is asked for one
+  --flood                 has an event each time that it is asked for one; in version 3 one each millisecond
   --version-1             speaks version 1 of the line alone
+  --version-2             speaks versions 1 and 2 of the line alone
 """
 
 from __future__ import annotations
@@ -51,6 +53,7 @@ import argparse
 import os
 import random
 import sys
+import threading
 import time
 from typing import Callable, List, Optional, Sequence, TextIO
 
@@ -59,7 +62,7 @@ sys.path.insert(1, os.path.join(HERE, "../../programs"))  # the library of the l
 from addresses import random_addresses  # noqa: E402
 from devices import BUTTON, LIGHT, OCCUPANCY, AllDevices, Device  # noqa: E402
 from gear import AllGear, Gear  # noqa: E402
-from gushewa_line.line import LOST, QUIET, Events, note_nothing  # noqa: E402
+from gushewa_line.line import LOST, QUIET, HearingBus, note_nothing  # noqa: E402
 from gushewa_line.program import add_ends, end_of, give_up  # noqa: E402
 from trouble import TroubledInterface, add_words, plan_of  # noqa: E402
 
@@ -68,48 +71,48 @@ FRAME_TIMES = {16: 0.0165, 24: 0.0231}
 ANSWER_TIME, WAIT_TIME = 0.0155, 0.0105
 # The instances of control devices without an address.
 BUTTONS, SENSORS = (BUTTON,) * 4, (OCCUPANCY, LIGHT)
+LAST_INFORMATION = 0x3FF
 
 
 class Button:
-    """An event message that comes again and again."""
+    """An event message that comes again and again, with the same information or one that counts up."""
 
-    def __init__(self, text: str) -> None:
+    def __init__(self, text: str, counts: bool = False) -> None:
         event, seconds = text.split(":")
-        self.event, self.seconds = int(event, 16), float(seconds)
+        self.event, self.seconds, self.counts = int(event, 16), float(seconds), counts
         self.next = time.monotonic() + self.seconds
 
-    def presses(self) -> int:
-        """How often it was pressed since it was asked last."""
-        count = 0
-        while time.monotonic() >= self.next:
-            self.next += self.seconds
-            count += 1
-        return count
+    def press(self) -> int:
+        """The event of the press that is due now."""
+        event = self.event
+        self.next += self.seconds
+        if self.counts:
+            self.event = event & ~LAST_INFORMATION | event + 1 & LAST_INFORMATION
+        return event
 
 
-class SimulatedBus:
+class SimulatedBus(HearingBus):
     """Gear, control devices, and buttons."""
 
     def __init__(
         self, gear: AllGear, devices: AllDevices, buttons: Sequence[Button], given: argparse.Namespace
     ) -> None:
+        super().__init__()
         self.gear, self.devices, self.buttons = gear, devices, buttons
         self.has_bus_time, self.lose = given.real, given.lose
         self.chance = random.Random(given.seed)
-        self.events = Events()
+
+    def watch(self, wake: Callable[[], None]) -> None:
+        super().watch(wake)
+        if self.buttons:
+            threading.Thread(target=self.press_buttons, daemon=True).start()
 
     def press_buttons(self) -> None:
-        for button in self.buttons:
-            for _ in range(button.presses()):
-                self.events.add(button.event)
-
-    def take(self) -> Optional[int]:
-        self.press_buttons()
-        return self.events.take()
-
-    def forget(self) -> None:
-        self.press_buttons()
-        self.events.forget()
+        """Presses each button at its time."""
+        while True:
+            button = min(self.buttons, key=lambda it: it.next)
+            time.sleep(max(0.0, button.next - time.monotonic()))
+            self.events.add(button.press())
 
     def send(self, bits: int, frame: int, priority: int) -> str:
         self.spend(FRAME_TIMES[bits])
@@ -168,10 +171,14 @@ def devices_of(given: argparse.Namespace, chance: Callable[[], int]) -> List[Dev
 
 def noting(log: Optional[TextIO]) -> Callable[[str, str], None]:
     """Writes each line down, with the seconds since now."""
-    start = time.monotonic()
     if log is None:
         return note_nothing
-    return lambda way, line: print(f"{time.monotonic() - start:.4f} {way} {line}", file=log)
+    start, write = time.monotonic(), log.write
+
+    def note(way: str, line: str) -> None:
+        write(f"{time.monotonic() - start:.4f} {way} {line}\n")  # in one piece, since two threads note
+
+    return note
 
 
 def read_words() -> argparse.Namespace:
@@ -180,7 +187,7 @@ def read_words() -> argparse.Namespace:
     parser.add_argument("--gear", default="0,1,2,3,4,5,6,7")
     parser.add_argument("--unaddressed", type=int, default=0)
     parser.add_argument("--unaddressed-devices", type=int, default=0)
-    for option in ("--type", "--group", "--scene", "--device", "--button"):
+    for option in ("--type", "--group", "--scene", "--device", "--button", "--counter"):
         parser.add_argument(option, action="append", default=[])
     parser.add_argument("--random", default="")
     parser.add_argument("--seed", type=int)
@@ -198,7 +205,8 @@ def main() -> None:
     chance = chance_of(given)
     gear = AllGear(gear_of(given, chance), given.real)
     devices = AllDevices(devices_of(given, chance), given.real)
-    bus = SimulatedBus(gear, devices, [Button(text) for text in given.button], given)
+    buttons = [Button(text) for text in given.button] + [Button(text, True) for text in given.counter]
+    bus = SimulatedBus(gear, devices, buttons, given)
     try:
         time.sleep(given.start_after)
         TroubledInterface(bus, end_of(given), note, plan_of(given)).serve()

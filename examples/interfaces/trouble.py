@@ -2,7 +2,7 @@
 
 A `Trouble` is met at one request after a greeting, in place of the answer. `TroubledInterface` has
 a plan of them, and three ways to be out of order all the time: it sends requests back, has an event
-each time, or speaks version 1 alone.
+each time, or speaks an old version alone.
 """
 
 from __future__ import annotations
@@ -10,19 +10,23 @@ from __future__ import annotations
 import argparse
 import dataclasses
 import select
+import threading
 import time
 from typing import Callable, Dict, List, Optional
 
 from gushewa_line.ends import End, PtyEnd
 from gushewa_line.line import (
     FAULT,
-    Bus,
+    THIRD,
     Interface,
+    TellingBus,
     answer_to_greeting,
     first_answer_to_greeting,
+    second_answer_to_greeting,
 )
 
 FLOOD_EVENT = 0x0A8809
+FLOOD_SECONDS = 0.001
 BABBLE = (b"babble " * 8 + b"\n") * 8
 
 
@@ -46,6 +50,7 @@ class Plan:
     echoes: bool = False
     floods: bool = False
     is_version_1: bool = False
+    is_version_2: bool = False
 
     def due(self, at: int) -> Optional[Trouble]:
         """The trouble that is met at this request after a greeting."""
@@ -59,26 +64,46 @@ class Plan:
 class FloodedBus:
     """A bus on which somebody holds all buttons down."""
 
-    def __init__(self, bus: Bus) -> None:
-        self.send, self.forget = bus.send, bus.forget
+    def __init__(self, bus: TellingBus) -> None:
+        self.send = bus.send
+        self.next: Optional[float] = None  # in version 3: when the next event comes
+
+    def forget(self) -> None:
+        self.next = None
+
+    def greet(self) -> None:
+        self.next = time.monotonic()
 
     def take(self) -> Optional[int]:
+        if self.next is None:
+            return FLOOD_EVENT
+        if time.monotonic() < self.next:
+            return None
+        self.next = time.monotonic() + FLOOD_SECONDS
         return FLOOD_EVENT
+
+    def watch(self, wake: Callable[[], None]) -> None:
+        threading.Thread(target=self.wake_again, args=[wake], daemon=True).start()
+
+    def wake_again(self, wake: Callable[[], None]) -> None:
+        while True:
+            time.sleep(FLOOD_SECONDS)
+            wake()
 
 
 class TroubledInterface(Interface):
     """An interface with a plan of its troubles."""
 
-    def __init__(self, bus: Bus, end: End, note: Callable[[str, str], None], plan: Plan) -> None:
-        to_greeting = first_answer_to_greeting if plan.is_version_1 else answer_to_greeting
-        super().__init__(FloodedBus(bus) if plan.floods else bus, end, note, to_greeting)
+    def __init__(self, bus: TellingBus, end: End, note: Callable[[str, str], None], plan: Plan) -> None:
+        super().__init__(FloodedBus(bus) if plan.floods else bus, end, note, greeting_of(plan))
         self.plan = plan
         self.count = 0
 
     def meet(self, request: str) -> None:
         self.count = 0 if self.to_greeting(request) else self.count + 1
         if self.plan.echoes:
-            self.end.say(request)
+            with self.lock:
+                self.end.say(request)
         trouble = self.plan.due(self.count)
         if trouble:
             self.note("!", f"{trouble.what} {trouble.seconds}")
@@ -99,16 +124,22 @@ class TroubledInterface(Interface):
         }
 
     def be_silent(self, request: str, seconds: float) -> None:
-        """Answers later. What is asked meanwhile waits on the line, and is answered then."""
-        line = self.answer(request)
-        time.sleep(seconds)
-        self.say(line)
+        """Answers later, and says nothing meanwhile. What is asked then waits on the line."""
+        with self.lock:
+            line = self.answer(request)
+            time.sleep(seconds)
+            self.say(line)
+            if self.end.version == THIRD:
+                self.say_events()
 
     def say_half(self, request: str, seconds: float) -> None:
-        line = self.answer(request)
-        half = line[: (len(line) + 1) // 2]
-        self.note(">", f"{half} and no more")
-        self.end.write(half.encode("ascii"))
+        """Says half an answer, and nothing behind it until it is greeted again."""
+        with self.lock:
+            line = self.answer(request)
+            half = line[: (len(line) + 1) // 2]
+            self.note(">", f"{half} and no more")
+            self.end.write(half.encode("ascii"))
+            self.end.version = min(self.end.version, 2)
 
     def be_unplugged(self, request: str, seconds: float) -> None:
         self.end.unplug()
@@ -118,13 +149,23 @@ class TroubledInterface(Interface):
     def babble(self, request: str, seconds: float) -> None:
         """Writes lines that nobody asked for, and then the answer."""
         end = time.monotonic() + seconds
-        while time.monotonic() < end:
-            if not isinstance(self.end, PtyEnd) or select.select([], [self.end.ours], [], 0.1)[1]:
-                self.end.write(BABBLE)
+        with self.lock:
+            while time.monotonic() < end:
+                if not isinstance(self.end, PtyEnd) or select.select([], [self.end.ours], [], 0.1)[1]:
+                    self.end.write(BABBLE)
         super().meet(request)
 
     def leave(self, request: str, seconds: float) -> None:
         raise SystemExit
+
+
+def greeting_of(plan: Plan) -> Callable[[str], Optional[str]]:
+    """What answers a greeting, by the newest version that is spoken."""
+    if plan.is_version_1:
+        return first_answer_to_greeting
+    if plan.is_version_2:
+        return second_answer_to_greeting
+    return answer_to_greeting
 
 
 def add_words(parser: argparse.ArgumentParser) -> None:
@@ -132,7 +173,7 @@ def add_words(parser: argparse.ArgumentParser) -> None:
     for what in ("silent-at", "half-at", "fault-once", "unplug-at", "babble-at", "end-at"):
         parser.add_argument(f"--{what}", action="append", default=[])
     parser.add_argument("--fault-at", type=int)
-    for word in ("again", "echo", "flood", "version-1"):
+    for word in ("again", "echo", "flood", "version-1", "version-2"):
         parser.add_argument(f"--{word}", action="store_true")
 
 
@@ -143,4 +184,4 @@ def plan_of(given: argparse.Namespace) -> Plan:
         for word in getattr(given, option):
             at, _, seconds = word.partition(":")
             troubles.append(Trouble(int(at), option.split("_")[0], float(seconds or 0)))
-    return Plan(troubles, given.again, given.fault_at, given.echo, given.flood, given.version_1)
+    return Plan(troubles, given.again, given.fault_at, given.echo, given.flood, given.version_1, given.version_2)

@@ -25,9 +25,9 @@ MOST_BYTES = 4_000_000  # of a status
 class House:
     """The buses whose lines are seen. Each change is said."""
 
-    def __init__(self, names: Names, buses: int, broker: Broker, announced: Announced) -> None:
+    def __init__(self, names: Names, buses: int, broker: Broker, announced: Announced, patience: float = 1.0) -> None:
         self.names, self.broker, self.announced = names, broker, announced
-        self.building = Building(names, buses)
+        self.building = Building(names, buses, patience)
         self.lamps: Dict[Place, str] = {}
         self.shown: Set[Union[Place, Source]] = set()
         for bus in range(buses):

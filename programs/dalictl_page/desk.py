@@ -128,7 +128,9 @@ class Desk(Watched):
             for line in self.browser.channel.read() if self.browser.channel else []:
                 if line != READY:
                     number, bus, frame = line.split(" ")
-                    self.wires[int(bus)].relay.press(number, int(frame, 16), time.monotonic())
+                    wire = self.wires[int(bus)]
+                    wire.press(number, int(frame, 16))
+                    self.watch(wire, wire.interests())
         except OSError:
             self.lose_browser()
 

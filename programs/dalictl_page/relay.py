@@ -1,8 +1,9 @@
 """What passes over the line of one bus, from the controller to its interface and back.
 
 All bytes are passed on as they came, and nothing is added on the way to the interface. So no frame
-is sent that the controller did not ask for. On the way back one answer may be changed: where the
-interface answers `hear` by `none`, and an event was put in by hand, the answer is this event.
+is sent that the controller did not ask for. On the way back an event that was put in by hand is said:
+in version 3 of the line at once between two lines, and in versions 1 and 2 in place of a `none` with
+which the interface answers `hear`.
 """
 
 from __future__ import annotations
@@ -11,11 +12,10 @@ import collections
 from typing import Callable, Deque, NamedTuple, Optional
 
 from gushewa_line.controller import BACKWARD, EVENT
-from gushewa_line.line import answer_to_greeting
+from gushewa_line.line import HEAR, NONE, THIRD, answer_to_greeting, event_line, version_of
 
 # No request has more bytes, and no answer (docs/LINES.md).
 MOST_BYTES = 64
-HEAR, NONE = "hear", "none"
 # An event by hand that the controller did not hear within this time is dropped: a press of some
 # minutes ago must not switch a light now.
 PRESS_SECONDS = 2.0
@@ -24,7 +24,7 @@ OPEN, GREETED = "open", "greeted"
 
 
 class Press(NamedTuple):
-    """An event that was put in by hand, and waits for a `hear`."""
+    """An event that was put in by hand, and waits for a `hear`, or for the end of a line."""
 
     number: str
     frame: int
@@ -47,7 +47,7 @@ class Relay:
     def begin(self) -> None:
         """The line begins, or begins anew: nothing of before counts."""
         self.request, self.answer, self.held = b"", b"", b""
-        self.asked, self.asked_at, self.is_greeted = "", 0.0, False
+        self.asked, self.asked_at, self.is_greeted, self.version = "", 0.0, False, 0
         self.drop_presses()
 
     # From the controller to the interface.
@@ -80,6 +80,7 @@ class Relay:
             self.answer = (self.answer + end)[:MOST_BYTES]
             passed += self.end_answer(self.held + end, now)
             self.answer = self.held = b""
+            passed += self.pass_presses(now)
         self.answer = (self.answer + rest)[:MOST_BYTES]
         self.held += rest
         if not NONE.encode().startswith(self.answer):
@@ -90,12 +91,14 @@ class Relay:
     def end_answer(self, left: bytes, now: float) -> bytes:
         """What goes to the controller at the end of an answer, of which this is left to pass on."""
         line = shown(self.answer)
+        if self.is_greeted and self.version == THIRD and EVENT.fullmatch(line):
+            self.tell(">", line)  # it answers nothing
+            return left + b"\n"
         if self.asked != HEAR or line != NONE:
             self.tell(">", line)
             self.judge(line)
-        elif press := self.next_press(now):  # of a `none` nothing was passed on yet
-            self.tell("+", f"{press.number} {press.frame:06X}")
-            left = b"event %06X" % press.frame
+        elif self.version != THIRD and (press := self.next_press(now)):  # of a `none` nothing was passed on yet
+            left = self.say_press(press)
         if not self.waits_for_greeting():
             self.asked = ""
         return left + b"\n"
@@ -108,7 +111,7 @@ class Relay:
         greeted = answer_to_greeting(self.asked)
         if greeted is not None:
             if line == greeted:  # else it is an answer of before, which the controller passes over
-                self.is_greeted = True
+                self.is_greeted, self.version = True, version_of(line)
                 self.tell("=", GREETED)
         elif self.is_greeted and not is_answer(self.asked, line):
             self.is_greeted = False
@@ -117,11 +120,22 @@ class Relay:
     # Events by hand.
 
     def press(self, number: str, frame: int, now: float) -> None:
-        """Puts an event in, which the next idle `hear` gets; or drops it, where nobody hears."""
+        """Puts an event in, which `pass_presses` or the next idle `hear` gets; or drops it, where nobody hears."""
         if self.is_greeted and len(self.presses) < MOST_PRESSES:
             self.presses.append(Press(number, frame, now + PRESS_SECONDS))
         else:
             self.tell("-", f"{number} {frame:06X}")
+
+    def pass_presses(self, now: float) -> bytes:
+        """What goes to the controller now of what was put in: in version 3 all of it, where no line is half said."""
+        passed = b""
+        while self.is_greeted and self.version == THIRD and not self.answer and (press := self.next_press(now)):
+            passed += self.say_press(press) + b"\n"
+        return passed
+
+    def say_press(self, press: Press) -> bytes:
+        self.tell("+", f"{press.number} {press.frame:06X}")
+        return event_line(press.frame).encode("ascii")
 
     def next_press(self, now: float) -> Optional[Press]:
         self.drop_old(now)

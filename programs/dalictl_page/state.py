@@ -23,7 +23,7 @@ UP, DOWN = "up", "down"
 FRAME = re.compile(r"send [1-5] ([0-9A-F]{4}|[0-9A-F]{6})")
 EVENT = re.compile(r"event ([0-9A-Fa-f]{6})")
 MINUTES = 60
-# The building is taken for ended where nobody asked a line for so many seconds.
+# The building is taken for ended where nobody asked a line for so many seconds, and for longer than two patiences.
 UNASKED_SECONDS = 5
 # More sources than these are not shown: an interface may say whatever it likes.
 MOST_SOURCES, MOST_NOTES = 1024, 40
@@ -112,6 +112,8 @@ class Building:
 
     def __init__(self, names: Names, buses: int, patience: float = 1.0) -> None:
         self.names, self.patience = names, patience
+        # An idle line of version 3 is asked once each patience.
+        self.most_unasked = max(UNASKED_SECONDS, int(2 * patience) + 1)
         self.buses = [Bus() for _ in range(buses)]
         self.lamps: Dict[Place, Lamp] = {place: Lamp() for place in names.lamps if place[0] < buses}
         self.sources: Dict[Source, Optional[Said]] = {it: None for it in names.sources if it.bus < buses}
@@ -152,7 +154,7 @@ class Building:
         if waits >= 1000 * self.patience:
             bus.is_greeted = False
             self.turn(sight, DOWN, f"silent for {self.patience:g} s")
-        elif bus.unasked >= UNASKED_SECONDS:
+        elif bus.unasked >= self.most_unasked:
             self.turn(sight, DOWN, NOBODY_ASKS)
         elif bus.why == NOBODY_ASKS and requests:
             self.turn(sight, UP, "the controller asks again")
@@ -171,7 +173,8 @@ class Building:
         if event:
             bus.heard += 1
             self.note_event(sight, int(event[1], 16), False)
-        elif bus.frame:
+            return  # in version 3 a frame may be under way, and its answer comes later
+        if bus.frame:
             bus.sent += 1
             if sight.text == LOST:
                 bus.lost.add(sight.at)

@@ -124,6 +124,18 @@ class Wire:
         except (OSError, EOFError):
             self.close("closed")
 
+    def press(self, number: str, frame: int) -> None:
+        """Puts in an event by hand."""
+        now = time.monotonic()
+        self.relay.press(number, frame, now)
+        if self.end is None:
+            return
+        try:
+            self.to_controller += self.relay.pass_presses(now)
+            write_some(self.end.ours, self.to_controller)
+        except OSError:
+            self.close("closed")
+
     def look(self) -> Tuple[int, int]:
         """The requests since the last look, and the milliseconds for which one waits for its answer."""
         now = time.monotonic()

@@ -8,6 +8,7 @@ static struct line line;
 static struct wave wave;
 static struct events events;
 static bool is_sending;
+static bool is_hearing; /* in version 3: `none` is still to be said */
 
 void interface_begin(void)
 {
@@ -16,6 +17,7 @@ void interface_begin(void)
     events_forget(&events);
     wave_begin(&wave, &events, board_microseconds(), board_reads_active());
     is_sending = false;
+    is_hearing = false;
 }
 
 void interface_tick(void)
@@ -59,20 +61,45 @@ static void begin_sending(const struct line_frame *frame)
     is_sending = true;
 }
 
+static bool take_event(uint32_t *frame)
+{
+    board_lock();
+    const bool has_event = events_take(&events, frame);
+    board_unlock();
+    return has_event;
+}
+
 static void hear(void)
 {
     uint32_t frame;
-    board_lock();
-    const bool has_event = events_take(&events, &frame);
-    board_unlock();
-    if (has_event)
+    if (line.version == 3)
+        is_hearing = true;
+    else if (take_event(&frame))
         line_answer_event(&line, frame);
     else
         line_answer(&line, "none");
 }
 
+/* In version 3 says an event as soon as it has come, whether or not something is asked, and `none` once nothing waits.
+ */
+static void say_events(void)
+{
+    uint32_t frame;
+    if (!line_may_say_event(&line))
+        return;
+    if (take_event(&frame)) {
+        line_say_event(&line, frame);
+    } else if (is_hearing) {
+        is_hearing = false;
+        line_answer(&line, "none");
+    }
+}
+
+/* In version 3 nothing is forgotten: it is said behind the answer to the greeting. */
 static void forget(void)
 {
+    if (line.version == 3)
+        return;
     board_lock();
     events_forget(&events);
     board_unlock();
@@ -105,6 +132,7 @@ void interface_poll(void)
         end_sending();
     else
         meet_request();
+    say_events();
     while (line_give_byte(&line, &byte) && board_give_byte(byte))
         line_byte_is_given(&line);
 }

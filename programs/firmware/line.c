@@ -5,6 +5,7 @@
 enum { DIGITS_MOST = 20, LINE_FEED = 10 };
 
 static const char GREETING[] = "gushewa 2 ";
+static const char THIRD_GREETING[] = "gushewa 3 ";
 static const char FIRST_GREETING[] = "gushewa 1";
 
 void line_begin(struct line *line)
@@ -25,9 +26,14 @@ static void add_words(struct line *line, const char *words)
     add(line, words, (uint8_t)strlen(words));
 }
 
-static void end_answer(struct line *line)
+static void end_line(struct line *line)
 {
     line->answer[line->answer_length++] = LINE_FEED;
+}
+
+static void end_answer(struct line *line)
+{
+    end_line(line);
     line->is_asked = false;
 }
 
@@ -46,12 +52,24 @@ void line_answer_byte(struct line *line, uint8_t byte)
     end_answer(line);
 }
 
-void line_answer_event(struct line *line, uint32_t frame)
+bool line_may_say_event(const struct line *line)
+{
+    return line->version == 3 && line->answer_length == 0;
+}
+
+/* What was asked is still to be answered. */
+void line_say_event(struct line *line, uint32_t frame)
 {
     add_words(line, "event ");
     for (int shift = 20; shift >= 0; shift -= 4)
         add(line, &"0123456789ABCDEF"[frame >> shift & 15], 1);
-    end_answer(line);
+    end_line(line);
+}
+
+void line_answer_event(struct line *line, uint32_t frame)
+{
+    line_say_event(line, frame);
+    line->is_asked = false;
 }
 
 bool line_give_byte(const struct line *line, uint8_t *byte)
@@ -106,26 +124,38 @@ static bool ends_with(const struct line *line, uint8_t length, const char *words
     return length >= size && memcmp(line->request + length - size, words, size) == 0;
 }
 
-/* How many digits stand at the end of a greeting; 0 where it is none. */
-static uint8_t digits_of_greeting(const struct line *line)
+/* How many digits stand at the end of a greeting of version 2 or 3; 0 where it is none. */
+static uint8_t digits_of_greeting(const struct line *line, const char *greeting)
 {
     uint8_t digits = 0;
     while (digits < line->length && line->request[line->length - 1 - digits] >= '0' &&
            line->request[line->length - 1 - digits] <= '9')
         digits++;
-    if (digits > DIGITS_MOST || !ends_with(line, (uint8_t)(line->length - digits), GREETING))
+    if (digits > DIGITS_MOST || !ends_with(line, (uint8_t)(line->length - digits), greeting))
         return 0;
     return digits;
 }
 
+static bool answer_numbered(struct line *line, const char *greeting)
+{
+    const uint8_t digits = digits_of_greeting(line, greeting);
+    if (!digits)
+        return false;
+    add_words(line, greeting);
+    add_words(line, "hears ");
+    add(line, line->request + line->length - digits, digits);
+    return true;
+}
+
 static bool is_greeting(struct line *line)
 {
-    const uint8_t digits = digits_of_greeting(line);
-    if (digits) {
-        add_words(line, "gushewa 2 hears ");
-        add(line, line->request + line->length - digits, digits);
+    if (answer_numbered(line, THIRD_GREETING)) {
+        line->version = 3;
+    } else if (answer_numbered(line, GREETING)) {
+        line->version = 2;
     } else if (ends_with(line, line->length, FIRST_GREETING)) {
         add_words(line, FIRST_GREETING);
+        line->version = 1;
     } else {
         return false;
     }

@@ -1,8 +1,9 @@
-/* The line of docs/LINES.md, version 2, as bytes in and bytes out. It knows no bus and no serial port.
+/* The line of docs/LINES.md, version 3, as bytes in and bytes out. It knows no bus and no serial port.
  *
  *   line_take_byte    for each byte that the controller wrote
  *   line_next         the next request that something has to be done for
  *   line_answer, ..   what came of it
+ *   line_say_event    an event of version 3, before an answer or where nobody asks
  *   line_give_byte    each byte that goes back to the controller
  *
  * A request is read once the one before it was answered and its answer was given away. Bytes wait until then. Where
@@ -21,8 +22,8 @@ enum {
 
 enum line_wish {
     LINE_NOTHING, /* no whole request, or one that the line answered itself */
-    LINE_GREETED, /* the line answered it; the events that wait are to be forgotten */
-    LINE_HEAR,    /* line_answer_event, or line_answer of "none" */
+    LINE_GREETED, /* the line answered it; the events that wait are to be forgotten, but for version 3 */
+    LINE_HEAR,    /* line_answer_event, or line_answer of "none"; in version 3 the second, behind all events */
     LINE_SEND     /* line_answer_byte, or line_answer of "quiet", "damaged", "lost" or "fault" */
 };
 
@@ -41,6 +42,7 @@ struct line {
     char answer[LINE_ANSWER];
     uint8_t answer_length, given;
     bool is_asked; /* a wish was handed out, and its answer is still to come */
+    uint8_t version; /* of the last greeting; 0 where nobody has greeted */
 };
 
 void line_begin(struct line *line);
@@ -49,6 +51,10 @@ enum line_wish line_next(struct line *line, struct line_frame *frame);
 void line_answer(struct line *line, const char *words);
 void line_answer_byte(struct line *line, uint8_t byte);
 void line_answer_event(struct line *line, uint32_t frame);
+
+/* Whether an event may be said now by itself: the line was greeted in version 3, and no other line is being given. */
+bool line_may_say_event(const struct line *line);
+void line_say_event(struct line *line, uint32_t frame);
 
 /* The next byte of an answer, or false where there is none. It is given once line_byte_is_given says so. */
 bool line_give_byte(const struct line *line, uint8_t *byte);

@@ -5,16 +5,19 @@
     controller.send(0x0A80)                     # 'quiet', 'answer 5', 'damaged' or 'lost'
     controller.hear()                           # a 24-bit frame, or None
 
-It sets nothing of a serial device: docs/LIVE.md, 'A serial device', has the command that does.
+It greets in version 3, and where the interface does not know that in version 2 and then in version 1. It sets nothing of a serial device: docs/LIVE.md, 'A serial device', has the command that does.
 """
 
 from __future__ import annotations
 
+import collections
 import os
 import re
 import select
 import time
-from typing import Optional
+from typing import Deque, Optional
+
+from gushewa_line.line import FIRST_GREETING, HEAR, NONE, THIRD, answer_to_greeting
 
 MOST_PASSED_OVER = 64
 SILENT_SECONDS = 0.3
@@ -30,12 +33,20 @@ class Line:
     """The controller's end of a line."""
 
     def __init__(self, path: str) -> None:
-        if "," in path:
-            source, sink = path.split(",")
+        self.path = path
+        self.open()
+
+    def open(self) -> None:
+        """Opens the line. Nobody has greeted yet."""
+        if "," in self.path:
+            source, sink = self.path.split(",")
             self.source, self.sink = os.open(source, os.O_RDONLY), os.open(sink, os.O_WRONLY)
         else:
-            self.source = self.sink = os.open(path, os.O_RDWR | os.O_NOCTTY)
+            self.source = self.sink = os.open(self.path, os.O_RDWR | os.O_NOCTTY)
         self.left = b""
+        # The version in which it was greeted, and the events that came and were not asked for.
+        self.version = 0
+        self.events: Deque[str] = collections.deque()
 
     def write(self, text: str) -> None:
         os.write(self.sink, text.encode("ascii"))
@@ -57,37 +68,58 @@ class Line:
         return line.decode("ascii", "backslashreplace")
 
     def ask(self, request: str, seconds: float = 5.0) -> Optional[str]:
-        """The line that answers a request, or None."""
+        """The line that answers a request, or None. In version 3 the events before it are kept in `events`."""
         self.write(request + "\n")
-        return self.read(seconds)
+        end = time.monotonic() + seconds
+        while True:
+            line = self.read(max(0.0, end - time.monotonic()))
+            if self.version != THIRD or line is None or not EVENT.fullmatch(line):
+                return line
+            self.events.append(line)
 
-    def greet(self, before: str = "", seconds: float = 5.0) -> Optional[str]:
+    def greet(self, before: str = "", seconds: float = 5.0, newest: int = THIRD) -> Optional[str]:
         """Greets, with this before it. Returns what answered it, or None where nothing did.
 
-        An interface of version 1 answers `fault`, and then a greeting of version 1.
+        It greets in the newest version. Where the interface answers `fault`, it greets in the one before.
         """
-        greeting = f"gushewa 2 {time.time_ns() // 1_000_000}"
-        self.write(f"{before}{greeting}\n")
-        is_refused = False
-        for _ in range(MOST_PASSED_OVER + 1):
-            line = self.read(SILENT_SECONDS if is_refused else seconds)
-            if line == answer_to(greeting):
-                return line
-            if line is None:
-                break
-            is_refused = is_refused or line == "fault"
-        if is_refused and self.ask("gushewa 1", seconds) == "gushewa 1":
-            return "gushewa 1"
-        return None
+        self.version = 0
+        for version in range(newest, 1, -1):
+            greeting = f"gushewa {version} {time.time_ns() // 1_000_000}"
+            self.write(f"{before}{greeting}\n")
+            is_refused, before = False, ""
+            for _ in range(MOST_PASSED_OVER + 1):
+                line = self.read(SILENT_SECONDS if is_refused else seconds)
+                if line == answer_to(greeting):
+                    self.version = version
+                    return line
+                if line is None:
+                    break
+                is_refused = is_refused or line == "fault"
+            if not is_refused:
+                return None
+        return self.greet_first(seconds)
+
+    def greet_first(self, seconds: float) -> Optional[str]:
+        """Greets in version 1, in which nothing is passed over."""
+        if self.ask(FIRST_GREETING, seconds) != FIRST_GREETING:
+            return None
+        self.version = 1
+        return FIRST_GREETING
 
     def close(self) -> None:
         for file in {self.source, self.sink}:
             os.close(file)
 
+    def open_again(self, seconds: float) -> None:
+        """Closes the line, and opens it this time later."""
+        self.close()
+        time.sleep(seconds)
+        self.open()
 
-def answer_to(greeting: str) -> str:
-    """How an interface answers a greeting of version 2."""
-    return greeting.replace("gushewa 2", "gushewa 2 hears")
+
+def answer_to(greeting: str) -> Optional[str]:
+    """How an interface answers a greeting of version 2 or 3."""
+    return answer_to_greeting(greeting)
 
 
 class LineFailed(Exception):
@@ -140,8 +172,14 @@ class Controller:
 
     def hear(self) -> Optional[int]:
         """The oldest event that waits, or None."""
-        came = self.ask("hear")
+        came = self.event_that_came() or self.ask(HEAR)
+        if came == NONE:
+            came = self.event_that_came() or NONE
         event = EVENT.fullmatch(came)
-        if not event and came != "none":
+        if not event and came != NONE:
             raise LineFailed(f"the interface says {came!r}")
         return int(event[1], 16) if event else None
+
+    def event_that_came(self) -> Optional[str]:
+        """The oldest event that the interface said by itself, or before an answer, and that nobody heard yet."""
+        return self.line.events.popleft() if self.line and self.line.events else None

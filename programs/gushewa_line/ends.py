@@ -4,11 +4,13 @@ from __future__ import annotations
 
 import abc
 import atexit
+import fcntl
 import os
 import pty
 import select
 import signal
 import stat
+import struct
 import termios
 import tty
 from typing import IO, Any, Optional, Set
@@ -16,6 +18,7 @@ from typing import IO, Any, Optional, Set
 # No request is longer, with half a request before it.
 MOST_BYTES = 64
 CLOSED = -1
+UNREAD_SECONDS = 1.0
 ENDING = (signal.SIGTERM, signal.SIGINT, signal.SIGHUP)
 
 
@@ -24,9 +27,8 @@ class End(abc.ABC):
 
     def __init__(self) -> None:
         self.left = b""
-        # Whether what the controller left unread is dropped. One of version 1 would take it for the
-        # answer to its greeting; one of version 2 passes over it.
-        self.drops_unread = True
+        # In which version the line was greeted; 0 where nobody has since it was made.
+        self.version = 0
 
     @abc.abstractmethod
     def read(self) -> bytes:
@@ -35,6 +37,10 @@ class End(abc.ABC):
     @abc.abstractmethod
     def write(self, data: bytes) -> None:
         """Gives these bytes to the controller."""
+
+    @abc.abstractmethod
+    def has_room(self) -> bool:
+        """Whether a line would be taken at once."""
 
     @abc.abstractmethod
     def plug(self) -> None:
@@ -86,7 +92,10 @@ class PtyEnd(End):
         self.plug()
 
     def plug(self) -> None:
-        self.left = b""
+        self.left, self.version = b"", 0
+        # How many bytes were written in all, and were up to the last look; how many were unread then; whether nobody reads.
+        self.written = self.looked = self.unread = 0
+        self.is_away = False
         THERE.add(self)
         self.ours, self.theirs = pty.openpty()
         tty.setraw(self.theirs)  # no echo, no translation; kept open, so that it stays so
@@ -98,6 +107,7 @@ class PtyEnd(End):
     def unplug(self) -> None:
         """Ends the line. The link goes first, as long as nobody else has the number."""
         THERE.discard(self)
+        self.version = 0
         if self.theirs == CLOSED:
             return
         if self.is_linked():
@@ -114,13 +124,35 @@ class PtyEnd(End):
             return False
 
     def read(self) -> bytes:
-        while not select.select([self.ours], [], [], 1)[0]:
-            if self.drops_unread:
+        while not select.select([self.ours], [], [], UNREAD_SECONDS)[0]:
+            if self.drops_unread():
                 # What was not read by now was for a controller that has ended.
                 termios.tcflush(self.theirs, termios.TCIFLUSH)
+        self.is_away = False
         return os.read(self.ours, 256)
 
+    def drops_unread(self) -> bool:
+        """Whether what the controller left unread is dropped now.
+
+        One of version 1 would take it for the answer to its greeting. One of version 2 passes over it: it is one answer
+        at most. In version 3 events are said whether or not a controller is there, and more of them might wait than a
+        controller passes over: they are dropped where what waited at the last look was not read since.
+        """
+        written, unread = self.written, self.count_unread()
+        is_unmoved = unread == self.unread + written - self.looked
+        self.is_away = is_unmoved and (self.unread > 0 or self.is_away)
+        self.looked, self.unread = written, 0 if self.is_away else unread
+        return self.version < 2 or self.version == 3 and self.is_away
+
+    def count_unread(self) -> int:
+        """How many bytes the controller did not read yet."""
+        return int(struct.unpack("i", fcntl.ioctl(self.theirs, termios.FIONREAD, b"\0" * 4))[0])
+
+    def has_room(self) -> bool:
+        return self.ours != CLOSED and bool(select.select([], [self.ours], [], 0)[1])
+
     def write(self, data: bytes) -> None:
+        self.written += len(data)
         while data:
             data = data[os.write(self.ours, data) :]
 
@@ -141,6 +173,7 @@ class FifoEnd(End):
 
     def plug(self) -> None:
         """Waits for a controller, which opens its source first, and then its sink."""
+        self.version = 0
         self.drop_unread()
         self.out: IO[bytes] = open(self.source, "wb", buffering=0)
         self.into: IO[bytes] = open(self.sink, "rb", buffering=0)
@@ -154,6 +187,7 @@ class FifoEnd(End):
         os.close(left_over)
 
     def unplug(self) -> None:
+        self.version = 0
         self.out.close()
         self.into.close()
 
@@ -162,6 +196,9 @@ class FifoEnd(End):
             self.unplug()
             self.plug()
         return more
+
+    def has_room(self) -> bool:
+        return not self.out.closed and bool(select.select([], [self.out], [], 0)[1])
 
     def write(self, data: bytes) -> None:
         try:

@@ -14,7 +14,7 @@ from __future__ import annotations
 import threading
 from typing import Callable, Dict, Optional, Tuple
 
-from gushewa_line.line import QUIET, Events, answer
+from gushewa_line.line import QUIET, HearingBus, answer
 from gushewa_line.numbers import (
     ADDRESSES,
     ALL,
@@ -70,19 +70,14 @@ def name_of(address: int) -> str:
     return "all" if address == ALL else f"group {address - FIRST_GROUP}"
 
 
-class Gateway:
+class Gateway(HearingBus):
     """A bus that hands each level to `tell(address, level)`. Others add to its `events`."""
 
     def __init__(self, tell: Callable[[int, int], None]) -> None:
-        self.tell, self.events = tell, Events()
+        super().__init__()
+        self.tell = tell
         self.lock = threading.Lock()
         self.levels: Dict[int, int] = {}
-
-    def take(self) -> Optional[int]:
-        return self.events.take()
-
-    def forget(self) -> None:
-        self.events.forget()
 
     def known(self) -> Dict[int, int]:
         """The level that was sent last to each address."""

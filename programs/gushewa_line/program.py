@@ -11,10 +11,10 @@ from __future__ import annotations
 import argparse
 import os
 import sys
-from typing import NoReturn
+from typing import Callable, NoReturn
 
 from gushewa_line.ends import End, FifoEnd, PtyEnd, end_in_order
-from gushewa_line.line import Bus, serve
+from gushewa_line.line import Bus, note_nothing, serve
 
 
 def add_ends(parser: argparse.ArgumentParser, is_required: bool = True) -> argparse._MutuallyExclusiveGroup:
@@ -31,10 +31,10 @@ def end_of(given: argparse.Namespace) -> End:
     return PtyEnd(given.pty) if given.pty else FifoEnd(*given.fifo)
 
 
-def run(bus: Bus, given: argparse.Namespace) -> None:
+def run(bus: Bus, given: argparse.Namespace, note: Callable[[str, str], None] = note_nothing) -> None:
     """Serves a bus at the end that the words name, until the line or the program ends."""
     try:
-        serve(bus, end_of(given))
+        serve(bus, end_of(given), note)
     except OSError as error:
         give_up(f"the line is not there: {error}")
 

@@ -189,8 +189,116 @@ static void events_wait(void)
     exchange("hear\n", "none\n");
 }
 
+static void greet_in_version_3(void)
+{
+    begin();
+    exchange("gushewa 3 2\n", "gushewa 3 hears 2\n");
+}
+
+static void events_are_said_at_once(void)
+{
+    greet_in_version_3();
+    world_other_sends(0, 0, 0x0A8809, 24, HALF_BIT);
+    world_forget_said();
+    world_run(FRAME_24);
+    expect(strlen(world_said()) == 0, "nothing before the frame has come");
+    world_run(5000);
+    expect(strcmp(world_said(), "event 0A8809\n") == 0, "an event within 5 ms of its frame");
+    exchange("", "");
+    exchange("hear\n", "none\n");
+}
+
+static void events_are_said_in_their_order(void)
+{
+    greet_in_version_3();
+    world_forget_said();
+    for (uint32_t number = 0; number < 8; number++)
+        world_other_sends(0, number * 40000, 0x800000 + number, 24, HALF_BIT);
+    world_run(500000);
+    expect(strcmp(world_said(),
+               "event 800000\nevent 800001\nevent 800002\nevent 800003\n"
+               "event 800004\nevent 800005\nevent 800006\nevent 800007\n") == 0,
+        "each event once, in order");
+}
+
+static void events_before_a_greeting_are_kept(void)
+{
+    world_begin(0);
+    world_forget_said();
+    for (uint32_t number = 0; number < 300; number++) {
+        world_other_sends(0, 0, 0x800000 + number, 24, HALF_BIT);
+        world_run(40000);
+    }
+    expect(strlen(world_said()) == 0, "nothing before the greeting");
+    world_say("gushewa 3 2\n");
+    world_run(500000);
+    const char *at = world_said();
+    expect(strncmp(at, "gushewa 3 hears 2\n", 18) == 0, "the answer to the greeting comes first");
+    at += 18;
+    for (uint32_t number = 300 - 256; number < 300; number++, at += 13) {
+        char wanted[16];
+        snprintf(wanted, sizeof wanted, "event %06X\n", (unsigned)(0x800000 + number));
+        expect(strncmp(at, wanted, 13) == 0, wanted);
+    }
+    expect(*at == 0, "nothing behind the events");
+}
+
+static void events_are_said_while_a_frame_is_sent(void)
+{
+    greet_in_version_3();
+    world_other_sends(0, 0, 0xFE1234, 24, HALF_BIT);
+    world_other_sends(0, FRAME_24 + 14000, 0xFE1235, 24, HALF_BIT);
+    world_run(5000);
+    exchange("send 5 0BA0\nhear\n", "event FE1234\nevent FE1235\nanswer 254\nnone\n");
+}
+
+static void a_collision_may_be_both(void)
+{
+    greet_in_version_3();
+    world_other_sends(0, 417, 0x0A8809, 24, HALF_BIT);
+    exchange("send 4 0A80\n", "lost\nevent 0A8809\n");
+}
+
+static void hear_ends_with_none(void)
+{
+    greet_in_version_3();
+    world_forget_said();
+    for (uint32_t number = 0; number < 4; number++)
+        world_other_sends(0, number * 40000, 0x800000 + number, 24, HALF_BIT);
+    for (int hear = 0; hear < 20; hear++) {
+        world_say("hear\n");
+        world_run(10000);
+    }
+    const char *at = world_said();
+    int events = 0, nones = 0;
+    for (const char *end; (end = strchr(at, '\n')); at = end + 1) {
+        events += strncmp(at, "event ", 6) == 0;
+        nones += strncmp(at, "none\n", 5) == 0;
+    }
+    expect_number(events, 4, "events");
+    expect_number(nones, 20, "answers to hear");
+}
+
+static void nothing_is_said_unasked_in_old_versions(void)
+{
+    static const char *const greetings[] = {"gushewa 2 3\n", "gushewa 1\n"};
+    static const char *const answers[] = {"gushewa 2 hears 3\n", "gushewa 1\n"};
+    for (int version = 0; version < 2; version++) {
+        greet_in_version_3();
+        exchange(greetings[version], answers[version]);
+        world_other_sends(0, 0, 0x0A8809, 24, HALF_BIT);
+        exchange("", "");
+        exchange("hear\nhear\n", "event 0A8809\nnone\n");
+    }
+}
+
 static void own_frames_and_those_of_16_bits_are_no_events(void)
 {
+    greet_in_version_3();
+    exchange("send 4 7FFE30\n", "quiet\n");
+    exchange("send 4 0A80\n", "quiet\n");
+    world_other_sends(0, 0, 0x0A80, 16, HALF_BIT);
+    exchange("hear\n", "none\n");
     begin();
     exchange("send 4 7FFE30\n", "quiet\n");
     exchange("send 4 0A80\n", "quiet\n");
@@ -267,8 +375,17 @@ const struct test BUS_TESTS[] = {
     {true, "no 24-bit frame of another device waits", events_are_heard_once},
     {true, "this is the oldest that waits. It waits no longer", events_are_heard_once},
     {true, "It sends each frame once.", each_frame_is_sent_once},
+    {true, "It keeps at least 256 of them, and drops the oldest where there are more.", events_wait},
     {true, "It keeps at least 256 of the 24-bit frames of other devices, and drops the oldest where there are more.",
-        events_wait},
+        events_before_a_greeting_are_kept},
+    {true, "Events are said at once.", events_are_said_at_once},
+    {true, "Each 24-bit frame of another device is said once, within 100 ms, in the order in which they came.",
+        events_are_said_in_their_order},
+    {true, "An event does not wait for the answer.", events_are_said_while_a_frame_is_sent},
+    {true, "A collision may be both.", a_collision_may_be_both},
+    {true, "only once each event that came was said", hear_ends_with_none},
+    {true, "Nothing is said unasked: each request gets one line, and events wait until they are heard.",
+        nothing_is_said_unasked_in_old_versions},
     {true, "Its own frames are not among them, and neither are 16-bit frames.",
         own_frames_and_those_of_16_bits_are_no_events},
     {true, "The interface then forgets the events that wait", a_greeting_forgets_events},

@@ -3,7 +3,8 @@
  *   desk LINK [EVENT SECONDS]
  *
  * LINK becomes a link to the pseudo terminal. Another device sends EVENT, six hexadecimal digits, each so many
- * SECONDS. */
+ * SECONDS, and behind it an event of another instance whose information is one more each time. It waits for a free bus,
+ * as a device does. */
 #define _DEFAULT_SOURCE
 #define _XOPEN_SOURCE 600
 #include <fcntl.h>
@@ -14,9 +15,10 @@
 #include <time.h>
 #include <unistd.h>
 
+#include "../board.h"
 #include "world.h"
 
-enum { BYTES = 256, MILLISECOND = 1 };
+enum { BYTES = 256, MILLISECOND = 1, FREE = 14000, INSTANCE = 0x400, INFORMATION = 0x3FF };
 
 static void need(bool is_so, const char *what)
 {
@@ -67,6 +69,13 @@ static void give_bytes(int terminal)
             continue;
 }
 
+/* Whether the bus was idle for the settling time of a device. */
+static bool is_free(void)
+{
+    const int edges = world_edges();
+    return !board_reads_active() && (edges == 0 || world_now() - world_edge(edges - 1)->at >= FREE * THIRDS);
+}
+
 int main(int count, char **words)
 {
     if (count != 2 && count != 4) {
@@ -78,6 +87,8 @@ int main(int count, char **words)
     const int terminal = open_terminal(words[1]);
     const uint64_t begun = microseconds();
     uint64_t ran = 0, next_event = pause;
+    uint32_t counter = (event ^ INSTANCE) & ~(uint32_t)INFORMATION;
+    int waiting = 0; /* of the two events, those that wait for a free bus */
     world_begin(0);
     for (;;) {
         take_bytes(terminal);
@@ -86,8 +97,14 @@ int main(int count, char **words)
         ran = now;
         give_bytes(terminal);
         if (pause && ran >= next_event) {
-            world_other_sends(0, 0, event, 24, HALF_BIT);
+            waiting = 2;
             next_event = ran + pause;
+        }
+        if (waiting && is_free()) {
+            world_other_sends(0, 0, waiting == 2 ? event : counter, 24, HALF_BIT);
+            if (waiting == 1)
+                counter = (counter & ~(uint32_t)INFORMATION) | ((counter + 1) & INFORMATION);
+            waiting--;
         }
     }
 }

@@ -13,19 +13,23 @@ static void greetings_have_up_to_20_digits(void)
     exchange("gushewa 2 123456789012345678901\n", "fault\n");
     exchange("gushewa 2 \n", "fault\n");
     exchange("gushewa 2 1x\n", "fault\n");
-    exchange("gushewa 3 1\n", "fault\n");
+    exchange("gushewa 3 12345678901234567890\n", "gushewa 3 hears 12345678901234567890\n");
+    exchange("gushewa 3 123456789012345678901\n", "fault\n");
+    exchange("gushewa 4 1\n", "fault\n");
 }
 
 static void an_echo_is_told_from_an_interface(void)
 {
     begin();
     exchange("gushewa 2 hears 5\n", "fault\n");
+    exchange("gushewa 3 hears 5\n", "fault\n");
 }
 
 static void the_number_comes_back_as_it_was_written(void)
 {
     begin();
     exchange("gushewa 2 0007\n", "gushewa 2 hears 0007\n");
+    exchange("gushewa 3 0007\n", "gushewa 3 hears 0007\n");
 }
 
 static void the_longest_requests_are_read(void)
@@ -87,6 +91,14 @@ static void each_request_has_one_answer(void)
     exchange("hear\n", "event 0A8809\n");
 }
 
+static void each_request_has_one_answer_beside_events(void)
+{
+    begin();
+    exchange("gushewa 3 2\n", "gushewa 3 hears 2\n");
+    exchange("send 4 0A80\nhear\nsend 4 0BA0\nnonsense\nhear\n", "quiet\nnone\nanswer 128\nfault\nnone\n");
+    exchange("", "");
+}
+
 static void a_greeting_may_come_while_a_request_is_under_way(void)
 {
     begin();
@@ -99,6 +111,10 @@ static void half_a_request_is_forgotten(void)
     begin();
     exchange("send 4 0Agushewa 2 7\n", "gushewa 2 hears 7\n");
     exchange("gushewa 2 1gushewa 2 7\n", "gushewa 2 hears 7\n");
+    exchange("send 4 0Agushewa 3 7\n", "gushewa 3 hears 7\n");
+    exchange("gushewa 3 12345678901234567890gushewa 3 98765432109876543210\n",
+        "gushewa 3 hears 98765432109876543210\n");
+    exchange("gushewa 2 8\n", "gushewa 2 hears 8\n");
     exchange("gushewa 2 12345678901234567890gushewa 2 98765432109876543210\n",
         "gushewa 2 hears 98765432109876543210\n");
     exchange("hear\n", "none\n");
@@ -109,6 +125,9 @@ static void a_greeting_is_answered_last(void)
 {
     begin();
     exchange("send 4 0BA0\nhear\nhear\ngushewa 2 10\n", "answer 254\nnone\nnone\ngushewa 2 hears 10\n");
+    exchange("", "");
+    exchange("send 4 0BA0\nhear\nhear\ngushewa 3 10\n", "answer 254\nnone\nnone\ngushewa 3 hears 10\n");
+    exchange("send 4 0BA0\nhear\nhear\ngushewa 3 11\n", "answer 254\nnone\nnone\ngushewa 3 hears 11\n");
     exchange("", "");
 }
 
@@ -159,13 +178,14 @@ const struct test LINE_TESTS[] = {
     {true, "There is no carriage return.", a_carriage_return_is_no_part_of_a_request},
     {true, "An answer has at most 63 bytes before its line feed.", answers_are_short},
     {true, "One answer to each request, and nothing else.", each_request_has_one_answer},
+    {true, "One answer to each request.", each_request_has_one_answer_beside_events},
     {true, "It may come at any time, also while a request is under way",
         a_greeting_may_come_while_a_request_is_under_way},
-    {true, "It also forgets half a request: a line that ends with `gushewa 2 N` is this greeting",
+    {true, "It also forgets half a request: a line that ends with `gushewa 3 N` is this greeting",
         half_a_request_is_forgotten},
     {true,
         "The answer to a greeting comes after all answers to what was asked before it, "
-        "and nothing of before comes after it.",
+        "and nothing of before comes after it, but for events.",
         a_greeting_is_answered_last},
     {true, "A greeting is answered within half a second, since no frame has to be sent for it.",
         a_greeting_is_answered_in_half_a_second},
