@@ -266,8 +266,11 @@ class Interface:
             self.say(line)
 
     def say_unasked(self) -> None:
-        """Says by itself the events that wait, where the line was greeted in version 3 and takes bytes."""
-        with self.lock, contextlib.suppress(Fault, OSError):  # the next request meets them
+        """Says by itself the events that wait, where the line was greeted in version 3 and takes bytes.
+
+        The line may end just now: `serve` meets that.
+        """
+        with self.lock, contextlib.suppress(Fault, OSError, ValueError):
             if self.end.version == THIRD and self.end.has_room():
                 self.say_events()
 
