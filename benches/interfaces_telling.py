@@ -211,10 +211,19 @@ class EventsFirst(Wrong):
 
     def greet(self, greeted: str) -> None:
         with self.lock:
-            line = self.answer_greeting(greeted)
-            if self.end.version == THIRD:
+            if version_of(greeted) == THIRD:
                 self.say_events()
-            self.say(line)
+            super().greet(greeted)
+
+
+class Remembering(Wrong):
+    """Says behind the answer to a greeting of version 3 what waited before it."""
+
+    def answer_greeting(self, greeted: str) -> str:
+        if version_of(greeted) != THIRD:
+            return super().answer_greeting(greeted)
+        self.end.version = THIRD
+        return greeted
 
 
 class Telling(Wrong):
@@ -271,6 +280,7 @@ TELLING: Dict[str, Tuple[Callable[[End], Interface], str]] = {
     "3: says the newest event first": (Backwards, "3: says events in order"),
     "3: loses events while a frame is sent": (lambda end: Interface(Deaf(), end), "3: says events in order"),
     "3: says events before its greeting": (EventsFirst, "3: answers a greeting before events"),
+    "3: keeps events at a greeting": (Remembering, "3: forgets events at a greeting"),
     "3: says events in version 2": (Telling, "3: says nothing unasked in version 2"),
     "3: says events in version 1": (TellingFirst, "3: says nothing unasked in version 1"),
     "3: says an event for an answer": (Instead, "3: answers a frame beside events"),

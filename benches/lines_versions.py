@@ -41,7 +41,8 @@ class Told(HearingBus):
         self.sends: List[int] = []
         self.last: Optional[Tuple[str, str]] = None
 
-    def greet(self) -> None:
+    def forget(self) -> None:
+        super().forget()
         self.greetings += 1
 
     def send(self, bits: int, frame: int, priority: int) -> str:

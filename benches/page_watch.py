@@ -49,9 +49,6 @@ class Watch(HearingBus):
 
     def forget(self) -> None:
         super().forget()
-        self.greet()
-
-    def greet(self) -> None:
         self.due, self.pressed, self.is_greeted = time.monotonic() + START_SECONDS, 0.0, True
 
     def watch(self, wake: Callable[[], None]) -> None:

@@ -11,8 +11,7 @@ Exactly one space stands between words, numbers are decimal, and a line feed end
 
   out   level ADDRESS N    the controller sent level N, 0 (off) to 254; ADDRESS is 0 to 63,
                            `group 0` to `group 15`, or `all`
-        hello              a controller greeted. In versions 1 and 2 of the line the events that waited are
-                           gone; in version 3 it gets them now
+        hello              a controller greeted: the events that waited are gone
   in    event S I N        instance I (0 to 31) of device S (0 to 63) says the information N
                            (0 to 1023)
 
@@ -66,10 +65,6 @@ class Bridge(Gateway):
 
     def forget(self) -> None:
         super().forget()
-        say("hello")
-
-    def greet(self) -> None:
-        super().greet()
         say("hello")
 
     def read_events(self) -> None:

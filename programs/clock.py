@@ -113,10 +113,6 @@ class ClockBus(HearingBus):
         super().forget()
         self.said, self.looked = {}, None
 
-    def greet(self) -> None:
-        """All is said as it is now, so that nothing of before is to be."""
-        self.forget()
-
     def watch(self, wake: Callable[[], None]) -> None:
         """Looks as soon as a second begins."""
         threading.Thread(target=self.wake_each_second, args=[wake], daemon=True).start()

@@ -28,6 +28,7 @@ LISTEN_SECONDS = 0.15
 MOST_ASKED = 0.75
 MANY_HEARS = 50
 HEAR_SECONDS = 0.03
+FORGETFUL_TRIES = 3
 
 
 class Telling(Trial):
@@ -130,7 +131,7 @@ class Telling(Trial):
         self.hears_nothing("1")
 
     def answers_before_events(self) -> None:
-        """What waits when a greeting comes is said behind its answer."""
+        """Nothing that waits when a greeting comes is said before its answer."""
         self.greet_in_2()
         self.wait_for_presses("press a button")
         greeting = greeting_of(THIRD)
@@ -138,6 +139,18 @@ class Telling(Trial):
         line = self.read(greeting)
         if line != answer_to(greeting):
             raise Otherwise(f"{greeting!r}: {line!r} before its answer")
+
+    def forgets_events(self) -> None:
+        """What waited in version 2 is not said behind a greeting. An event may come just now, but not each time."""
+        self.need_presses()
+        for _ in range(FORGETFUL_TRIES):
+            self.greet_in_2()
+            self.wait_for_presses("press a button")
+            self.greet_by(greeting_of(THIRD))
+            events, _ = self.ask(HEAR)
+            if not events:
+                return
+        raise Otherwise(f"{events[0]!r} behind a greeting")
 
     def says_events_in_time(self) -> None:
         """An event that has to be asked for came later than 100 ms, or just now. Not all of them come just now."""
@@ -204,6 +217,7 @@ DUTIES: Sequence[Tuple[str, Callable[[Telling], None]]] = (
     ("3: says nothing unasked in version 2", Telling.is_silent_in_2),
     ("3: says nothing unasked in version 1", Telling.is_silent_in_1),
     ("3: answers a greeting before events", Telling.answers_before_events),
+    ("3: forgets events at a greeting", Telling.forgets_events),
     ("3: says events within 100 ms", Telling.says_events_in_time),
     ("3: says each event once", Telling.says_events_once),
     ("3: says events in order", Telling.says_events_in_order),

@@ -69,10 +69,11 @@ class FloodedBus:
         self.next: Optional[float] = None  # in version 3: when the next event comes
 
     def forget(self) -> None:
-        self.next = None
+        """Nothing waits: an event comes now."""
 
-    def greet(self) -> None:
-        self.next = time.monotonic()
+    def begin(self, version: int) -> None:
+        """The line was greeted in this version."""
+        self.next = time.monotonic() if version == THIRD else None
 
     def take(self) -> Optional[int]:
         if self.next is None:
@@ -112,6 +113,12 @@ class TroubledInterface(Interface):
             self.say(FAULT)
         else:
             super().meet(request)
+
+    def answer_greeting(self, greeted: str) -> str:
+        line = super().answer_greeting(greeted)
+        if isinstance(self.bus, FloodedBus):
+            self.bus.begin(self.end.version)
+        return line
 
     def meetings(self) -> Dict[str, Callable[[str, float], None]]:
         return {

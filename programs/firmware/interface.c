@@ -95,11 +95,9 @@ static void say_events(void)
     }
 }
 
-/* In version 3 nothing is forgotten: it is said behind the answer to the greeting. */
+/* A press of some minutes ago must not switch a light now. */
 static void forget(void)
 {
-    if (line.version == 3)
-        return;
     board_lock();
     events_forget(&events);
     board_unlock();

@@ -22,7 +22,7 @@ enum {
 
 enum line_wish {
     LINE_NOTHING, /* no whole request, or one that the line answered itself */
-    LINE_GREETED, /* the line answered it; the events that wait are to be forgotten, but for version 3 */
+    LINE_GREETED, /* the line answered it; the events that wait are to be forgotten */
     LINE_HEAR,    /* line_answer_event, or line_answer of "none"; in version 3 the second, behind all events */
     LINE_SEND     /* line_answer_byte, or line_answer of "quiet", "damaged", "lost" or "fault" */
 };

@@ -49,15 +49,12 @@ class Bus(Protocol):
         """Returns the oldest 24-bit frame of another device that was not taken yet, or None."""
 
     def forget(self) -> None:
-        """A controller greeted in version 1 or 2: drops the frames that wait."""
+        """A controller greeted: drops the frames that wait."""
 
 
 @runtime_checkable
 class TellingBus(Bus, Protocol):
     """What an interface asks of its bus in version 3 besides: that it says when a frame comes."""
-
-    def greet(self) -> None:
-        """A controller greeted in version 3. The frames that wait stay: they are said behind the answer."""
 
     def watch(self, wake: Callable[[], None]) -> None:
         """From now on `wake` is called, in any thread, as soon as `take` has a frame. It may be called too often."""
@@ -100,9 +97,6 @@ class HearingBus:
 
     def forget(self) -> None:
         self.events.forget()
-
-    def greet(self) -> None:
-        """Nothing is forgotten."""
 
     def watch(self, wake: Callable[[], None]) -> None:
         self.events.wake = wake
@@ -221,23 +215,17 @@ class Interface:
             self.say_behind_events(self.answer(request))
 
     def greet(self, greeted: str) -> None:
-        """Answers a greeting. In version 3 what waits is said behind the answer, and before it only where the line
-        was greeted in version 3 before."""
+        """Answers a greeting. What came before is forgotten; in version 3 what came since is said behind the answer."""
         with self.lock:
-            line = self.answer_greeting(greeted)
-            self.say(line)
-            if self.end.version == THIRD:
-                self.say_events()
+            self.say(self.answer_greeting(greeted))
+            self.say_unasked()
 
     def answer_greeting(self, greeted: str) -> str:
         """The line that answers a greeting, from which on its version is spoken."""
         with self.lock:
             self.end.version = 0
             try:
-                if version_of(greeted) == THIRD and isinstance(self.bus, TellingBus):
-                    self.bus.greet()
-                else:
-                    self.bus.forget()
+                self.bus.forget()  # a press of some minutes ago must not switch a light now
             except Fault:
                 return FAULT
             self.end.version = version_of(greeted)

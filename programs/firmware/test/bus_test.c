@@ -221,26 +221,45 @@ static void events_are_said_in_their_order(void)
         "each event once, in order");
 }
 
-static void events_before_a_greeting_are_kept(void)
+/* Ten events come, and nothing is said. */
+static void events_come_unsaid(void)
 {
-    world_begin(0);
     world_forget_said();
-    for (uint32_t number = 0; number < 300; number++) {
+    for (uint32_t number = 0; number < 10; number++) {
         world_other_sends(0, 0, 0x800000 + number, 24, HALF_BIT);
         world_run(40000);
     }
-    expect(strlen(world_said()) == 0, "nothing before the greeting");
-    world_say("gushewa 3 2\n");
+    expect(strlen(world_said()) == 0, "nothing is said of the events");
+}
+
+static void nothing_is_said_before_a_greeting(void)
+{
+    world_begin(0);
+    events_come_unsaid();
+}
+
+static void a_greeting_forgets_events(void)
+{
+    world_begin(0);
+    events_come_unsaid();
+    exchange("gushewa 3 2\n", "gushewa 3 hears 2\n");
+    exchange("gushewa 2 3\n", "gushewa 2 hears 3\n");
+    events_come_unsaid();
+    exchange("gushewa 3 4\nhear\n", "gushewa 3 hears 4\nnone\n");
+    exchange("gushewa 1\n", "gushewa 1\n");
+    events_come_unsaid();
+    exchange("gushewa 2 5\nhear\n", "gushewa 2 hears 5\nnone\n");
+    events_come_unsaid();
+    exchange("gushewa 1\nhear\n", "gushewa 1\nnone\n");
+}
+
+static void events_are_said_behind_a_greeting(void)
+{
+    greet_in_version_3();
+    world_forget_said();
+    world_other_sends(0, 0, 0x0A8809, 24, HALF_BIT);
     world_run(500000);
-    const char *at = world_said();
-    expect(strncmp(at, "gushewa 3 hears 2\n", 18) == 0, "the answer to the greeting comes first");
-    at += 18;
-    for (uint32_t number = 300 - 256; number < 300; number++, at += 13) {
-        char wanted[16];
-        snprintf(wanted, sizeof wanted, "event %06X\n", (unsigned)(0x800000 + number));
-        expect(strncmp(at, wanted, 13) == 0, wanted);
-    }
-    expect(*at == 0, "nothing behind the events");
+    expect(strcmp(world_said(), "event 0A8809\n") == 0, "the event");
 }
 
 static void events_are_said_while_a_frame_is_sent(void)
@@ -322,14 +341,6 @@ static void damaged_events_are_dropped(void)
     exchange("hear\n", "none\n");
 }
 
-static void a_greeting_forgets_events(void)
-{
-    begin();
-    world_other_sends(0, 0, 0x0A8809, 24, HALF_BIT);
-    world_run(100000);
-    exchange("gushewa 2 3\nhear\n", "gushewa 2 hears 3\nnone\n");
-}
-
 static void a_greeting_lets_a_frame_be_sent_to_its_end(void)
 {
     begin();
@@ -376,19 +387,19 @@ const struct test BUS_TESTS[] = {
     {true, "this is the oldest that waits. It waits no longer", events_are_heard_once},
     {true, "It sends each frame once.", each_frame_is_sent_once},
     {true, "It keeps at least 256 of them, and drops the oldest where there are more.", events_wait},
-    {true, "It keeps at least 256 of the 24-bit frames of other devices, and drops the oldest where there are more.",
-        events_before_a_greeting_are_kept},
+    {true, "Nothing is said unasked before the line was greeted in version 3", nothing_is_said_before_a_greeting},
+    {true, "An event that came before it is not said any more, in any version", a_greeting_forgets_events},
+    {true, "What comes behind its answer is said as it comes.", events_are_said_behind_a_greeting},
     {true, "Events are said at once.", events_are_said_at_once},
     {true, "Each 24-bit frame of another device is said once, within 100 ms, in the order in which they came.",
         events_are_said_in_their_order},
     {true, "An event does not wait for the answer.", events_are_said_while_a_frame_is_sent},
     {true, "A collision may be both.", a_collision_may_be_both},
-    {true, "only once each event that came was said", hear_ends_with_none},
+    {true, "only once each event that came since the greeting was said", hear_ends_with_none},
     {true, "Nothing is said unasked: each request gets one line, and events wait until they are heard.",
         nothing_is_said_unasked_in_old_versions},
     {true, "Its own frames are not among them, and neither are 16-bit frames.",
         own_frames_and_those_of_16_bits_are_no_events},
-    {true, "The interface then forgets the events that wait", a_greeting_forgets_events},
     {true, "Any other request is answered within the patience of the controller", requests_are_answered_in_time},
     {true, "A bus without power is `fault`, and a collision is `lost`.", a_bus_without_power_is_a_fault},
     {true, "a pair of frames of another device takes half of that", a_frame_waits_for_a_pair_of_others},
