@@ -1,13 +1,14 @@
 """Checks of benches/lines of versions of the line: what an interface of each is asked, and the times of version 3.
 
-The interfaces of version 3 are those of programs/gushewa_line, each in a thread of its own; those of the other checks speak
-version 2, but for simulated.py.
+The interfaces of version 3 are those of programs/gushewa_line, each in a thread of its own; those of the other checks
+speak version 2, but for simulated.py.
 """
 
 from __future__ import annotations
 
 import contextlib
 import random
+import re
 import statistics
 import threading
 import time
@@ -24,6 +25,11 @@ from lines_texts import HALL, PRESS, STORM, binding
 IDLE_SECONDS = 5.0
 # Wanted of version 3, with nothing to do: percents of a processor for so many lines; and from an event to its frame.
 IDLE_WANTED, LATENCY_WANTED = {1: 0.3, 16: 1.5}, 2.5
+# What standard error says of what is about to run: the period, the bus with its line, the tasks and the levels.
+ABOUT_TO_RUN = re.compile(
+    r"a tick each \d+ ms|bus \d+ /\S+|task \w+ (each \d+ ms|on an event) bound \d+|"
+    r"level bus \d+ (short \d+|group \d+|broadcast) begins at \d+"
+)
 # How an interface of each version is greeted, and what it answers to that.
 GREETED = {
     1: [("gushewa 3", "fault"), ("gushewa 2", "fault"), ("gushewa 1", "gushewa 1")],
@@ -117,7 +123,7 @@ def judge_version(bench: Bench, version: int) -> Found:
         with bench.live(HALL, binding(1), [neighbour.path], "--patience", "1000") as live:
             time.sleep(IDLE_SECONDS)
             said = found.ended(live, live.end(), 0)
-            found.same("what is said", live.err(), [])
+            found.same("what is said", [text for text in live.err() if not ABOUT_TO_RUN.fullmatch(text)], [])
         lines = neighbour.lines()
     asked = [(when, text) for when, way, text in lines if way == "<"]
     greetings = len(GREETED[version])

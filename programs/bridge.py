@@ -16,8 +16,9 @@ Exactly one space stands between words, numbers are decimal, and a line feed end
                            (0 to 1023)
 
 The binding has an event as `source B.K device-instance S I`. Any other line is reported on standard
-error, and does nothing; of one with more than 64 bytes no more are kept. At the end of standard input no more events come, and levels still go out.
-Where nobody reads standard output any more, the bus fails.
+error, and does nothing; of one with more than 64 bytes no more are kept. At the end of standard input
+no more events come, and levels still go out. Where nobody reads standard output any more, the bus
+fails.
 
 KNX, BACnet or a page need a program that has these lines on one side. None is here, and none was
 tried.

@@ -9,9 +9,10 @@
                                  more, as simulated.py --counter gives them; so their order is seen
 
 It prints a line for each duty: `ok`, or what came. The first ones are those of version 2, and those of
-version 3 begin with `3:`. Of a version that the interface does not know they are not tried. It exits with 1 where something came that should
-not, and with 2 where the line cannot be opened. On the bus it only asks: whether gear 63 is there,
-and for the status of device 63. End `dalictl live` and all else that uses the line first.
+version 3 begin with `3:`. Of a version that the interface does not know they are not tried. It exits
+with 1 where something came that should not, and with 2 where the line cannot be opened. On the bus it
+only asks: whether gear 63 is there, and for the status of device 63. End `dalictl live` and all else
+that uses the line first.
 """
 
 from __future__ import annotations

@@ -15,8 +15,8 @@ What the controller leaves to the interface (docs/LINES.md, 'What an interface k
   - whether a frame met a collision
   - that its own frames are not among those that it hears
 
-`gushewa_line` (programs/gushewa_line) keeps the other duties. Once the bodies of `Adapter` are there, `check.py LINK` tries what
-can be seen of them over the line.
+`gushewa_line` (programs/gushewa_line) keeps the other duties. Once the bodies of `Adapter` are there,
+`check.py LINK` tries what can be seen of them over the line.
 """
 
 from __future__ import annotations

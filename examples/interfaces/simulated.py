@@ -101,9 +101,6 @@ class SimulatedBus(HearingBus):
         self.gear, self.devices, self.buttons = gear, devices, buttons
         self.has_bus_time, self.lose = given.real, given.lose
         self.chance = random.Random(given.seed)
-
-    def watch(self, wake: Callable[[], None]) -> None:
-        super().watch(wake)
         if self.buttons:
             threading.Thread(target=self.press_buttons, daemon=True).start()
 

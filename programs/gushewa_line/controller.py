@@ -5,7 +5,8 @@
     controller.send(0x0A80)                     # 'quiet', 'answer 5', 'damaged' or 'lost'
     controller.hear()                           # a 24-bit frame, or None
 
-It greets in version 3, and where the interface does not know that in version 2 and then in version 1. It sets nothing of a serial device: docs/LIVE.md, 'A serial device', has the command that does.
+It greets in version 3, and where the interface does not know that in version 2 and then in version 1. It sets nothing
+of a serial device: docs/LIVE.md, 'A serial device', has the command that does.
 """
 
 from __future__ import annotations
@@ -83,6 +84,7 @@ class Line:
         It greets in the newest version. Where the interface answers `fault`, it greets in the one before.
         """
         self.version = 0
+        self.events.clear()
         for version in range(newest, 1, -1):
             greeting = f"gushewa {version} {time.time_ns() // 1_000_000}"
             self.write(f"{before}{greeting}\n")

@@ -216,9 +216,10 @@ class Interface:
 
     def greet(self, greeted: str) -> None:
         """Answers a greeting. What came before is forgotten; in version 3 what came since is said behind the answer."""
-        with self.lock:
+        with self.lock, contextlib.suppress(Fault):  # what fails behind the answer fails again at what is asked next
             self.say(self.answer_greeting(greeted))
-            self.say_unasked()
+            if self.end.version == THIRD:
+                self.say_events()
 
     def answer_greeting(self, greeted: str) -> str:
         """The line that answers a greeting, from which on its version is spoken."""

@@ -185,7 +185,7 @@ const struct test LINE_TESTS[] = {
         half_a_request_is_forgotten},
     {true,
         "The answer to a greeting comes after all answers to what was asked before it, "
-        "and nothing of before comes after it, but for events.",
+        "and nothing of before comes after it.",
         a_greeting_is_answered_last},
     {true, "A greeting is answered within half a second, since no frame has to be sent for it.",
         a_greeting_is_answered_in_half_a_second},
