@@ -209,17 +209,20 @@ impl Teller for Telling {
     }
 }
 
+/// The opener of lines on this machine's threads.
+type HostDesks = Desks<HostRuntime>;
+
 /// A line, and what became of it.
-type Line<R> = MendedLine<R, Desk<R>, Telling, Desks<R>>;
+type Line = MendedLine<HostRuntime, Desk<HostRuntime>, Telling, HostDesks>;
 
 /// The line of an interface that behaves so and answers with this digit.
-fn line_of<R: Wait + Clock + Clone + Drop>(
+fn line_of(
     alloc: Global,
-    rt: &R,
-    starter: &LineStarter<R, Desk<R>, Desks<R>>,
+    rt: &HostRuntime,
+    starter: &LineStarter<HostRuntime, Desk<HostRuntime>, HostDesks>,
     behaviour: Behaviour,
     mark: u8,
-) -> Result<(Line<R>, Arc<Story>), AllocError> {
+) -> Result<(Line, Arc<Story>), AllocError> {
     let story = Arc::new(
         alloc,
         Story {
@@ -254,7 +257,7 @@ fn line_of<R: Wait + Clock + Clone + Drop>(
 }
 
 /// Whether the line is taken up again in time, where no question takes long.
-fn comes_back<R: Wait + Clock + Clone + Drop>(rt: &R, line: &mut Line<R>) -> io::Result<bool> {
+fn comes_back(rt: &HostRuntime, line: &mut Line) -> io::Result<bool> {
     for _ in 0..BACK {
         let began = Instant::now(rt)?;
         let is_mended = line.mend();

@@ -94,6 +94,24 @@ pub record IsOfKept (message : Option ℕ) (old new : LineState) : Type 0 where
   pub written : new.written ≡ old.written
   pub unread : new.unread ≡ old.unread
 
+-- one line was read, which says the frame
+pub record IsEventRead (frame : ℕ) (old new : Option (List ℕ)) : Type 0 where
+  pub line : List ℕ
+  pub says : IsMessage (Some frame) line
+  pub read : Consumes old new (line ++ line_end)
+
+-- such a line was read, and nothing was said
+pub record IsUnasked (message : Option ℕ) (old new : LineState) : Type 0 where
+  pub frame : ℕ
+  pub heard : message ≡ Some frame
+  pub event : IsEventRead frame old.unread new.unread
+  pub written : new.written ≡ old.written
+  pub kept : new.kept ≡ old.kept
+
+-- what the interface said unasked was heard: the first frame that is kept; where none is, the next line
+abbrev pub IsSaid : Option ℕ → LineState → LineState → Type 0
+IsSaid message old new = IsOfKept message old new ⊎ ((old.kept ≡ []) × IsUnasked message old new)
+
 -- what the interface answered was heard: one line, or, where it announces, all that it did not say yet
 abbrev pub IsAnswered : Bool → Option ℕ → LineState → LineState → Type 0
 IsAnswered false message old new = IsExchange hear_line (λ line. IsMessage message line) old new

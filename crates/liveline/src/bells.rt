@@ -6,7 +6,7 @@ use std::sync::Wait;
 use std::time::{Clock, Duration};
 
 /// How long a bus rests at most where its bell does not ring, in milliseconds.
-const LONGEST: u64 = 50;
+const LONGEST: u64 = 100;
 
 /// Rings the bell of a line: something came on it, or may be to be sent.
 #[derive(Drop)]
@@ -49,7 +49,7 @@ impl LineBell {
 }
 
 impl Resting {
-    /// Rests until the bell rings, for a twentieth of a second at most.
+    /// Rests until the bell rings, for a tenth of a second at most.
     pub(crate) fn rest<R: Wait + Clock>(&self, rt: &R) {
         let _woken = self.rung.recv_timeout(rt, Duration::from_millis(LONGEST));
     }

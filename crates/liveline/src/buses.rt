@@ -1,16 +1,17 @@
 //! Buses behind a line.
 
-ghost use Rattle.std.specs.Prelude.{◌≡◌, ◌<◌, ◌≤◌, ◌++◌, ◌&&◌, [], IfOk, IsOk, IsErr, OnOk, Ok, None, true};
+ghost use Rattle.std.specs.Prelude.{◌≡◌, ◌<◌, ◌≤◌, ◌++◌, ◌&&◌, [], IfOk, IsOk, IsErr, OnErr, OnOk, Ok, None};
+ghost use Rattle.std.specs.Prelude.{true};
 ghost use Rattle.std.specs.Prelude.{false, is_ok, IfSome};
 ghost use Rattle.buslink.specs.BusLog.{HasHeardAll, TellsAll, after_hear, after_mend, after_resume, after_send};
 ghost use Rattle.buslink.specs.BusLog.{with_sent, with_spare};
 ghost use Rattle.liveline.specs.Lines.{IsReply, hear_line, line_end, send_line};
-ghost use Rattle.liveline.specs.Exchanges.{IsAnswered, IsAtMost, IsExchange, IsHeard, IsSilent};
-ghost use Rattle.liveline.specs.Exchanges.{absent_line, with_line, without_line};
+ghost use Rattle.liveline.specs.Exchanges.{IsAnswered, IsAtMost, IsExchange, IsHeard, IsSaid};
+ghost use Rattle.liveline.specs.Exchanges.{IsSilent, IsUnasked, absent_line, with_line, without_line};
 
 use crate::answers::reply_in;
 use crate::ends::{ask_to_hear, ask_to_send};
-use crate::events::{KeptFrames, first_said, read_past, take_first};
+use crate::events::{KeptFrames, first_said, read_event, read_past, take_first};
 use crate::greetings::Greeted;
 use crate::troubles::Trouble;
 use buslink::{Bus, Fault, Mark, Reply, Sent};
@@ -154,6 +155,86 @@ impl<R: Read + Drop, W: Write + Drop> LineBus<R, W> {
         ensures { result ≡ false → self.now.kept ≡ [] }
     {
         !self.kept.is_empty()
+    }
+
+    /// The next frame that the interface said unasked: the one that was kept first; where none is,
+    /// the one that the next line says. Nothing is said.
+    ///
+    /// # Errors
+    ///
+    /// The interface failed, or its next line is no event. No frame was heard.
+    pub fn hear_said(&mut self) -> Result<Option<Frame24>, Fault>
+        requires { 0 < self.old.log.spare }
+        ensures logged { self.new.log ≡ after_hear result self.old.log }
+        ensures all { TellsAll result self.old.log }
+        ensures said { IfOk result (λ message. IsSaid message self.old self.new) }
+        ensures written { self.new.written ≡ self.old.written }
+        ensures step { self.new.is_in_step ≡ is_ok result }
+        ensures silent { self.old.is_in_step ≡ false → IsSilent result self.old self.new }
+    {
+        let said = self.read_said();
+        self.note_heard(said)
+    }
+
+    /// The frame that was kept first; where none is, the one that the next line says.
+    fn read_said(&mut self) -> Result<Option<Frame24>, Trouble>
+        ensures log { self.new.log ≡ self.old.log }
+        ensures said { IfOk result (λ message. IsSaid message self.old self.new) }
+        ensures written { self.new.written ≡ self.old.written }
+        ensures step { self.new.is_in_step ≡ is_ok result }
+        ensures silent { self.old.is_in_step ≡ false → IsErr result × (self.new ≡ self.old) }
+    {
+        if !self.is_in_step {
+            return Err(Trouble::Absent);
+        }
+        if let Some(frame) = take_first(&mut self.kept) {
+            return Ok(Some(frame));
+        }
+        self.read_unasked()
+    }
+
+    /// The frame that the next line says.
+    fn read_unasked(&mut self) -> Result<Option<Frame24>, Trouble>
+        ensures log { self.new.log ≡ self.old.log }
+        ensures said { IfOk result (λ message. IsUnasked message self.old self.new) }
+        ensures written { self.new.written ≡ self.old.written }
+        ensures step { self.new.is_in_step ≡ is_ok result }
+    {
+        self.is_in_step = false;
+        let Some(line) = &mut self.line else {
+            return Err(Trouble::Absent);
+        };
+        let frame = read_event(&mut line.from)?;
+        self.is_in_step = true;
+        Ok(Some(frame))
+    }
+
+    /// Notes what a call that hears came to, and gives it.
+    fn note_heard(
+        &mut self,
+        message: Result<Option<Frame24>, Trouble>,
+    ) -> Result<Option<Frame24>, Fault>
+        requires { 0 < self.old.log.spare }
+        ensures same { self.new ≡ record self.old { log = after_hear result self.old.log } }
+        ensures ok { IfOk message (λ said. result ≡ Ok said) }
+        ensures err { OnErr message (IsErr result) }
+        ensures all { TellsAll result self.old.log }
+    {
+        self.hears = self.hears.saturating_add(1);
+        self.heard_none = matches!(message, Ok(None));
+        match message {
+            Ok(Some(frame)) => {
+                self.heard.push(&frame);
+                self.spare -= 1;
+                Ok(Some(frame))
+            }
+            Ok(None) => Ok(None),
+            Err(trouble) => {
+                self.note_trouble(trouble);
+                self.failures = self.failures.wrapping_add(1);
+                Err(Fault)
+            }
+        }
     }
 
     /// Notes a call that heard nothing, of an interface that says unasked what comes, and said
@@ -345,21 +426,7 @@ impl<R: Read + Drop, W: Write + Drop> Bus for LineBus<R, W> {
         ensures silent { self.old.is_in_step ≡ false → IsSilent result self.old self.new }
     {
         let message = self.try_to_hear();
-        self.hears = self.hears.saturating_add(1);
-        self.heard_none = matches!(message, Ok(None));
-        match message {
-            Ok(Some(frame)) => {
-                self.heard.push(&frame);
-                self.spare -= 1;
-                Ok(Some(frame))
-            }
-            Ok(None) => Ok(None),
-            Err(trouble) => {
-                self.note_trouble(trouble);
-                self.failures = self.failures.wrapping_add(1);
-                Err(Fault)
-            }
-        }
+        self.note_heard(message)
     }
 
     fn mend(&mut self) -> bool

@@ -1,7 +1,7 @@
 //! Events that an interface says unasked, before an answer.
 
 ghost use Rattle.std.specs.Prelude.{◌≡◌, IfOk, IfSome, false, true};
-ghost use Rattle.liveline.specs.Exchanges.{IsFirst, IsReadPast};
+ghost use Rattle.liveline.specs.Exchanges.{IsEventRead, IsFirst, IsReadPast};
 ghost use Rattle.liveline.specs.Lines.{IsMessage, none_line};
 
 use crate::answers::{frame_in, is_none, message_in};
@@ -12,8 +12,8 @@ use daliframe::Frame24;
 use std::io::Read;
 use std::marker::Model;
 
-/// The most frames that are kept until they are heard: as many as an interface keeps.
-pub(crate) const MOST_KEPT: usize = 256;
+/// The most frames that are kept until they are heard: more than devices hold back.
+pub(crate) const MOST_KEPT: usize = 1024;
 
 /// A frame that came, and was not heard yet.
 #[derive(Clone, Copy)]
@@ -50,6 +50,22 @@ pub(crate) fn take_first(kept: &mut KeptFrames) -> Option<Frame24>
     match kept.pop_at(0) {
         Some(first) => Some(first.frame),
         None => None,
+    }
+}
+
+/// Reads a line that says an event, and gives its frame.
+///
+/// # Errors
+///
+/// No line comes, or it says none.
+pub(crate) fn read_event<R: Read>(from: &mut R) -> Result<Frame24, Trouble>
+    ensures { IfOk result (λ frame.
+        IsEventRead frame (R.remaining from.old) (R.remaining from.new)) }
+{
+    let line = read_line(from)?;
+    match frame_in(line.as_slice()) {
+        Some(frame) => Ok(frame),
+        None => Err(Trouble::of(line)),
     }
 }
 

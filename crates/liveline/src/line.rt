@@ -354,12 +354,22 @@ impl<R: Wait + Clock + Drop, W: Write + Drop, T: Teller, O: Drop> MendedLine<R, 
         }
     }
 
-    /// Notes that the interface answered what has come.
-    fn note_answer(&mut self)
-        ensures { self.new ≡ self.old }
+    /// Reads what the interface has begun to say unasked, or asks it for what has come.
+    fn hear_or_ask(&mut self) -> Result<Option<Frame24>, Fault>
+        requires { 0 < self.old.log.spare }
+        ensures logged { self.new.log ≡ after_hear result self.old.log }
+        ensures all { TellsAll result self.old.log }
+        ensures step { IsOk result → self.old.is_in_step ≡ true }
+        ensures heard { self.new.heard_last ≡ self.old.heard_last }
+        ensures began { self.new.began ≡ self.old.began }
+        ensures set { self.new.set ≡ self.old.set }
     {
+        if self.bus.announces() && self.has_come() {
+            return self.bus.hear_said();
+        }
+        let message = self.bus.hear();
         self.asked = Instant::now(&self.rt).ok();
-        self.note_slow();
+        message
     }
 
     /// Notes that a call failed, and tells that the line is down.
@@ -443,14 +453,14 @@ impl<R: Wait + Clock + Drop, W: Write + Drop, T: Teller, O: Drop> Bus for Mended
             self.bus.hear_nothing();
             return Ok(None);
         }
-        match self.bus.hear() {
+        match self.hear_or_ask() {
             Ok(Some(frame)) => {
-                self.note_answer();
+                self.note_slow();
                 self.count_last();
                 Ok(Some(frame))
             }
             Ok(None) => {
-                self.note_answer();
+                self.note_slow();
                 Ok(None)
             }
             Err(Fault) => {

@@ -1,9 +1,5 @@
 //! Why a line is down.
 
-ghost use Rattle.std.specs.Prelude.{◌≡◌, ◌↔◌, IsTrue};
-ghost use Rattle.std.specs.declared.io.ErrorKind.TheVariants.{ResourceBusy};
-ghost use Rattle.liveline.specs.declared.reasons.Reason.TheVariants.{Unopened};
-
 use crate::troubles::{LineBytes, Trouble};
 use std::fmt;
 use std::io::ErrorKind;
@@ -67,16 +63,6 @@ impl Reason {
             Reason::Closed => ReasonKind::Closed,
             Reason::Fault => ReasonKind::Fault,
             Reason::Answered(_) => ReasonKind::Answered,
-        }
-    }
-
-    /// Whether another program or another bus has the line.
-    pub fn is_busy(&self) -> bool
-        ensures { IsTrue result ↔ (self.now ≡ Unopened ResourceBusy) }
-    {
-        match self {
-            Reason::Unopened(kind) => matches!(kind, ErrorKind::ResourceBusy),
-            _ => false,
         }
     }
 
