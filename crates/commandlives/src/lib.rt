@@ -22,4 +22,4 @@ pub use live_status::status_of_live_stop;
 pub use lived::LiveLeft;
 pub use livehouse::{Care, Departure, LiveStop, Site, Storage};
 pub use living::{Grounds, Halted, LiveEnd, Notice, serve_live, status_of_live};
-pub use tools::{ToolEnd, ToolLine, ToolStop, binding_at, opened, setup_at};
+pub use tools::{ToolEnd, ToolLine, ToolStop, UnopenedLine, binding_at, opened, setup_at};

@@ -13,8 +13,6 @@ pub fn status_of_live_stop(stop: &LiveStop) -> ExitStatus
     match stop {
         LiveStop::Lineup(_) => ExitStatus::Misused,
         LiveStop::Ended => ExitStatus::Accepted,
-        LiveStop::NotOpened(_) | LiveStop::Busy(_) | LiveStop::NoClock | LiveStop::Start(_) => {
-            ExitStatus::Failed
-        }
+        LiveStop::NoClock | LiveStop::Start(_) => ExitStatus::Failed,
     }
 }

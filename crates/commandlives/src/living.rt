@@ -33,7 +33,7 @@ pub enum Halted<'a> {
     /// Of the binding or the text, or that the allocator is out of memory.
     Text(Stop),
     /// Of the lines, the clock or the plant.
-    Building(LiveStop<'a>),
+    Building(LiveStop),
 }
 
 impl From<Stop> for Halted<'_> {
@@ -47,13 +47,13 @@ impl From<Stop> for Halted<'_> {
     }
 }
 
-impl<'a> From<LiveStop<'a>> for Halted<'a> {
+impl From<LiveStop> for Halted<'_> {
     ghost use Rattle.std.specs.Prelude.{◌≡◌};
     ghost use Rattle.commandlives.specs.declared.living.Halted.TheVariants.{Building};
 
     ghost from_gives = { λ stop halted. halted ≡ Building stop };
 
-    fn from(stop: LiveStop<'a>) -> Self {
+    fn from(stop: LiveStop) -> Self {
         Halted::Building(stop)
     }
 }

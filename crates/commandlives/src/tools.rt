@@ -8,7 +8,7 @@ use ilcompile::Setup;
 use livehouse::{LineupFault, LiveStop, Site, SiteFault};
 use plant::StartFault;
 use std::alloc::Global;
-use std::io;
+use std::{fmt, io};
 use wordlines::Binding;
 
 /// Why a tool does not work.
@@ -18,8 +18,10 @@ pub enum ToolStop<'a> {
     Unserved(Unserved<'a>),
     /// Of the binding or the text.
     Text(Stop),
-    /// Of the line.
-    Line(LiveStop<'a>),
+    /// The line has no bus, or the allocator is out of memory.
+    Line(LiveStop),
+    /// The line is not opened.
+    Unopened(UnopenedLine<'a>),
 }
 
 impl<'a> From<Unserved<'a>> for ToolStop<'a> {
@@ -40,9 +42,30 @@ impl From<Stop> for ToolStop<'_> {
     }
 }
 
-impl<'a> From<LiveStop<'a>> for ToolStop<'a> {
-    fn from(stop: LiveStop<'a>) -> Self {
+impl From<LiveStop> for ToolStop<'_> {
+    fn from(stop: LiveStop) -> Self {
         ToolStop::Line(stop)
+    }
+}
+
+/// A line that is not opened, or whose interface does not greet, and why, where that is known.
+#[derive(Drop)]
+pub struct UnopenedLine<'a> {
+    pub line: LineWord<'a>,
+    pub why: Option<String>,
+}
+
+/// `cannot open /dev/ttyUSB0: no such file`
+impl fmt::Display for UnopenedLine<'_> {
+    fn fmt<W: fmt::Write>(&self, f: &mut fmt::Formatter<W>) -> fmt::Result {
+        write!(f, "cannot open {}", self.line.from)?;
+        if let Some(to) = self.line.to {
+            write!(f, ",{to}")?;
+        }
+        match &self.why {
+            Some(why) => write!(f, ": {why}"),
+            None => Ok(()),
+        }
     }
 }
 
@@ -62,27 +85,29 @@ pub struct ToolLine<'a> {
 ///
 /// # Errors
 ///
-/// It cannot be opened, another program has it, its interface does not greet, or the allocator is out of memory. Nothing
-/// was sent.
+/// It cannot be opened, another program has it, its interface does not greet, there is no such bus,
+/// or the allocator is out of memory. Nothing was sent.
 pub fn opened<'a, S: Site>(
     alloc: Global,
     site: &S,
     at: ToolLine<'a>,
-) -> Result<S::Line, LiveStop<'a>> {
+) -> Result<S::Line, ToolStop<'a>> {
     let ToolLine { line, patience } = at;
     let Some(number) = BusNumber::new(line.bus) else {
-        return Err(unknown_bus(line.bus));
+        return Err(ToolStop::Line(unknown_bus(line.bus)));
     };
     match site.open(alloc, line, number, patience) {
         Ok(bus) => Ok(bus),
-        Err(SiteFault::Memory) => Err(LiveStop::Start(StartFault::Memory)),
-        Err(SiteFault::Busy) => Err(LiveStop::Busy(line)),
-        Err(SiteFault::Failed | SiteFault::Ended) => Err(LiveStop::NotOpened(line)),
+        Err(SiteFault::Memory) => Err(ToolStop::Line(LiveStop::Start(StartFault::Memory))),
+        Err(SiteFault::Failed | SiteFault::Ended) => Err(ToolStop::Unopened(UnopenedLine {
+            line,
+            why: site.why(alloc, line.bus),
+        })),
     }
 }
 
 /// There is no bus of this number.
-fn unknown_bus<'a>(bus: u8) -> LiveStop<'a> {
+fn unknown_bus(bus: u8) -> LiveStop {
     LiveStop::Lineup(LineupFault::Unknown { bus })
 }
 

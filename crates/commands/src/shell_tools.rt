@@ -291,6 +291,10 @@ fn ended<R: Print + Eprint>(rt: &R, end: ToolEnd) -> ExitStatus {
             Ok(()) => ExitStatus::of_stop(&stop),
             Err(error) => not_printed(rt, &error),
         },
+        Err(ToolStop::Unopened(unopened)) => {
+            let _told = eprintln!(rt; "{unopened}");
+            ExitStatus::Failed
+        }
         Err(ToolStop::Line(stop)) => {
             let _told = HostNotice { rt }.halts(&stop);
             status_of_live_stop(&stop)

@@ -16,7 +16,7 @@ use Rattle.plantlive.specs.declared.living.Lived.{Lived}
 use Rattle.plantlive.specs.Lives.{HasLived}
 use Rattle.livehouse.specs.declared.buildings.Building.{Building}
 use Rattle.livehouse.specs.declared.stops.LiveStop.{LiveStop}
-use Rattle.livehouse.specs.declared.stops.LiveStop.TheVariants.{Busy, Ended, Lineup, NoClock, NotOpened, Start}
+use Rattle.livehouse.specs.declared.stops.LiveStop.TheVariants.{Ended, Lineup, NoClock, Start}
 use Rattle.livehouse.specs.Lineups.{AreLinesOf, IsLineupFault}
 use Rattle.livehouse.specs.Sites.{AreNewBuses, AreReached, IsNewClock, IsPeriodFor, moment_of_end}
 
@@ -47,8 +47,6 @@ pub record IsOpened {B C : Type 0} (bus_log : B → BusLog) (clock_log : C → C
 -- memory. That a line is not there stands against no building.
 abbrev pub IsLiveStop : Loaded → List LineWord → LiveOptions → LiveStop → Type 0
 IsLiveStop setup words options (Lineup fault) = IsLineupFault setup.plan.buses words fault
-IsLiveStop setup words options (NotOpened word) = ⊥
-IsLiveStop setup words options (Busy word) = ⊥
 IsLiveStop setup words options NoClock = AreLinesOf setup.plan.buses words
 IsLiveStop setup words options Ended = AreLinesOf setup.plan.buses words × IsSome options.stop
 IsLiveStop setup words options (Start Memory) = ⊤

@@ -60,7 +60,7 @@ pub fn open<'a, S: Site>(
     lines: &[LineWord<'a>],
     options: &LiveOptions,
     begins: u64,
-) -> Result<Building<S::Line, S::Clock>, LiveStop<'a>>
+) -> Result<Building<S::Line, S::Clock>, LiveStop>
     ensures opened { IfOk result (IsOpened S.Line.log S.Clock.log (S.is_of site.now)
         (S.is_timed site.now) setup lines.now options.now begins) }
     ensures stop { IfErr result (IsLiveStop setup lines.now options.now) }
@@ -111,7 +111,7 @@ fn clock_of<S: Site>(
     options: &LiveOptions,
     begins: u64,
     watch: &Arc<DownWatch>,
-) -> Result<S::Clock, LiveStop<'static>>
+) -> Result<S::Clock, LiveStop>
     ensures new { IfOk result (λ clock. IsNewClock (S.Clock.log clock)) }
     ensures timed { IfOk result (λ clock. S.is_timed site.now clock (non_zero_u64_get period)
         begins (moment_of_end begins options.now.seconds) (option_map (λ path. path.now) options.now.stop)) }
@@ -126,7 +126,7 @@ fn clock_of<S: Site>(
     match site.clock(alloc, period, begins, end) {
         Ok(clock) => Ok(clock),
         Err(SiteFault::Memory) => Err(LiveStop::Start(StartFault::Memory)),
-        Err(SiteFault::Failed | SiteFault::Busy) => Err(LiveStop::NoClock),
+        Err(SiteFault::Failed) => Err(LiveStop::NoClock),
         Err(SiteFault::Ended) => Err(LiveStop::Ended),
     }
 }
@@ -198,7 +198,7 @@ impl<B: Bus + Send, C: Clock + Send> Building<B, C> {
         rt: &R,
         alloc: Global,
         gate: &G,
-    ) -> Result<Lived<B, C>, LiveStop<'static>>
+    ) -> Result<Lived<B, C>, LiveStop>
         ensures lived { IfOk result (HasLived self.setup self.size.workers self.size.limit
             self.buses.items self.clock B.log C.log) }
         ensures stop { IfErr result (IsNotLived self.setup self.size (length self.buses.items)) }

@@ -31,7 +31,7 @@ pub struct HostSite<'h, R: Files + Wait + Timer + Drop, D: Drop> {
     pub rt: &'h R,
     pub devices: &'h D,
     pub starter: &'h LineStarter<R, R::File, HostOpener<D>>,
-    /// Why lines are down, for the status.
+    /// Why lines are down, for the status, and for whoever is told that one is not opened.
     pub reasons: &'h Arc<DownReasons>,
 }
 
@@ -118,13 +118,15 @@ where
             thread::sleep(self.rt, Duration::from_millis(u64::from(LOOK)));
         }
         bus.begin();
-        if bus.is_in_step() {
-            Ok(bus)
-        } else if bus.why().is_busy() {
-            Err(SiteFault::Busy)
-        } else {
-            Err(SiteFault::Failed)
+        if !bus.is_in_step() {
+            self.reasons.note(self.rt, line.bus, bus.why());
+            return Err(SiteFault::Failed);
         }
+        Ok(bus)
+    }
+
+    fn why(&self, alloc: Global, bus: u8) -> Option<String> {
+        self.reasons.of(self.rt, alloc, bus)
     }
 
     fn clock<'a>(

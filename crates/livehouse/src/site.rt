@@ -15,8 +15,6 @@ pub enum SiteFault {
     Memory,
     /// It cannot be opened, or its interface does not greet.
     Failed,
-    /// Another program, or another bus, has the line.
-    Busy,
     /// The end of the clock has come already.
     Ended,
 }
@@ -72,6 +70,12 @@ pub trait Site {
 
     /// Waits until each of these lines has greeted or failed, a second at most.
     fn settle(&self, lines: &[Self::Line]);
+
+    /// Why the line of this bus was not opened, or is down, as it was found last, where that is
+    /// known.
+    fn why(&self, _alloc: Global, _bus: u8) -> Option<String> {
+        None
+    }
 
     /// Opens the line of a bus and greets the interface at its other end. Nothing was sent or heard
     /// on the bus. The interface may be silent for the given number of milliseconds, and so long it

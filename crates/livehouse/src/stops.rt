@@ -1,20 +1,15 @@
 //! Why a building does not run.
 
 use crate::lineup::LineupFault;
-use commandoptions::LineWord;
 use plant::StartFault;
 use std::alloc::AllocError;
 use std::fmt;
 
 /// Why a building does not run. Nothing was sent on any bus.
 #[derive(Clone, Copy)]
-pub enum LiveStop<'a> {
+pub enum LiveStop {
     /// The words of `--line` are not the lines of the binding's buses.
     Lineup(LineupFault),
-    /// This line is not opened, or its interface does not greet.
-    NotOpened(LineWord<'a>),
-    /// Another program has this line.
-    Busy(LineWord<'a>),
     /// The machine's clock cannot be read.
     NoClock,
     /// There is a file at the path that ends the building, before its first moment.
@@ -23,15 +18,10 @@ pub enum LiveStop<'a> {
     Start(StartFault),
 }
 
-impl fmt::Display for LiveStop<'_> {
+impl fmt::Display for LiveStop {
     fn fmt<W: fmt::Write>(&self, f: &mut fmt::Formatter<W>) -> fmt::Result {
         match self {
             LiveStop::Lineup(fault) => write!(f, "error: {fault}"),
-            LiveStop::NotOpened(line) => write_unopened(f, line),
-            LiveStop::Busy(line) => {
-                write_unopened(f, line)?;
-                f.write_str(": busy")
-            }
             LiveStop::NoClock => write!(f, "cannot read the clock"),
             LiveStop::Ended => write!(f, "the file of --stop is there: nothing begins"),
             LiveStop::Start(fault) => write!(f, "{fault}"),
@@ -39,15 +29,7 @@ impl fmt::Display for LiveStop<'_> {
     }
 }
 
-/// Says of a line that it is not opened.
-fn write_unopened<W: fmt::Write>(f: &mut fmt::Formatter<W>, line: &LineWord) -> fmt::Result {
-    match line.to {
-        Some(to) => write!(f, "cannot open {},{to}", line.from),
-        None => write!(f, "cannot open {}", line.from),
-    }
-}
-
-impl From<AllocError> for LiveStop<'_> {
+impl From<AllocError> for LiveStop {
     ghost use Rattle.std.specs.Prelude.{◌≡◌};
     ghost use Rattle.plant.specs.declared.start_fault.StartFault.TheVariants.{Memory};
     ghost use Rattle.livehouse.specs.declared.stops.LiveStop.TheVariants.{Start};

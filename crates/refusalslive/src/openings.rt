@@ -21,7 +21,7 @@ pub fn bus_1_has_the_line_that_names_it<'a, S: Site>(
     setup: Setup,
     lines: &[LineWord<'a>],
     options: &LiveOptions,
-) -> Result<Building<S::Line, S::Clock>, LiveStop<'a>>
+) -> Result<Building<S::Line, S::Clock>, LiveStop>
     ghost line: { Line }
     requires line { All (λ word. word.bus ≡ 1 → word ≡ line) lines.now }
     requires patience { options.now.patience ≡ 700 }
@@ -38,7 +38,7 @@ pub fn second_bus_has_number_1<'a, S: Site>(
     setup: Setup,
     lines: &[LineWord<'a>],
     options: &LiveOptions,
-) -> Result<Building<S::Line, S::Clock>, LiveStop<'a>>
+) -> Result<Building<S::Line, S::Clock>, LiveStop>
     ensures { IfOk result (λ building.
         IfSome (slice_get building.buses.items 1) (λ bus. (S.Line.log bus).number ≡ 1)) }
 {
@@ -54,7 +54,7 @@ pub fn clock_has_the_period_and_the_end_that_are_asked_for<'a, S: Site>(
     setup: Setup,
     lines: &[LineWord<'a>],
     options: &LiveOptions,
-) -> Result<Building<S::Line, S::Clock>, LiveStop<'a>>
+) -> Result<Building<S::Line, S::Clock>, LiveStop>
     requires period { options.now.period ≡ Some 20 }
     requires seconds { options.now.seconds ≡ Some 5 }
     requires stop { option_map (λ path. path.now) options.now.stop ≡ Some (codes "stop") }
@@ -72,7 +72,7 @@ pub fn building_stays_where_no_end_is_asked_for<'a, S: Site>(
     setup: Setup,
     lines: &[LineWord<'a>],
     options: &LiveOptions,
-) -> Result<Building<S::Line, S::Clock>, LiveStop<'a>>
+) -> Result<Building<S::Line, S::Clock>, LiveStop>
     requires { options.now.ends_on_down ≡ false }
     ensures { IfOk result (λ building. (arc_value building.watch).ends ≡ false) }
 {
@@ -86,7 +86,7 @@ pub fn line_of_no_bus_is_refused<'a, S: Site>(
     setup: Setup,
     lines: &[LineWord<'a>],
     options: &LiveOptions,
-) -> Result<Building<S::Line, S::Clock>, LiveStop<'a>>
+) -> Result<Building<S::Line, S::Clock>, LiveStop>
     ghost line: { Line }
     requires buses { setup.plan.buses ≡ 2 }
     requires line { Contains lines.now line }
@@ -103,7 +103,7 @@ pub fn bus_without_a_line_is_refused<'a, S: Site>(
     setup: Setup,
     lines: &[LineWord<'a>],
     options: &LiveOptions,
-) -> Result<Building<S::Line, S::Clock>, LiveStop<'a>>
+) -> Result<Building<S::Line, S::Clock>, LiveStop>
     requires buses { 0 < setup.plan.buses }
     requires line { HasNoLine 0 lines.now }
     ensures { OnOk result ⊥ }
