@@ -209,68 +209,78 @@ impl Teller for Telling {
     }
 }
 
-/// The opener of lines on this machine's threads.
-type HostDesks = Desks<HostRuntime>;
-
 /// A line, and what became of it.
-type Line = MendedLine<HostRuntime, Desk<HostRuntime>, Telling, HostDesks>;
+type Line<R> = MendedLine<R, Desk<R>, Telling, Desks<R>>;
 
-/// The line of an interface that behaves so and answers with this digit.
-fn line_of(
+/// Where lines are opened.
+#[derive(Drop)]
+struct Room<R: Wait + Clock + Clone + Drop> {
+    rt: R,
     alloc: Global,
-    rt: &HostRuntime,
-    starter: &LineStarter<HostRuntime, Desk<HostRuntime>, HostDesks>,
-    behaviour: Behaviour,
-    mark: u8,
-) -> Result<(Line, Arc<Story>), AllocError> {
-    let story = Arc::new(
-        alloc,
-        Story {
-            openings: AtomicU64::new(0),
-            downs: AtomicU64::new(0),
-            ups: AtomicU64::new(0),
-            greetings: Mutex::new(Vec::new(alloc)),
-        },
-    )?;
-    let opener = Desks {
-        rt: rt.clone()?,
-        alloc,
-        mark,
-        behaviour,
-        story: story.clone()?,
-    };
-    let teller = Telling {
-        story: story.clone()?,
-    };
-    let number = BusNumber::default();
-    let theirs = rt.clone()?;
-    let mut line = MendedLine::start(alloc, theirs, opener, teller, number, PATIENCE, starter)?;
-    for _ in 0..BACK {
-        if line.is_settled() {
-            break;
-        }
-        thread::sleep(rt, Duration::from_millis(1));
-    }
-    line.begin();
-    line.room(8)?;
-    Ok((line, story))
+    starter: LineStarter<R, Desk<R>, Desks<R>>,
 }
 
-/// Whether the line is taken up again in time, where no question takes long.
-fn comes_back(rt: &HostRuntime, line: &mut Line) -> io::Result<bool> {
-    for _ in 0..BACK {
-        let began = Instant::now(rt)?;
-        let is_mended = line.mend();
-        if began.elapsed(rt)? > Duration::from_millis(100) {
-            return Ok(false);
+impl<R: Wait + Clock + Clone + Drop> Room<R> {
+    /// The line of an interface that behaves so and answers with this digit.
+    fn line(&self, behaviour: Behaviour, mark: u8) -> Result<(Line<R>, Arc<Story>), AllocError> {
+        let story = Arc::new(
+            self.alloc,
+            Story {
+                openings: AtomicU64::new(0),
+                downs: AtomicU64::new(0),
+                ups: AtomicU64::new(0),
+                greetings: Mutex::new(Vec::new(self.alloc)),
+            },
+        )?;
+        let opener = Desks {
+            rt: self.rt.clone()?,
+            alloc: self.alloc,
+            mark,
+            behaviour,
+            story: story.clone()?,
+        };
+        let teller = Telling {
+            story: story.clone()?,
+        };
+        let number = BusNumber::default();
+        let mut line = MendedLine::start(
+            self.alloc,
+            self.rt.clone()?,
+            opener,
+            teller,
+            number,
+            PATIENCE,
+            &self.starter,
+        )?;
+        for _ in 0..BACK {
+            if line.is_settled() {
+                break;
+            }
+            thread::sleep(&self.rt, Duration::from_millis(1));
         }
-        if is_mended {
-            line.resume();
-            return Ok(true);
-        }
-        thread::sleep(rt, Duration::from_millis(1));
+        line.begin();
+        line.room(8)?;
+        Ok((line, story))
     }
-    Ok(false)
+
+    /// Whether the line is taken up again in time, where no question takes long. A transaction may
+    /// begin then.
+    fn comes_back(&self, line: &mut Line<R>) -> io::Result<bool> {
+        for _ in 0..BACK {
+            let began = Instant::now(&self.rt)?;
+            let is_mended = line.mend();
+            if began.elapsed(&self.rt)? > Duration::from_millis(100) {
+                return Ok(false);
+            }
+            if is_mended {
+                line.resume();
+                line.room(8)?;
+                return Ok(true);
+            }
+            thread::sleep(&self.rt, Duration::from_millis(1));
+        }
+        Ok(false)
+    }
 }
 
 /// A level.
@@ -281,8 +291,10 @@ fn level() -> Frame {
 #[test]
 fn each_line_has_its_own_interface(rt: HostRuntime) -> Result<(), Fail> {
     let starter = LineStarter::start(rt.alloc(), rt)?;
-    let (mut first, _) = line_of(rt.alloc(), &rt, &starter, Behaviour::Answers, b'1')?;
-    let (mut later, story) = line_of(rt.alloc(), &rt, &starter, Behaviour::OpensLater, b'2')?;
+    let alloc = rt.alloc();
+    let room = Room { rt, alloc, starter };
+    let (mut first, _) = room.line(Behaviour::Answers, b'1')?;
+    let (mut later, story) = room.line(Behaviour::OpensLater, b'2')?;
     assert!(rt; first.is_in_step() && !later.is_in_step());
     assert!(rt; matches!(later.why(), Reason::RegularFile));
     assert!(rt; matches!(first.hear(), Ok(Some(frame)) if Some(frame) == Frame24::new(1)));
@@ -290,7 +302,7 @@ fn each_line_has_its_own_interface(rt: HostRuntime) -> Result<(), Fail> {
     assert!(rt; matches!(first.send(level(), 2), Ok(Reply::Answer(1))));
     assert!(rt; later.send(level(), 2).is_err() && !later.rest());
     assert!(rt; story.downs.load(Ordering::SeqCst) == 1);
-    assert!(rt; comes_back(&rt, &mut later)?);
+    assert!(rt; room.comes_back(&mut later)?);
     assert!(rt; story.ups.load(Ordering::SeqCst) == 1);
     assert!(rt; matches!(later.send(level(), 2), Ok(Reply::Answer(2))));
     assert!(rt; matches!(later.hear(), Ok(Some(frame)) if Some(frame) == Frame24::new(2)));
@@ -300,11 +312,13 @@ fn each_line_has_its_own_interface(rt: HostRuntime) -> Result<(), Fail> {
 #[test]
 fn a_line_that_breaks_off_is_greeted_anew(rt: HostRuntime) -> Result<(), Fail> {
     let starter = LineStarter::start(rt.alloc(), rt)?;
-    let (mut line, story) = line_of(rt.alloc(), &rt, &starter, Behaviour::BreaksOff, b'3')?;
+    let alloc = rt.alloc();
+    let room = Room { rt, alloc, starter };
+    let (mut line, story) = room.line(Behaviour::BreaksOff, b'3')?;
     assert!(rt; matches!(line.send(level(), 2), Ok(Reply::Answer(3))));
     assert!(rt; line.send(level(), 2).is_err() && matches!(line.why(), Reason::Closed));
     assert!(rt; story.downs.load(Ordering::SeqCst) == 1);
-    assert!(rt; comes_back(&rt, &mut line)?);
+    assert!(rt; room.comes_back(&mut line)?);
     assert!(rt; matches!(line.send(level(), 2), Ok(Reply::Answer(3))));
     assert!(rt; story.openings.load(Ordering::SeqCst) == 2);
     let greetings = story.greetings.lock(&rt);
@@ -317,7 +331,9 @@ fn a_line_that_breaks_off_is_greeted_anew(rt: HostRuntime) -> Result<(), Fail> {
 #[test]
 fn an_interface_that_answers_no_frame_is_silent(rt: HostRuntime) -> Result<(), Fail> {
     let starter = LineStarter::start(rt.alloc(), rt)?;
-    let (mut line, story) = line_of(rt.alloc(), &rt, &starter, Behaviour::IsMute, b'4')?;
+    let alloc = rt.alloc();
+    let room = Room { rt, alloc, starter };
+    let (mut line, story) = room.line(Behaviour::IsMute, b'4')?;
     let began = Instant::now(&rt)?;
     assert!(rt; line.send(level(), 2).is_err());
     let waited = began.elapsed(&rt)?;
