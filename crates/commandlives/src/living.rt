@@ -29,14 +29,14 @@ use std::time::Clock as Timer;
 
 /// The first of what stands against running a building, in the order in which it is reported.
 #[derive(Drop)]
-pub enum Halted<'a> {
+pub enum Halted {
     /// Of the binding or the text, or that the allocator is out of memory.
     Text(Stop),
     /// Of the lines, the clock or the plant.
     Building(LiveStop),
 }
 
-impl From<Stop> for Halted<'_> {
+impl From<Stop> for Halted {
     ghost use Rattle.std.specs.Prelude.{◌≡◌};
     ghost use Rattle.commandlives.specs.declared.living.Halted.TheVariants.{Text};
 
@@ -47,7 +47,7 @@ impl From<Stop> for Halted<'_> {
     }
 }
 
-impl From<LiveStop> for Halted<'_> {
+impl From<LiveStop> for Halted {
     ghost use Rattle.std.specs.Prelude.{◌≡◌};
     ghost use Rattle.commandlives.specs.declared.living.Halted.TheVariants.{Building};
 
@@ -59,7 +59,7 @@ impl From<LiveStop> for Halted<'_> {
 }
 
 /// What a building came to: what it left, or what stands against running it.
-pub type LiveEnd<'a, B, C> = Result<LiveLeft<B, C>, Halted<'a>>;
+pub type LiveEnd<B, C> = Result<LiveLeft<B, C>, Halted>;
 
 /// Who is told what is about to run, and why a building does not run. Whether it can be told
 /// changes nothing.
@@ -130,7 +130,7 @@ pub fn serve_live<
     files: LiveFiles<'a>,
     lines: &[LineWord<'a>],
     options: &LiveOptions<'a>,
-) -> Result<(W, LiveEnd<'a, S::Line, S::Clock>), Unserved<'a>>
+) -> Result<(W, LiveEnd<S::Line, S::Clock>), Unserved<'a>>
     ensures live { IfOk result (λ done. IsLiveServed (D.gives disk.now) (D.fails disk.now)
         (N.is_told grounds.now.notice.now) S.Line.log S.Clock.log (S.is_of grounds.now.site.now)
         (S.is_timed grounds.now.site.now) files.entry lines.now options.now done.1) }
@@ -197,7 +197,7 @@ fn print<
     pages: &LivePages,
     lines: &[LineWord<'a>],
     options: &LiveOptions<'a>,
-) -> io::Result<(W, LiveEnd<'a, S::Line, S::Clock>)>
+) -> io::Result<(W, LiveEnd<S::Line, S::Clock>)>
     ensures end { IfOk result (λ done. IsLiveEnd pages.now.binding pages.now.text pages.now.file
         S.Line.log S.Clock.log (S.is_of grounds.now.site.now) (S.is_timed grounds.now.site.now)
         lines.now options.now done.1) }
@@ -251,7 +251,7 @@ fn live_on<'a, S: Site + Storage + Sync, N: Notice, R: Threads + Wait + Timer + 
     pages: &LivePages,
     lines: &[LineWord<'a>],
     options: &LiveOptions<'a>,
-) -> LiveEnd<'a, S::Line, S::Clock>
+) -> LiveEnd<S::Line, S::Clock>
     ensures lived { IfOk result (λ left. IsLivedOut pages.now.binding pages.now.text
         pages.now.file S.Line.log S.Clock.log (S.is_of grounds.now.site.now)
         (S.is_timed grounds.now.site.now) lines.now options.now left.lived) }
@@ -285,7 +285,7 @@ fn live_with<'a, S: Site, N: Notice, G: Gate, R: Threads + Wait + Timer + Sync>(
     begun: Beginning,
     lines: &[LineWord<'a>],
     options: &LiveOptions<'a>,
-) -> LiveEnd<'a, S::Line, S::Clock>
+) -> LiveEnd<S::Line, S::Clock>
     ensures lived { IfOk result (λ left. (binding text : List ℕ) (file : Option (List ℕ))
         → HasBegun binding text file begun
         → IsLivedOut binding text file S.Line.log S.Clock.log (S.is_of grounds.now.site.now)
@@ -338,7 +338,7 @@ fn observer_of<'o, 'a, S: Storage, R: Wait>(
     storage: &'o S,
     pages: &'o LivePages,
     options: &LiveOptions<'a>,
-) -> Result<BuildingObserver<'o, 'a, S, R>, Halted<'a>>
+) -> Result<BuildingObserver<'o, 'a, S, R>, Halted>
     ensures { IfErr result (IsUnobserved pages.now.binding pages.now.text) }
 {
     let begun = begun_of(alloc, pages)?;
