@@ -243,7 +243,7 @@ impl<R: Wait + Clock + Clone + Drop> Room<R> {
             story: story.clone()?,
         };
         let number = BusNumber::default();
-        let mut line = MendedLine::start(
+        let line = MendedLine::start(
             self.alloc,
             self.rt.clone()?,
             opener,
@@ -252,6 +252,11 @@ impl<R: Wait + Clock + Clone + Drop> Room<R> {
             PATIENCE,
             &self.starter,
         )?;
+        Ok((line, story))
+    }
+
+    /// Waits until the first try is over, and lets a transaction begin.
+    fn settle(&self, line: &mut Line<R>) -> Result<(), AllocError> {
         for _ in 0..BACK {
             if line.is_settled() {
                 break;
@@ -259,8 +264,7 @@ impl<R: Wait + Clock + Clone + Drop> Room<R> {
             thread::sleep(&self.rt, Duration::from_millis(1));
         }
         line.begin();
-        line.room(8)?;
-        Ok((line, story))
+        line.room(8)
     }
 
     /// Whether the line is taken up again in time, where no question takes long. A transaction may
@@ -295,6 +299,8 @@ fn each_line_has_its_own_interface(rt: HostRuntime) -> Result<(), Fail> {
     let room = Room { rt, alloc, starter };
     let (mut first, _) = room.line(Behaviour::Answers, b'1')?;
     let (mut later, story) = room.line(Behaviour::OpensLater, b'2')?;
+    room.settle(&mut first)?;
+    room.settle(&mut later)?;
     assert!(rt; first.is_in_step() && !later.is_in_step());
     assert!(rt; matches!(later.why(), Reason::RegularFile));
     assert!(rt; matches!(first.hear(), Ok(Some(frame)) if Some(frame) == Frame24::new(1)));
@@ -315,6 +321,7 @@ fn a_line_that_breaks_off_is_greeted_anew(rt: HostRuntime) -> Result<(), Fail> {
     let alloc = rt.alloc();
     let room = Room { rt, alloc, starter };
     let (mut line, story) = room.line(Behaviour::BreaksOff, b'3')?;
+    room.settle(&mut line)?;
     assert!(rt; matches!(line.send(level(), 2), Ok(Reply::Answer(3))));
     assert!(rt; line.send(level(), 2).is_err() && matches!(line.why(), Reason::Closed));
     assert!(rt; story.downs.load(Ordering::SeqCst) == 1);
@@ -334,6 +341,7 @@ fn an_interface_that_answers_no_frame_is_silent(rt: HostRuntime) -> Result<(), F
     let alloc = rt.alloc();
     let room = Room { rt, alloc, starter };
     let (mut line, story) = room.line(Behaviour::IsMute, b'4')?;
+    room.settle(&mut line)?;
     let began = Instant::now(&rt)?;
     assert!(rt; line.send(level(), 2).is_err());
     let waited = began.elapsed(&rt)?;

@@ -111,9 +111,9 @@ answer_long : (version number : ℕ)
 answer_long version number =
     omega (
       arith,
-      length-append (codes "gushewa ") (decimal version ++ codes " hears " ++ decimal number),
-      length-append (decimal version) (codes " hears " ++ decimal number),
-      length-append (codes " hears ") (decimal number),
+      length-append (codes "gushewa " ++ decimal version ++ codes " hears ") (decimal number),
+      length-append (codes "gushewa " ++ decimal version) (codes " hears "),
+      length-append (codes "gushewa ") (decimal version),
     )
 
 asked_leaves : (version number : ℕ) (line text : List ℕ) (old new : Ends) → old.unread ≡ Some text
