@@ -19,6 +19,8 @@ from typing import IO, Any, Optional, Set
 MOST_BYTES = 64
 CLOSED = -1
 UNREAD_SECONDS = 1.0
+# The bytes of 64 events, less a few: so many lines a controller passes over.
+PASSED_OVER = 800
 ENDING = (signal.SIGTERM, signal.SIGINT, signal.SIGHUP)
 
 
@@ -41,6 +43,9 @@ class End(abc.ABC):
     @abc.abstractmethod
     def has_room(self) -> bool:
         """Whether a line would be taken at once."""
+
+    def begin_anew(self) -> None:
+        """A numbered greeting came: what was said before it need not be read any more."""
 
     @abc.abstractmethod
     def plug(self) -> None:
@@ -93,9 +98,6 @@ class PtyEnd(End):
 
     def plug(self) -> None:
         self.left, self.version = b"", 0
-        # How many bytes were written in all, and were up to the last look; how many were unread then; whether nobody reads.
-        self.written = self.looked = self.unread = 0
-        self.is_away = False
         THERE.add(self)
         self.ours, self.theirs = pty.openpty()
         tty.setraw(self.theirs)  # no echo, no translation; kept open, so that it stays so
@@ -125,24 +127,24 @@ class PtyEnd(End):
 
     def read(self) -> bytes:
         while not select.select([self.ours], [], [], UNREAD_SECONDS)[0]:
-            if self.drops_unread():
-                # What was not read by now was for a controller that has ended.
-                termios.tcflush(self.theirs, termios.TCIFLUSH)
-        self.is_away = False
+            if self.version < 2:
+                # A controller of version 1 would take it for the answer to its greeting.
+                self.drop_unread()
         return os.read(self.ours, 256)
 
-    def drops_unread(self) -> bool:
-        """Whether what the controller left unread is dropped now.
+    def drop_unread(self) -> None:
+        """Drops what was for a controller that has ended, and was not read."""
+        termios.tcflush(self.theirs, termios.TCIFLUSH)
 
-        One of version 1 would take it for the answer to its greeting. One of version 2 passes over it: it is one answer
-        at most. In version 3 events are said whether or not a controller is there, and more of them might wait than a
-        controller passes over: they are dropped where what waited at the last look was not read since.
+    def begin_anew(self) -> None:
+        """Drops what was not read, where that is more than a controller passes over, as in version 3 it may be.
+
+        A line of which the controller has read a part ends here, so that the answer is a line of its own. A controller
+        that was faster passes over too few lines, and greets again.
         """
-        written, unread = self.written, self.count_unread()
-        is_unmoved = unread == self.unread + written - self.looked
-        self.is_away = is_unmoved and (self.unread > 0 or self.is_away)
-        self.looked, self.unread = written, 0 if self.is_away else unread
-        return self.version < 2 or self.version == 3 and self.is_away
+        if self.count_unread() > PASSED_OVER:
+            self.drop_unread()
+            self.write(b"\n")
 
     def count_unread(self) -> int:
         """How many bytes the controller did not read yet."""
@@ -152,7 +154,6 @@ class PtyEnd(End):
         return self.ours != CLOSED and bool(select.select([], [self.ours], [], 0)[1])
 
     def write(self, data: bytes) -> None:
-        self.written += len(data)
         while data:
             data = data[os.write(self.ours, data) :]
 

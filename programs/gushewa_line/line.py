@@ -230,6 +230,8 @@ class Interface:
             except Fault:
                 return FAULT
             self.end.version = version_of(greeted)
+            if self.end.version > 1:
+                self.end.begin_anew()
             return greeted
 
     def answer(self, request: str) -> str:
