@@ -190,6 +190,8 @@ struct Telling {
 }
 
 impl Teller for Telling {
+    ghost use Rattle.std.specs.Prelude.{◌≡◌, false};
+
     ghost answers = { λ _ answer. answer ≡ false };
 
     fn note_reason(&self, _reason: &Reason) {}
