@@ -3,8 +3,8 @@
 //! Nothing crosses the boundary. The tests stand on public items of the crates alone: worked frames
 //! of the standard (`frames`), transactions on a fake bus and in a box (`links`), simulated gear
 //! that no scenario shows (`gear`), buses behind a line over memory (`lines`), writers that take
-//! their time (`writers`), lines that are opened anew (`mending`), and the clock of a building over
-//! a fake timer (`timers`). `rt test` runs them.
+//! their time (`writers`), and the clock of a building over a fake timer (`timers`). `rt test` runs
+//! them.
 #![tactic(auto)]
 
 #[cfg(test)]
@@ -15,8 +15,6 @@ mod gear;
 mod lines;
 #[cfg(test)]
 mod links;
-#[cfg(test)]
-mod mending;
 #[cfg(test)]
 mod timers;
 #[cfg(test)]
